@@ -1,10 +1,13 @@
-"""`live` with a record and snapshots, killed at each call in turn, or with a write that fails: a restart continues with both.
+"""`live` with a record and snapshots, killed at each call in turn, by SIGTERM, or with a write that fails: a restart continues with both.
 
 RUNS has a function for each run, named for what it shows; it is given the program, and yields what differs.
 """
+import signal
+import time
+
 from calls import failing_in_turn, shim
 from common import differs, split
-from living import ENDED, Feed, day_of, folder_with, live, plays, snapshot_after
+from living import ENDED, Feed, day_of, feeding, fetch, folder_with, live, number_of, plays, snapshot_after
 
 EVERY = 20
 
@@ -55,4 +58,22 @@ def the_record_has_what_each_snapshot_has(program):
         yield from failing_in_turn(Keeping(program, library).attempt, ["write"])
 
 
-RUNS = [the_record_has_what_each_snapshot_has]
+def sigterm_loses_nothing_that_a_client_was_sent(program):
+    """The record has each message of the snapshot that was fetched before, and a restart goes on with it to the whole day."""
+    day, _ = day_of(2000)
+    blocks = split(day)
+    with folder_with(day=day) as folder, feeding(program, folder / "day", "--rate", "4000") as feed:
+        for nth in range(1, 9):
+            with live(program, feed.port, "--record", folder / "record") as server:
+                time.sleep(0.02 * nth)
+                status, snapshot, _ = fetch(program, server.port)
+                server.process.terminate()
+                yield from differs(f"{nth}", (status, server.ended()[0]), (0, -signal.SIGTERM))
+            record = (folder / "record").read_bytes()
+            if not day.startswith(record) or len(record) < len(b"".join(blocks[:number_of(snapshot) - 1])):
+                yield f"{nth}: a record of {len(record)} bytes, after a snapshot up to {number_of(snapshot)}"
+        with live(program, feed.port, "--record", folder / "record") as server:
+            yield from differs("in the end", (server.ended()[0], (folder / "record").read_bytes() == day), (0, True))
+
+
+RUNS = [the_record_has_what_each_snapshot_has, sigterm_loses_nothing_that_a_client_was_sent]

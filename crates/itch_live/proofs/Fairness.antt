@@ -37,17 +37,17 @@ shot_of None false w (inl some) = absurd (cc)
 shot_of None false w (inr few) = absurd (cc)
 
 module _ {W : Type 0} (contents : W → Option (List ℕ)) (failures : W → Failures) where
-  pub answered_now : (config : ServerConfig) (begun : Following) (past : List (Event W)) (at : Event W) (d : Desk) (limit now count k : ℕ) (j : Position) (g : Guest)
-      → History contents failures config begun (at ∷ past) d → at.call ≡ Answers limit now count → length at.before.seats ≤ count → at.before.following.joining.state.joined ≡ Some j
+  pub answered_now : (begun : Following) (past : List (Event W)) (at : Event W) (d : Desk) (limit now count k : ℕ) (j : Position) (g : Guest)
+      → History contents failures begun (at ∷ past) d → at.call ≡ Answers limit now count → length at.before.seats ≤ count → at.before.following.joining.state.joined ≡ Some j
       → HasRoom limit at.before j → guest_at at.before.seats k ≡ Some g → is_waiting g ≡ true → guest_at d.seats k ≡ Some (guests.answered g (session_bytes j.market j.next) j.next now)
-  answered_now config begun past at d limit now count k j g (took, before) call all there room here waits =
+  answered_now begun past at d limit now count k j g (took, before) call all there room here waits =
       let e : Desk = at.before in
       let step : d ≡ answered e limit count now = subst (λ c. Step contents failures e c d) call took in
       let inside : k < length e.seats = within e.seats k g here in
       let first : nat_lt k count ≡ true = is_first k count (omega (arith, inside, all)) in
       let shot = shot_of (kept_bytes e.seats j.next) (has_room limit e.seats j.market) (session_bytes j.market j.next) room in
       let right : shot.0 ≡ session_bytes j.market j.next =
-      right_shot limit e.seats j shot.0 (subst (λ o. AreFitting o e.seats) there (all_fit contents failures config begun past e before)) shot.1 in
+      right_shot limit e.seats j shot.0 (subst (λ o. AreFitting o e.seats) there (all_fit contents failures begun past e before)) shot.1 in
       ap (λ (x : Desk). guest_at x.seats k) step
       ∙ ap (λ o. guest_at (answered_with o e limit count now).seats k) there
       ∙ ap (λ s. guest_at (with_shot s e j.next count now).seats k) shot.1

@@ -8,7 +8,6 @@ use Rattle.itch_market.specs.Wanted.{Wanted, has}
 use Rattle.itch_join.specs.Positions.{Position}
 use Rattle.itch_join.specs.Rules.{Rules, rules_of, run}
 use Rattle.itch_snapshot.proofs.OneSnapshot.{snap_same}
-use Rattle.itch_soup.specs.declared.login.ServerConfig.{ServerConfig}
 use Rattle.itch_live.specs.Guests.{Guest, session_bytes}
 use Rattle.itch_live.specs.Seats.{guest_at}
 use Rattle.itch_live.specs.Follows.{Following}
@@ -16,7 +15,7 @@ use Rattle.itch_live.specs.Feeds.{Followed, IsJoining}
 use Rattle.itch_live.specs.Stories as stories
 use Rattle.itch_live.specs.Stories.{Happening, Story, IsAnswer, IsTold, IsSentRight}
 use Rattle.itch_live.specs.Desks.{Desk, shot_for, with_shot, answered_with, Call, Feeds, Admits, Hears, Answers, Takes, Ticks, Leaves, Event, Step, History, sent_at, changes, Stays}
-use Rattle.itch_live.specs.Visits.{Visit, with, answers, visit_by, visit_at, IsVisit}
+use Rattle.itch_live.specs.Visits.{Arrival, Visit, with, answers, visit_by, visit_at, IsVisit}
 use Rattle.itch_live.specs.FeedDesks.{fed_by, fed, IsHonestCall, AreHonest, IsFeedAnswer, IsToldOfFeed, IsSentOfFeed}
 use Rattle.itch_live.proofs.Feeds.{joining, stands_joined, positive_next}
 use Rattle.itch_live.proofs.Same.{same_bytes}
@@ -28,7 +27,7 @@ abbrev pub IsAnswers : Happening → Type 0
 IsAnswers (stories.Answers m next now) = Unit {0}
 IsAnswers other = ⊥
 
-abbrev pub begun_of : Visit → Option Visit → ℕ
+abbrev pub begun_of : Visit → Option Visit → Arrival
 begun_of u None = u.begun
 begun_of u (Some v) = v.begun
 
@@ -62,7 +61,7 @@ number_or i (stories.Answers m next now) = next
 number_or i other = i
 
 -- the call by which the market was handed to the client of a visit
-pub record Origin {W : Type 0} (k : ℕ) (past : List (Event W)) (begun : ℕ) (m : Content) (next : ℕ) (seen : List Happening) : Type 0 where
+pub record Origin {W : Type 0} (k : ℕ) (past : List (Event W)) (begun : Arrival) (m : Content) (next : ℕ) (seen : List Happening) : Type 0 where
   pub later : List (Event W)
   pub at : Event W
   pub before : List (Event W)
@@ -79,7 +78,7 @@ pub record Origin {W : Type 0} (k : ℕ) (past : List (Event W)) (begun : ℕ) (
   pub stayed : Stays k later
 
 module _ {W : Type 0} (k : ℕ) where
-  push : (x : Event W) (past : List (Event W)) (begun : ℕ) (m : Content) (next : ℕ) (seen : List Happening) → changes k x.call ≡ false → Origin k past begun m next seen
+  push : (x : Event W) (past : List (Event W)) (begun : Arrival) (m : Content) (next : ℕ) (seen : List Happening) → changes k x.call ≡ false → Origin k past begun m next seen
       → Origin k (x ∷ past) begun m next seen
   push x past begun m next seen stays o = record {
     later = x ∷ o.later;
@@ -99,7 +98,7 @@ module _ {W : Type 0} (k : ℕ) where
   }
 
   -- one happening more, which is not what is (stories.Answers m next now)
-  onward : (x : Event W) (past : List (Event W)) (h a : Happening) (seen later : List Happening) (v : Visit) (o : Option Visit) (T : ℕ → Type 0) → (IsAnswers h → ⊥) → IsAnswers a
+  onward : (x : Event W) (past : List (Event W)) (h a : Happening) (seen later : List Happening) (v : Visit) (o : Option Visit) (T : Arrival → Type 0) → (IsAnswers h → ⊥) → IsAnswers a
       → ((u : Visit) → o ≡ Some u → (later : List Happening) → u.past ≡ later ++ a ∷ seen → T u.begun)
       → with h o ≡ Some v → v.past ≡ later ++ a ∷ seen → T v.begun
   onward x past h a seen later v None T other is so_far sees there = absurd (subst IsSeen (sym sees) tt)
@@ -111,7 +110,7 @@ module _ {W : Type 0} (k : ℕ) where
       subst T (ap (begun_of v) sees) (so_far u refl later (ap rest_of both))
 
   module _ (m : Content) (next now : ℕ) (seen : List Happening) where
-    abbrev Came : List (Event W) → ℕ → Type 0
+    abbrev Came : List (Event W) → Arrival → Type 0
     Came past begun = Origin k past begun m next seen
 
     -- the answer itself
@@ -160,7 +159,7 @@ module _ {W : Type 0} (k : ℕ) where
       at_place true h stays not sees = other h stays not sees
       at_place false h stays not sees = on (visit_at k past) stays refl sees
 
-      came : (b : Bool) (begun : ℕ) → changes k x.call ≡ b → (if b then Some (record { begun = begun; past = [] }) else visit_at k past) ≡ Some v → Came (x ∷ past) v.begun
+      came : (b : Bool) (begun : Arrival) → changes k x.call ≡ b → (if b then Some (record { begun = begun; past = [] }) else visit_at k past) ≡ Some v → Came (x ∷ past) v.begun
       came true begun at sees = absurd (not_end (stories.Answers m next now) seen later (ap (past_of v) sees ∙ place))
       came false begun at sees = on (visit_at k past) at refl sees
 
@@ -183,9 +182,9 @@ module _ {W : Type 0} (k : ℕ) where
 
       cases : (call : Call W) → x.call ≡ call → visit_by call x.before k (visit_at k past) ≡ Some v → Came (x ∷ past) v.begun
       cases (Feeds did) is sees = on (visit_at k past) (quiet is refl) refl sees
-      cases (Admits at (Ok (Some place))) is sees = came (place == k) at (quiet is refl) sees
-      cases (Admits at (Ok None)) is sees = on (visit_at k past) (quiet is refl) refl sees
-      cases (Admits at (Err error)) is sees = on (visit_at k past) (quiet is refl) refl sees
+      cases (Admits config at (Ok (Some place))) is sees = came (place == k) (record { config = config; now = at }) (quiet is refl) sees
+      cases (Admits config at (Ok None)) is sees = on (visit_at k past) (quiet is refl) refl sees
+      cases (Admits config at (Err error)) is sees = on (visit_at k past) (quiet is refl) refl sees
       cases (Hears place piece at count) is sees = at_place (place == k) (stories.Hears piece at count) (quiet is refl) (λ h. h) sees
       cases (Answers limit at count) is sees = handing limit at count x.before.following.joining.state.joined (nat_lt k count) is refl sees
       cases (Takes place count at) is sees = at_place (place == k) (stories.Takes count at) (quiet is refl) (λ h. h) sees
@@ -197,12 +196,12 @@ module _ {W : Type 0} (k : ℕ) where
     origin (x ∷ past) later v sees place = by_call x past later v x.call refl (λ u there after is. origin past after u there is) sees place
 
 -- the client of a visit
-seat_is : (config : ServerConfig) (v : Visit) (seat : Option Guest) (g : Guest) (sent so_far : List ℕ) → IsVisit config (Some v) seat sent → Story config v.begun v.past g so_far → seat ≡ Some g
-seat_is config v None g sent so_far is story = absurd is
-seat_is config v (Some h) g sent so_far is story = ap Some (one_story config v.begun v.past h g sent so_far is story).0
+seat_is : (v : Visit) (seat : Option Guest) (g : Guest) (sent so_far : List ℕ) → IsVisit (Some v) seat sent → Story v.begun.config v.begun.now v.past g so_far → seat ≡ Some g
+seat_is v None g sent so_far is story = absurd is
+seat_is v (Some h) g sent so_far is story = ap Some (one_story v.begun.config v.begun.now v.past h g sent so_far is story).0
 
-module _ {W : Type 0} (contents : W → Option (List ℕ)) (failures : W → Failures) (config : ServerConfig) (begun : Following) where
-  earlier : (later : List (Event W)) (at : Event W) (before : List (Event W)) (d : Desk) → History contents failures config begun (later ++ at ∷ before) d → History contents failures config begun before at.before
+module _ {W : Type 0} (contents : W → Option (List ℕ)) (failures : W → Failures) (begun : Following) where
+  earlier : (later : List (Event W)) (at : Event W) (before : List (Event W)) (d : Desk) → History contents failures begun (later ++ at ∷ before) d → History contents failures begun before at.before
   earlier [] at before d (took, h) = h
   earlier (x ∷ later) at before d (took, h) = earlier later at before x.before h
 
@@ -213,7 +212,7 @@ module _ {W : Type 0} (contents : W → Option (List ℕ)) (failures : W → Fai
   abbrev Led : Rules → List (List ℕ) → List (Event W) → Following → Type 0
   Led R feed past f = Followed contents failures R feed begun (fed past) f
 
-  pub followed : (R : Rules) (feed : List (List ℕ)) (past : List (Event W)) (d : Desk) → History contents failures config begun past d → AreHonest R feed past → Led R feed past d.following
+  pub followed : (R : Rules) (feed : List (List ℕ)) (past : List (Event W)) (d : Desk) → History contents failures begun past d → AreHonest R feed past → Led R feed past d.following
   followed R feed [] d (places, is) honest = ap (λ x. x.following) is
   followed R feed (x ∷ past) d (took, h) (is, honest) = by_call x.call took is (followed R feed past x.before h honest) where
     same : (f : Following) → f ≡ x.before.following → Led R feed past x.before.following → Led R feed past f
@@ -229,9 +228,9 @@ module _ {W : Type 0} (contents : W → Option (List ℕ)) (failures : W → Fai
     by_call : (call : Call W) → Step contents failures x.before call d → IsHonestCall R feed x.before call → Led R feed past x.before.following → Followed contents failures R feed begun (fed_by call (fed past)) d.following
     by_call (Feeds did) (f, does, is) honest led =
         subst (λ g. Followed contents failures R feed begun (did ∷ fed past) g) (sym (ap (λ e. e.following) is)) (x.before.following, does, honest, led)
-    by_call (Admits now (Ok (Some place))) (free, is) honest led = same d.following (ap (λ e. e.following) is) led
-    by_call (Admits now (Ok None)) (taken, is) honest led = same d.following (ap (λ e. e.following) is) led
-    by_call (Admits now (Err error)) is honest led = same d.following (ap (λ e. e.following) is) led
+    by_call (Admits config now (Ok (Some place))) (free, is) honest led = same d.following (ap (λ e. e.following) is) led
+    by_call (Admits config now (Ok None)) (taken, is) honest led = same d.following (ap (λ e. e.following) is) led
+    by_call (Admits config now (Err error)) is honest led = same d.following (ap (λ e. e.following) is) led
     by_call (Hears place piece now count) (s, hears, is) honest led = same d.following (ap (λ e. e.following) is) led
     by_call (Answers limit now count) is honest led = same d.following (ap (λ e. e.following) is ∙ answered_same x.before.following.joining.state.joined limit count now) led
     by_call (Takes place count now) (fits, is) honest led = same d.following (ap (λ e. e.following) is) led
@@ -243,15 +242,15 @@ module _ {W : Type 0} (contents : W → Option (List ℕ)) (failures : W → Fai
     R = rules_of (has set)
 
     -- an answer that was handed in then
-    answer_of : (past : List (Event W)) (d : Desk) → History contents failures config begun past d → AreHonest R feed past → (v : Visit) → visit_at k past ≡ Some v → (told : List ℕ)
-        → IsAnswer config v.begun v.past told → IsFeedAnswer R feed config k past told
+    answer_of : (past : List (Event W)) (d : Desk) → History contents failures begun past d → AreHonest R feed past → (v : Visit) → visit_at k past ≡ Some v → (told : List ℕ)
+        → IsAnswer v.begun.config v.begun.now v.past told → IsFeedAnswer R feed k past v told
     answer_of past d h honest v sees told a =
         let o = origin k a.m a.next a.now a.before past a.later v sees a.place in
-        let history : History contents failures config begun o.before o.at.before = earlier o.later o.at o.before d (subst (λ xs. History contents failures config begun xs d) o.place h) in
+        let history : History contents failures begun o.before o.at.before = earlier o.later o.at o.before d (subst (λ xs. History contents failures begun xs d) o.place h) in
         let fair : AreHonest R feed o.before = honest_earlier R feed o.later o.at o.before (subst (AreHonest R feed) o.place honest) in
         let u : Visit = record { begun = v.begun; past = a.before } in
-        let visit : IsVisit config (Some u) (guest_at o.at.before.seats k) (sent_at k o.before) =
-        subst (λ x. IsVisit config x (guest_at o.at.before.seats k) (sent_at k o.before)) o.visit (visits contents failures config k begun o.before o.at.before history) in
+        let visit : IsVisit (Some u) (guest_at o.at.before.seats k) (sent_at k o.before) =
+        subst (λ x. IsVisit x (guest_at o.at.before.seats k) (sent_at k o.before)) o.visit (visits contents failures k begun o.before o.at.before history) in
         let j : IsJoining set cap feed o.at.before.following = joining contents failures set cap feed begun (fed o.before) o.at.before.following joins (followed R feed o.before o.at.before history fair) in
         let right = (stands_joined set cap feed o.at.before.following bytes j).2.right o.joined o.position in
         record {
@@ -264,13 +263,12 @@ module _ {W : Type 0} (contents : W → Option (List ℕ)) (failures : W → Fai
           count = o.count;
           handed = o.handed;
           stayed = o.stayed;
-          visit = v;
           present = sees;
           earlier = u;
           visiting = o.visit;
           same_begun = refl;
           waiting = a.waiting;
-          there = seat_is config u (guest_at o.at.before.seats k) a.waiting (sent_at k o.before) a.so_far visit a.story;
+          there = seat_is u (guest_at o.at.before.seats k) a.waiting (sent_at k o.before) a.so_far visit a.story;
           login = a.login;
           asked = a.asked;
           accepted = a.accepted;
@@ -282,21 +280,21 @@ module _ {W : Type 0} (contents : W → Option (List ℕ)) (failures : W → Fai
               ∙ same_bytes o.joined.market (run R (take (o.joined.next - 1) feed)) o.joined.next (snap_same o.joined.market (run R (take (o.joined.next - 1) feed)) right.market);
         }
 
-    told_of_feed : (past : List (Event W)) (d : Desk) → History contents failures config begun past d → AreHonest R feed past → (v : Visit) → visit_at k past ≡ Some v → (told : List ℕ)
-        → IsTold config v.begun v.past told → IsToldOfFeed R feed config k past told
+    told_of_feed : (past : List (Event W)) (d : Desk) → History contents failures begun past d → AreHonest R feed past → (v : Visit) → visit_at k past ≡ Some v → (told : List ℕ)
+        → IsTold v.begun.config v.begun.now v.past told → IsToldOfFeed R feed k past told
     told_of_feed past d h honest v sees told (inl none) = inl none
     told_of_feed past d h honest v sees told (inr (inl refused)) = inr (inl (v, sees, refused))
     told_of_feed past d h honest v sees told (inr (inr (inl greeting))) = inr (inr (inl (v, sees, greeting)))
-    told_of_feed past d h honest v sees told (inr (inr (inr (beats, rest, answer, is)))) = inr (inr (inr (beats, rest, answer_of past d h honest v sees rest answer, is)))
+    told_of_feed past d h honest v sees told (inr (inr (inr (beats, rest, answer, is)))) = inr (inr (inr (v, beats, rest, answer_of past d h honest v sees rest answer, is)))
 
-    by_visit : (past : List (Event W)) (d : Desk) → History contents failures config begun past d → AreHonest R feed past → (visit : Option Visit) (seat : Option Guest) → visit_at k past ≡ visit
-        → IsVisit config visit seat (sent_at k past) → IsSentOfFeed R feed config k past (sent_at k past)
+    by_visit : (past : List (Event W)) (d : Desk) → History contents failures begun past d → AreHonest R feed past → (visit : Option Visit) (seat : Option Guest) → visit_at k past ≡ visit
+        → IsVisit visit seat (sent_at k past) → IsSentOfFeed R feed k past (sent_at k past)
     by_visit past d h honest None None sees none = ([], inl refl, ([], sym none ∙ sym (append-nil (sent_at k past))))
     by_visit past d h honest None (Some g) sees is = absurd is
     by_visit past d h honest (Some v) None sees is = absurd is
     by_visit past d h honest (Some v) (Some g) sees story =
-        let s = sent_right config v.begun v.past g (sent_at k past) story in
+        let s = sent_right v.begun.config v.begun.now v.past g (sent_at k past) story in
         (s.0, told_of_feed past d h honest v sees s.0 s.1, s.2)
 
-    pub sent_of_feed : (past : List (Event W)) (d : Desk) → History contents failures config begun past d → AreHonest R feed past → IsSentOfFeed R feed config k past (sent_at k past)
-    sent_of_feed past d h honest = by_visit past d h honest (visit_at k past) (guest_at d.seats k) refl (visits contents failures config k begun past d h)
+    pub sent_of_feed : (past : List (Event W)) (d : Desk) → History contents failures begun past d → AreHonest R feed past → IsSentOfFeed R feed k past (sent_at k past)
+    sent_of_feed past d h honest = by_visit past d h honest (visit_at k past) (guest_at d.seats k) refl (visits contents failures k begun past d h)

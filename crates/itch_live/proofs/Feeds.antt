@@ -59,16 +59,16 @@ module _ {W : Type 0} (contents : W → Option (List ℕ)) (failures : W → Fai
   heard : (set : Wanted) (cap : ℕ) (feed : List (List ℕ)) (f g : Following) (piece : List ℕ) (now : ℕ) (result : ℕ × News) (old new : W)
       → HearsFeed contents failures f piece now old result new g → IsHonest {W = W} (rules_of (has set)) feed f (Hears piece now result old new)
       → IsJoining set cap feed f → IsJoining set cap feed g
-  heard set cap feed f g piece now result old new (held, took, inl (payload, block, (answer, named, t, means, inl (other, is, (says, shut, kept, same))), login, from, none)) honest j =
+  heard set cap feed f g piece now result old new (held, took, inl (payload, block, (answer, named, t, means, inl (other, is, (says, shut, kept, same))), from, none)) honest j =
       same_joining set cap feed f g same j
-  heard set cap feed f g piece now result old new (held, took, inl (payload, block, (answer, named, t, means, inr (own, goes, (acts, pins))), login, from, none)) honest j =
+  heard set cap feed f g piece now result old new (held, took, inl (payload, block, (answer, named, t, means, inr (own, goes, (acts, pins))), from, none)) honest j =
       acted set cap feed f g f.source answer old new result.1 refl acts (honest held payload answer named t took block means) j
   heard set cap feed f g piece now result old new (held, took, inr (none, told, kept, is)) honest j =
       same_joining set cap feed f g (ap (λ x. x.joining) is) j
 
   pub does : (set : Wanted) (cap : ℕ) (feed : List (List ℕ)) (f g : Following) (did : Did W) → Does contents failures f did g → IsHonest (rules_of (has set)) feed f did
       → IsJoining set cap feed f → IsJoining set cap feed g
-  does set cap feed f g (Connects now) is honest j =
+  does set cap feed f g (Connects credentials now) is honest j =
       called set cap feed f g CallRestart (ap (λ x. x.joining.state) is, ap (λ x. x.joining.cap) is, ap (λ x. x.joining.set) is) tt j
   does set cap feed f g (Ticks now) is honest j = same_joining set cap feed f g (ap (λ x. x.joining) is) j
   does set cap feed f g (Hears piece now result old new) step honest j = heard set cap feed f g piece now result old new step honest j

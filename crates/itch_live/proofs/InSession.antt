@@ -160,21 +160,21 @@ module _ {W : Type 0} (contents : W → Option (List ℕ)) (failures : W → Fai
 
     pub holds : (past : List (Did W)) (f : Following) → Led contents failures begun past f → Holds past f
     holds [] f is = λ at. let never = sym fresh ∙ sym (ap (λ x. x.session.connection.stage) is) ∙ at in absurd (cc)
-    holds (Connects now ∷ past) g (f, is, led) = λ at. let never : stage.Before ≡ stage.Accepted = sym (ap (λ x. x.session.connection.stage) is) ∙ at in absurd (cc)
+    holds (Connects credentials now ∷ past) g (f, is, led) = λ at. let never : stage.Before ≡ stage.Accepted = sym (ap (λ x. x.session.connection.stage) is) ∙ at in absurd (cc)
     holds (Ticks now ∷ past) g (f, is, led) = λ at.
         on past (Ticks now) f g tt (ap (λ x. x.sessions) is) (ap (λ x. x.source) is)
         (holds past f led (ticked_on (tick_answer f.session.connection now) f.session.connection now (sym (ap (λ x. x.session.connection.stage) is) ∙ at)))
     holds (Hears piece now result old new ∷ past) g (f, (held, took, inr (none, says, kept, is)), led) = λ at.
         on past (Hears piece now result old new) f g tt (ap (λ x. x.sessions) is) (ap (λ x. x.source) is) (holds past f led (sym (ap (λ x. x.session.connection.stage) is) ∙ at))
-    holds (Hears piece now result old new ∷ past) g (f, (held, took, inl (payload, block, (answer, named, t, means, inl (other, is, (says, shut, kept, same))), login, from, none)), led) = λ at.
+    holds (Hears piece now result old new ∷ past) g (f, (held, took, inl (payload, block, (answer, named, t, means, inl (other, is, (says, shut, kept, same))), from, none)), led) = λ at.
         absurd (ended t.next t.connection.stage (sym (ap (λ (c : Client). c.connection.stage) shut) ∙ at))
     holds (Hears piece now result old new ∷ past) g
-        (f, (held, took, inl (payload, block, (answer, named, t, inr (why, at_fault, answer_is, named_is, same), inr (own, goes, (acts, pins))), login, from, none)), led) = λ at.
+        (f, (held, took, inl (payload, block, (answer, named, t, inr (why, at_fault, answer_is, named_is, same), inr (own, goes, (acts, pins))), from, none)), led) = λ at.
         on past (Hears piece now result old new) f g tt
         (pins ∙ ap (λ a. known_after f.sessions f.source (accepted_as a named)) answer_is ∙ none_known f.sessions f.source) from
         (holds past f led (ap (λ (c : Client). c.connection.stage) (sym (goes ∙ same)) ∙ at))
     holds (Hears piece now result old new ∷ past) g
-        (f, (held, took, inl (payload, block, (answer, named, t, inl (packet, spelled, answer_is, named_is, after), inr (own, goes, (acts, pins))), login, from, none)), led) = λ at.
+        (f, (held, took, inl (payload, block, (answer, named, t, inl (packet, spelled, answer_is, named_is, after), inr (own, goes, (acts, pins))), from, none)), led) = λ at.
         by_turn (holds past f led) (turned f.session.next f.session.connection.stage packet (ap (λ (c : Client). c.connection.stage) (sym (goes ∙ after)) ∙ at)) where
           named_so : accepted_as answer named ≡ accepted_as (client_answer f.session packet) (named_in packet)
           named_so = ap (λ a. accepted_as a named) answer_is ∙ ap (accepted_as (client_answer f.session packet)) named_is
@@ -217,9 +217,9 @@ module _ {W : Type 0} (contents : W → Option (List ℕ)) (failures : W → Fai
     pub changed_in_session : (past : List (Did W)) (f g : Following) (piece : List ℕ) (now : ℕ) (result : ℕ × News) (old new : W) → Led contents failures begun past f
         → HearsFeed contents failures f piece now old result new g → (g.joining ≡ f.joining → ⊥) → IsInSession contents failures begun past f
     changed_in_session past f g piece now result old new led (held, took, inr (none, says, kept, is)) differs = absurd (differs (ap (λ x. x.joining) is))
-    changed_in_session past f g piece now result old new led (held, took, inl (payload, block, (answer, named, t, means, inl (other, is, (says, shut, kept, same))), login, from, none)) differs =
+    changed_in_session past f g piece now result old new led (held, took, inl (payload, block, (answer, named, t, means, inl (other, is, (says, shut, kept, same))), from, none)) differs =
         absurd (differs same)
-    changed_in_session past f g piece now result old new led (held, took, inl (payload, block, (answer, named, t, means, inr (own, goes, (acts, pins))), login, from, none)) differs =
+    changed_in_session past f g piece now result old new led (held, took, inl (payload, block, (answer, named, t, means, inr (own, goes, (acts, pins))), from, none)) differs =
         by_act means (unless_data f.source answer f.joining g.joining old new result.1 acts) where
           by_act : Means f.session payload now answer named t → (g.joining ≡ f.joining) ⊎ ((number : ℕ) × (bytes : List ℕ) × (answer ≡ act.Data number bytes)) → IsInSession contents failures begun past f
           by_act means (inl same) = absurd (differs same)

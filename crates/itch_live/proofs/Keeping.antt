@@ -9,7 +9,6 @@ use Rattle.itch_codec.specs.Widths.{IsSequence}
 use Rattle.itch_market.specs.Content.{Content}
 use Rattle.itch_market.specs.GoodMarkets.{IsGood}
 use Rattle.itch_join.specs.Positions.{Position}
-use Rattle.itch_soup.specs.declared.login.ServerConfig.{ServerConfig}
 use Rattle.itch_soup.specs.declared.packet.LoginRequest.{LoginRequest}
 use Rattle.itch_soup.specs.declared.server.ServerAct.{ServerAct}
 use Rattle.itch_soup.specs.declared.server.ServerAct.TheVariants as act
@@ -298,13 +297,13 @@ module _ {W : Type 0} (contents : W → Option (List ℕ)) (failures : W → Fai
 
   step : (d e : Desk) (call : Call W) → Step contents failures d call e → IsOfMarket d call → limit_by call ≤ most → handed_by d call ≤ most → IsBounded d → IsBounded e
   step d e (Feeds did) (f, doing, same) market within whole b = subst IsBounded (sym same) b
-  step d e (Admits now (Ok (Some place))) ((inside, free), same) market within whole b =
+  step d e (Admits config now (Ok (Some place))) ((inside, free), same) market within whole b =
       subst IsBounded (sym same)
-      (moved most d.seats (set d.seats place (Some (new_guest d.config now))) b
-      (set_holds (Agrees b.bytes) (unsent b.bytes) d.seats place (Some (new_guest d.config now)) (λ g is. subst (λ x. Holds (Agrees b.bytes) x) (one_guest is) (unsent b.bytes None)) b.agree)
-      (set_same number_of d.seats place (Some (new_guest d.config now)) (sym (ap number_of free))))
-  step d e (Admits now (Ok None)) (taken, same) market within whole b = subst IsBounded (sym same) b
-  step d e (Admits now (Err error)) same market within whole b = subst IsBounded (sym same) b
+      (moved most d.seats (set d.seats place (Some (new_guest config now))) b
+      (set_holds (Agrees b.bytes) (unsent b.bytes) d.seats place (Some (new_guest config now)) (λ g is. subst (λ x. Holds (Agrees b.bytes) x) (one_guest is) (unsent b.bytes None)) b.agree)
+      (set_same number_of d.seats place (Some (new_guest config now)) (sym (ap number_of free))))
+  step d e (Admits config now (Ok None)) (taken, same) market within whole b = subst IsBounded (sym same) b
+  step d e (Admits config now (Err error)) same market within whole b = subst IsBounded (sym same) b
   step d e (Hears place piece now count) (s, hearing, same) market within whole b =
       subst IsBounded (sym same)
       (moved most d.seats s b (all_hear (Agrees b.bytes) (unsent b.bytes) d.seats s place piece now count (guest_at d.seats place) refl hearing b.agree)
@@ -320,19 +319,19 @@ module _ {W : Type 0} (contents : W → Option (List ℕ)) (failures : W → Fai
       (moved most d.seats (map (ticked_seat now) d.seats) b (all_tick (Agrees b.bytes) (unsent b.bytes) now d.seats b.agree) (map_same number_of (ticked_seat now) d.seats (ticks now)))
   step d e (Leaves place) same market within whole b = subst IsBounded (sym same) (fewer most d.seats place b)
 
-  bounded : (config : ServerConfig) (begun : Following) (past : List (Event W)) (d : Desk) → AreOfMarkets past → History contents failures config begun past d
+  bounded : (begun : Following) (past : List (Event W)) (d : Desk) → AreOfMarkets past → History contents failures begun past d
       → largest_limit past ≤ most → longest past ≤ most → IsBounded d
-  bounded config begun [] d markets (places, is) within whole = subst IsBounded (sym is) (none_bounded most places)
-  bounded config begun (x ∷ past) d (market, markets) (took, before) within whole =
+  bounded begun [] d markets (places, is) within whole = subst IsBounded (sym is) (none_bounded most places)
+  bounded begun (x ∷ past) d (market, markets) (took, before) within whole =
       let limits = both (limit_by x.call) (largest_limit past) within in
       let lengths = both (handed_by x.before x.call) (longest past) whole in
-      step x.before d x.call took market limits.0 lengths.0 (bounded config begun past x.before markets before limits.1 lengths.1) where
+      step x.before d x.call took market limits.0 lengths.0 (bounded begun past x.before markets before limits.1 lengths.1) where
         both : (a b : ℕ) → max a b ≤ most → (a ≤ most) × (b ≤ most)
         both a b h = (omega arith, omega arith)
 
-  pub bytes_within : (config : ServerConfig) (begun : Following) (past : List (Event W)) (d : Desk) → AreOfMarkets past → History contents failures config begun past d
+  pub bytes_within : (begun : Following) (past : List (Event W)) (d : Desk) → AreOfMarkets past → History contents failures begun past d
       → largest_limit past ≤ most → longest past ≤ most → snapshot_bytes d.seats ≤ most
-  bytes_within config begun past d markets history within whole =
-      let b = bounded config begun past d markets history within whole in
+  bytes_within begun past d markets history within whole =
+      let b = bounded begun past d markets history within whole in
       let is = bytes_are b.bytes d.seats b.agree in
       omega (arith, is, b.within)

@@ -4,7 +4,6 @@ use Rattle.itch_frame.specs.declared.tally.Failures.{Failures}
 use Rattle.itch_codec.specs.Widths.{IsSequence}
 use Rattle.itch_market.specs.GoodMarkets.{IsGood}
 use Rattle.itch_join.specs.Positions.{Position}
-use Rattle.itch_soup.specs.declared.login.ServerConfig.{ServerConfig}
 use Rattle.itch_live.specs.Seats.{Seats}
 use Rattle.itch_live.specs.Kept.{length_or, snapshot_bytes}
 use Rattle.itch_live.specs.Follows.{Following}
@@ -26,18 +25,18 @@ max_first a b most h = omega arith
 max_second : (a b most : ℕ) → max a b ≤ most → b ≤ most
 max_second a b most h = omega arith
 
-pub within_longest : {W : Type 0} (contents : W → Option (List ℕ)) (failures : W → Failures) (config : ServerConfig) (begun : Following) (past : List (Event W)) (d : Desk)
-    → AreOfMarkets past → History contents failures config begun past d → held_bytes d ≤ most_bytes (length d.seats) (max (largest_limit past) (longest past))
-within_longest contents failures config begun past d markets history =
+pub within_longest : {W : Type 0} (contents : W → Option (List ℕ)) (failures : W → Failures) (begun : Following) (past : List (Event W)) (d : Desk)
+    → AreOfMarkets past → History contents failures begun past d → held_bytes d ≤ most_bytes (length d.seats) (max (largest_limit past) (longest past))
+within_longest contents failures begun past d markets history =
     let most = max (largest_limit past) (longest past) in
-    let bytes = bytes_within contents failures most config begun past d markets history (omega arith) (omega arith) in
+    let bytes = bytes_within contents failures most begun past d markets history (omega arith) (omega arith) in
     sums (clients d.seats) (length d.seats) (snapshot_bytes d.seats) most (few_clients d.seats) bytes where
       sums : (c places bytes most : ℕ) → c ≤ places → bytes ≤ most → splitter_bytes + c * splitter_bytes + bytes ≤ splitter_bytes + places * splitter_bytes + most
       sums c places bytes most few within = omega (arith, few, within)
 
 -- bytes of snapshots by their messages -------------------------------------------
 
-module _ {W : Type 0} (contents : W → Option (List ℕ)) (failures : W → Failures) (config : ServerConfig) (most : ℕ) where
+module _ {W : Type 0} (contents : W → Option (List ℕ)) (failures : W → Failures) (most : ℕ) where
   -- what is handed in is the snapshot of the present market
   answer_short : (d : Desk) (limit : ℕ) (o : Option Position) → AreFitting o d.seats → ((j : Position) → o ≡ Some j → IsGood j.market × IsSequence j.next)
       → messages_at o ≤ most → handed_at o limit d ≤ 43 * most + 128
@@ -54,26 +53,26 @@ module _ {W : Type 0} (contents : W → Option (List ℕ)) (failures : W → Fai
   call_short : (d : Desk) (call : Call W) → AreFitting d.following.joining.state.joined d.seats → IsOfMarket d call → messages_by d call ≤ most
       → handed_by d call ≤ 43 * most + 128
   call_short d (Feeds did) fits market few = omega arith
-  call_short d (Admits now result) fits market few = omega arith
+  call_short d (Admits config now result) fits market few = omega arith
   call_short d (Hears place piece now count) fits market few = omega arith
   call_short d (Answers limit now count) fits market few = answer_short d limit d.following.joining.state.joined fits market few
   call_short d (Takes place count now) fits market few = omega arith
   call_short d (Ticks now) fits market few = omega arith
   call_short d (Leaves place) fits market few = omega arith
 
-  longest_by : (begun : Following) (past : List (Event W)) (d : Desk) → History contents failures config begun past d → AreOfMarkets past → most_messages past ≤ most
+  longest_by : (begun : Following) (past : List (Event W)) (d : Desk) → History contents failures begun past d → AreOfMarkets past → most_messages past ≤ most
       → longest past ≤ 43 * most + 128
   longest_by begun [] d history markets few = omega arith
   longest_by begun (x ∷ past) d (took, before) (market, markets) few =
       let first =
-      call_short x.before x.call (all_fit contents failures config begun past x.before before) market
+      call_short x.before x.call (all_fit contents failures begun past x.before before) market
       (max_first (messages_by x.before x.call) (most_messages past) most few) in
       let rest = longest_by begun past x.before before markets (max_second (messages_by x.before x.call) (most_messages past) most few) in
       both (handed_by x.before x.call) (longest past) first rest where
         both : (a b : ℕ) → a ≤ 43 * most + 128 → b ≤ 43 * most + 128 → max a b ≤ 43 * most + 128
         both a b one other = omega arith
 
-pub longest_within : {W : Type 0} (contents : W → Option (List ℕ)) (failures : W → Failures) (config : ServerConfig) (begun : Following) (past : List (Event W)) (d : Desk)
-    → AreOfMarkets past → History contents failures config begun past d → longest past ≤ 43 * most_messages past + 128
-longest_within contents failures config begun past d markets history =
-    longest_by contents failures config (most_messages past) begun past d history markets (omega arith)
+pub longest_within : {W : Type 0} (contents : W → Option (List ℕ)) (failures : W → Failures) (begun : Following) (past : List (Event W)) (d : Desk)
+    → AreOfMarkets past → History contents failures begun past d → longest past ≤ 43 * most_messages past + 128
+longest_within contents failures begun past d markets history =
+    longest_by contents failures (most_messages past) begun past d history markets (omega arith)

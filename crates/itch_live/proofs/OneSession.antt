@@ -3,7 +3,6 @@ use Rattle.std.proofs.Common.{◌≡◌, ℕ, not, List, [], ◌∷◌, ◌++◌
 use Rattle.std.specs.Option.{option_or}
 use Rattle.itch_frame.specs.declared.tally.Failures.{Failures}
 use Rattle.itch_join.specs.Positions.{Position}
-use Rattle.itch_soup.specs.declared.login.ServerConfig.{ServerConfig}
 use Rattle.itch_live.specs.declared.news.News.{News}
 use Rattle.itch_live.specs.declared.news.Source.{Source}
 use Rattle.itch_live.specs.declared.news.Source.TheVariants as source
@@ -23,11 +22,11 @@ known_stays known source.Glimpse named session there = by_own known.glimpse wher
 
 module _ {W : Type 0} (contents : W → Option (List ℕ)) (failures : W → Failures) where
   does_stay : (f g : Following) (did : Did W) (session : List ℕ) → Does contents failures f did g → f.sessions.feed ≡ Some session → g.sessions.feed ≡ Some session
-  does_stay f g (Connects now) session is there = ap (λ x. x.sessions.feed) is ∙ there
+  does_stay f g (Connects credentials now) session is there = ap (λ x. x.sessions.feed) is ∙ there
   does_stay f g (Ticks now) session is there = ap (λ x. x.sessions.feed) is ∙ there
-  does_stay f g (Hears piece now result old new) session (held, took, inl (payload, block, (answer, named, t, means, inl (other, is, (says, shut, kept, same))), login, from, none)) there =
+  does_stay f g (Hears piece now result old new) session (held, took, inl (payload, block, (answer, named, t, means, inl (other, is, (says, shut, kept, same))), from, none)) there =
       ap (λ (r : News × Sessions). r.1.feed) says ∙ there
-  does_stay f g (Hears piece now result old new) session (held, took, inl (payload, block, (answer, named, t, means, inr (own, goes, (acts, pins))), login, from, none)) there =
+  does_stay f g (Hears piece now result old new) session (held, took, inl (payload, block, (answer, named, t, means, inr (own, goes, (acts, pins))), from, none)) there =
       ap (λ (k : Sessions). k.feed) pins ∙ known_stays f.sessions f.source (accepted_as answer named) session there
   does_stay f g (Hears piece now result old new) session (held, took, inr (none, says, kept, is)) there = ap (λ x. x.sessions.feed) is ∙ there
 
@@ -36,9 +35,9 @@ module _ {W : Type 0} (contents : W → Option (List ℕ)) (failures : W → Fai
 
   call_stays : (d e : Desk) (call : Call W) (session : List ℕ) → desks.Step contents failures d call e → Of d ≡ Some session → Of e ≡ Some session
   call_stays d e (desks.Feeds did) session (f, doing, is) there = ap (λ x. Of x) is ∙ does_stay d.following f did session doing there
-  call_stays d e (desks.Admits now (Ok (Some place))) session (free, is) there = ap (λ x. Of x) is ∙ there
-  call_stays d e (desks.Admits now (Ok None)) session (taken, is) there = ap (λ x. Of x) is ∙ there
-  call_stays d e (desks.Admits now (Err error)) session is there = ap (λ x. Of x) is ∙ there
+  call_stays d e (desks.Admits config now (Ok (Some place))) session (free, is) there = ap (λ x. Of x) is ∙ there
+  call_stays d e (desks.Admits config now (Ok None)) session (taken, is) there = ap (λ x. Of x) is ∙ there
+  call_stays d e (desks.Admits config now (Err error)) session is there = ap (λ x. Of x) is ∙ there
   call_stays d e (desks.Hears place piece now count) session (s, hears, is) there = ap (λ x. Of x) is ∙ there
   call_stays d e (desks.Answers limit now count) session is there = ap (λ x. Of x) is ∙ by_joined d.following.joining.state.joined ∙ there where
     by_joined : (o : Option Position) → Of (answered_with o d limit count now) ≡ Of d
@@ -51,7 +50,7 @@ module _ {W : Type 0} (contents : W → Option (List ℕ)) (failures : W → Fai
   call_stays d e (desks.Ticks now) session is there = ap (λ x. Of x) is ∙ there
   call_stays d e (desks.Leaves place) session is there = ap (λ x. Of x) is ∙ there
 
-  pub stays : (config : ServerConfig) (begun : Following) (later : List (Event W)) (at : Event W) (before : List (Event W)) (d : Desk) (session : List ℕ)
-      → History contents failures config begun (later ++ at ∷ before) d → Of at.before ≡ Some session → Of d ≡ Some session
-  stays config begun [] at before d session (took, h) there = call_stays at.before d at.call session took there
-  stays config begun (x ∷ later) at before d session (took, h) there = call_stays x.before d x.call session took (stays config begun later at before x.before session h there)
+  pub stays : (begun : Following) (later : List (Event W)) (at : Event W) (before : List (Event W)) (d : Desk) (session : List ℕ)
+      → History contents failures begun (later ++ at ∷ before) d → Of at.before ≡ Some session → Of d ≡ Some session
+  stays begun [] at before d session (took, h) there = call_stays at.before d at.call session took there
+  stays begun (x ∷ later) at before d session (took, h) there = call_stays x.before d x.call session took (stays begun later at before x.before session h there)

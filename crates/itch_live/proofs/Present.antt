@@ -4,7 +4,6 @@ use Rattle.std.specs.Option.{option_or}
 use Rattle.std.proofs.lemmas.Bool.{eqb-true}
 use Rattle.itch_frame.specs.declared.tally.Failures.{Failures}
 use Rattle.itch_join.specs.Positions.{Position}
-use Rattle.itch_soup.specs.declared.login.ServerConfig.{ServerConfig}
 use Rattle.itch_live.specs.Guests.{Guest, session_bytes, new_guest, is_at, shot_in}
 use Rattle.itch_live.specs.Seats.{Seats, guest_at, answered_seat}
 use Rattle.itch_live.specs.Kept.{has_room, kept_bytes}
@@ -107,28 +106,6 @@ right_shot limit seats j bytes all is = by_kept (kept_bytes seats j.next) refl i
         one_position {i} same = cc
 
 module _ {W : Type 0} (contents : W → Option (List ℕ)) (failures : W → Failures) where
-  -- the configuration stays
-  pub same_config : (d e : Desk) (call : Call W) → Step contents failures d call e → e.config ≡ d.config
-  same_config d e (Feeds did) (f, does, same) = ap (λ x. x.config) same
-  same_config d e (Admits now (Ok (Some place))) (free, same) = ap (λ x. x.config) same
-  same_config d e (Admits now (Ok None)) (taken, same) = ap (λ x. x.config) same
-  same_config d e (Admits now (Err error)) same = ap (λ x. x.config) same
-  same_config d e (Hears place piece now count) (s, hears, same) = ap (λ x. x.config) same
-  same_config d e (Answers limit now count) same = ap (λ x. x.config) same ∙ by_joined d.following.joining.state.joined where
-    by_joined : (o : Option Position) → (answered_with o d limit count now).config ≡ d.config
-    by_joined None = refl
-    by_joined (Some j) = by_shot (shot_for limit d.seats j.market j.next) where
-      by_shot : (shot : Option (List ℕ)) → (with_shot shot d j.next count now).config ≡ d.config
-      by_shot None = refl
-      by_shot (Some bytes) = refl
-  same_config d e (Takes place count now) (fits, same) = ap (λ x. x.config) same
-  same_config d e (Ticks now) same = ap (λ x. x.config) same
-  same_config d e (Leaves place) same = ap (λ x. x.config) same
-
-  pub configured : (config : ServerConfig) (begun : Following) (past : List (Event W)) (d : Desk) → History contents failures config begun past d → d.config ≡ config
-  configured config begun [] d (places, is) = ap (λ x. x.config) is
-  configured config begun (x ∷ past) d (took, before) = same_config x.before d x.call took ∙ configured config begun past x.before before
-
   -- each snapshot that is kept fits the present market
   abbrev pub DeskFits : Desk → Type 0
   DeskFits d = AreFitting d.following.joining.state.joined d.seats
@@ -159,10 +136,10 @@ module _ {W : Type 0} (contents : W → Option (List ℕ)) (failures : W → Fai
     by_call : (call : Call W) → Step contents failures d call e → DeskFits e
     by_call (Feeds did) (f, doing, same) =
         subst DeskFits (sym same) (λ k g there. later d.following.joining.state.joined f.joining.state.joined (does contents failures d.following f did doing) g (fits k g there))
-    by_call (Admits now (Ok (Some place))) (free, same) =
-        subst DeskFits (sym same) (set_holds P none d.seats place (Some (new_guest d.config now)) (λ g is. subst (λ x. Holds P x) (one_guest is) (none None)) fits)
-    by_call (Admits now (Ok None)) (taken, same) = subst DeskFits (sym same) fits
-    by_call (Admits now (Err error)) same = subst DeskFits (sym same) fits
+    by_call (Admits config now (Ok (Some place))) (free, same) =
+        subst DeskFits (sym same) (set_holds P none d.seats place (Some (new_guest config now)) (λ g is. subst (λ x. Holds P x) (one_guest is) (none None)) fits)
+    by_call (Admits config now (Ok None)) (taken, same) = subst DeskFits (sym same) fits
+    by_call (Admits config now (Err error)) same = subst DeskFits (sym same) fits
     by_call (Hears place piece now count) (s, hearing, same) =
         subst DeskFits (sym same) (all_hear P none d.seats s place piece now count (guest_at d.seats place) refl hearing fits)
     by_call (Answers limit now count) same = subst DeskFits (sym same) (answered d limit count now d.following.joining.state.joined refl fits)
@@ -170,12 +147,12 @@ module _ {W : Type 0} (contents : W → Option (List ℕ)) (failures : W → Fai
     by_call (Ticks now) same = subst DeskFits (sym same) (all_tick P none now d.seats fits)
     by_call (Leaves place) same = subst DeskFits (sym same) (set_holds P none d.seats place None (λ g is. absurd (no_guest is)) fits)
 
-  pub all_fit : (config : ServerConfig) (begun : Following) (past : List (Event W)) (d : Desk) → History contents failures config begun past d → DeskFits d
-  all_fit config begun [] d (places, is) = subst DeskFits (sym is) (λ k g there. absurd (no_guest (sym (none_seated places k) ∙ there)))
-  all_fit config begun (x ∷ past) d (took, before) = step x.before d x.call took (all_fit config begun past x.before before)
+  pub all_fit : (begun : Following) (past : List (Event W)) (d : Desk) → History contents failures begun past d → DeskFits d
+  all_fit begun [] d (places, is) = subst DeskFits (sym is) (λ k g there. absurd (no_guest (sym (none_seated places k) ∙ there)))
+  all_fit begun (x ∷ past) d (took, before) = step x.before d x.call took (all_fit begun past x.before before)
 
-  pub kept_right : (config : ServerConfig) (begun : Following) (past : List (Event W)) (d : Desk) (j : Position) (bytes : List ℕ) → History contents failures config begun past d
+  pub kept_right : (begun : Following) (past : List (Event W)) (d : Desk) (j : Position) (bytes : List ℕ) → History contents failures begun past d
       → d.following.joining.state.joined ≡ Some j → kept_bytes d.seats j.next ≡ Some bytes → bytes ≡ session_bytes j.market j.next
-  kept_right config begun past d j bytes history there is =
-      right_shot 0 d.seats j bytes (subst (λ o. AreFitting o d.seats) there (all_fit config begun past d history))
+  kept_right begun past d j bytes history there is =
+      right_shot 0 d.seats j bytes (subst (λ o. AreFitting o d.seats) there (all_fit begun past d history))
       (ap (λ k. option_or k (if has_room 0 d.seats j.market then Some (session_bytes j.market j.next) else None)) is)

@@ -327,9 +327,9 @@ module _ {W : Type 0} (contents : W → Option (List ℕ)) (failures : W → Fai
 
   heard : (past : List (Did W)) (piece : List ℕ) (now : ℕ) (result : ℕ × News) (old new : W) (f g : Following) → HearsFeed contents failures f piece now old result new g
       → IsHonest {W = W} R feed f (Hears piece now result old new) → IsJoining set 0 feed f → IsWritten result.1 → Kept past f old → Kept (Hears piece now result old new ∷ past) g new
-  heard past piece now result old new f g (held, took, inl (payload, block, (answer, named, t, means, inl (other, is, (says, shut, same, still))), login, from, none)) honest j written k =
+  heard past piece now result old new f g (held, took, inl (payload, block, (answer, named, t, means, inl (other, is, (says, shut, same, still))), from, none)) honest j written k =
       unchanged past (Hears piece now result old new) f g old new (ap (λ (x : News × Sessions). joined_in x.0) says) same (ap (λ x. x.state.joined) still) k
-  heard past piece now result old new f g (held, took, inl (payload, block, (answer, named, t, means, inr (own, goes, (acts, pins))), login, from, none)) honest j written k =
+  heard past piece now result old new f g (held, took, inl (payload, block, (answer, named, t, means, inr (own, goes, (acts, pins))), from, none)) honest j written k =
       acted past piece now result old new f g f.source answer refl acts (honest held payload answer named t took block means) j written k
   heard past piece now result old new f g (held, took, inr (none, said, same, is)) honest j written k =
       unchanged past (Hears piece now result old new) f g old new (ap joined_in said) same (ap (λ x. x.joining.state.joined) is) k
@@ -348,8 +348,8 @@ module _ {W : Type 0} (contents : W → Option (List ℕ)) (failures : W → Fai
   all_recorded j [] f w is one =
       subst (λ w. Kept [] f w) (sym one) (subst (λ x. Kept [] x first_record) (sym is)
       (began begun.joining.state.joined (λ p there. positive_next set 0 feed begun bytes j p there)))
-  all_recorded j (Connects now ∷ past) f w (e, is, honest, before) one =
-      unchanged past (Connects now) e f w w refl refl (ap (λ x. x.joining.state.joined) is ∙ restarted_joined e.joining.state.joined e.joining.state) (all_recorded j past e w before one)
+  all_recorded j (Connects credentials now ∷ past) f w (e, is, honest, before) one =
+      unchanged past (Connects credentials now) e f w w refl refl (ap (λ x. x.joining.state.joined) is ∙ restarted_joined e.joining.state.joined e.joining.state) (all_recorded j past e w before one)
   all_recorded j (Ticks now ∷ past) f w (e, is, honest, before) one =
       unchanged past (Ticks now) e f w w refl refl (ap (λ x. x.joining.state.joined) is) (all_recorded j past e w before one)
   all_recorded j (Hears piece now result old new ∷ past) f w (e, hears, honest, before) (is, written, one) =

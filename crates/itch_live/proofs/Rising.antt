@@ -14,7 +14,6 @@ use Rattle.itch_join.specs.States.{State}
 use Rattle.itch_join.specs.Applying.{Front, front_of, advanced, at_hand, Applies}
 use Rattle.itch_join.specs.Steps.{live_case, LiveBy, NextBy, SnapshotCase, SnapHalted, SnapJoined, SnapBroken, SnapFails, SnapEnds, SnapTakes, snapshot_case, SnapshotBy, restarted}
 use Rattle.itch_join.proofs.CallCases.{IsSnapshotCase, snapshot_case_is}
-use Rattle.itch_soup.specs.declared.login.ServerConfig.{ServerConfig}
 use Rattle.itch_soup.specs.declared.client.ClientAct.{ClientAct}
 use Rattle.itch_soup.specs.declared.client.ClientAct.TheVariants as act
 use Rattle.itch_live.specs.declared.news.Source.{Source}
@@ -124,11 +123,11 @@ module _ {W : Type 0} (contents : W → Option (List ℕ)) (failures : W → Fai
   acted from (act.Fault fault) f g old new told (says, kept, same) = same_position _ _ (ap (λ x. x.state.joined) same)
 
   pub does : (f g : Following) (did : Did W) → Does contents failures f did g → Advances f.joining.state.joined g.joining.state.joined
-  does f g (Connects now) is = same_position _ _ (ap (λ x. x.joining.state.joined) is ∙ restarted_same f.joining.state.joined f.joining.state)
+  does f g (Connects credentials now) is = same_position _ _ (ap (λ x. x.joining.state.joined) is ∙ restarted_same f.joining.state.joined f.joining.state)
   does f g (Ticks now) is = same_position _ _ (ap (λ x. x.joining.state.joined) is)
-  does f g (Hears piece now result old new) (held, took, inl (payload, block, (answer, named, t, means, inl (other, is, (says, shut, kept, same))), login, from, none)) =
+  does f g (Hears piece now result old new) (held, took, inl (payload, block, (answer, named, t, means, inl (other, is, (says, shut, kept, same))), from, none)) =
       same_position _ _ (ap (λ x. x.state.joined) same)
-  does f g (Hears piece now result old new) (held, took, inl (payload, block, (answer, named, t, means, inr (own, goes, (acts, pins))), login, from, none)) =
+  does f g (Hears piece now result old new) (held, took, inl (payload, block, (answer, named, t, means, inr (own, goes, (acts, pins))), from, none)) =
       acted f.source answer f g old new result.1 acts
   does f g (Hears piece now result old new) (held, took, inr (none, says, kept, is)) = same_position _ _ (ap (λ x. x.joining.state.joined) is)
 
@@ -137,9 +136,9 @@ module _ {W : Type 0} (contents : W → Option (List ℕ)) (failures : W → Fai
 
   pub called : (d e : Desk) (call : Call W) → desks.Step contents failures d call e → Advances (Of d) (Of e)
   called d e (desks.Feeds did) (f, doing, is) = subst (Advances (Of d)) (sym (ap (λ x. Of x) is)) (does d.following f did doing)
-  called d e (desks.Admits now (Ok (Some place))) (free, is) = same_position _ _ (ap (λ x. Of x) is)
-  called d e (desks.Admits now (Ok None)) (taken, is) = same_position _ _ (ap (λ x. Of x) is)
-  called d e (desks.Admits now (Err error)) is = same_position _ _ (ap (λ x. Of x) is)
+  called d e (desks.Admits config now (Ok (Some place))) (free, is) = same_position _ _ (ap (λ x. Of x) is)
+  called d e (desks.Admits config now (Ok None)) (taken, is) = same_position _ _ (ap (λ x. Of x) is)
+  called d e (desks.Admits config now (Err error)) is = same_position _ _ (ap (λ x. Of x) is)
   called d e (desks.Hears place piece now count) (s, hears, is) = same_position _ _ (ap (λ x. Of x) is)
   called d e (desks.Answers limit now count) is = same_position _ _ (ap (λ x. Of x) is ∙ by_joined (Of d)) where
     by_joined : (o : Option Position) → Of (answered_with o d limit count now) ≡ Of d
@@ -152,8 +151,8 @@ module _ {W : Type 0} (contents : W → Option (List ℕ)) (failures : W → Fai
   called d e (desks.Ticks now) is = same_position _ _ (ap (λ x. Of x) is)
   called d e (desks.Leaves place) is = same_position _ _ (ap (λ x. Of x) is)
 
-  pub goes_on : (config : ServerConfig) (begun : Following) (later : List (Event W)) (at : Event W) (before : List (Event W)) (d : Desk)
-      → History contents failures config begun (later ++ at ∷ before) d → GoesOn (Of at.before) (Of d)
-  goes_on config begun [] at before d (took, h) = goes_of (Of at.before) (Of d) (called at.before d at.call took)
-  goes_on config begun (x ∷ later) at before d (took, h) =
-      after_both (Of at.before) (Of x.before) (Of d) (goes_on config begun later at before x.before h) (goes_of (Of x.before) (Of d) (called x.before d x.call took))
+  pub goes_on : (begun : Following) (later : List (Event W)) (at : Event W) (before : List (Event W)) (d : Desk)
+      → History contents failures begun (later ++ at ∷ before) d → GoesOn (Of at.before) (Of d)
+  goes_on begun [] at before d (took, h) = goes_of (Of at.before) (Of d) (called at.before d at.call took)
+  goes_on begun (x ∷ later) at before d (took, h) =
+      after_both (Of at.before) (Of x.before) (Of d) (goes_on begun later at before x.before h) (goes_of (Of x.before) (Of d) (called x.before d x.call took))

@@ -3,7 +3,6 @@ use Rattle.std.proofs.Common.{◌≡◌, ℕ, ◌++◌, List, [], ◌∷◌, len
 use Rattle.std.proofs.lemmas.List.{length-set, length-map, length-take}
 use Rattle.itch_frame.specs.declared.tally.Failures.{Failures}
 use Rattle.itch_join.specs.Positions.{Position}
-use Rattle.itch_soup.specs.declared.login.ServerConfig.{ServerConfig}
 use Rattle.itch_live.specs.Guests as guests
 use Rattle.itch_live.specs.Guests.{Guest}
 use Rattle.itch_live.specs.Seats.{Seats, guest_at, HearsBy, took_by, answered_seat, ticked_seat}
@@ -35,16 +34,16 @@ answered_row d limit count now (Some j) = by_shot (shot_for limit d.seats j.mark
 module _ {W : Type 0} (contents : W → Option (List ℕ)) (failures : W → Failures) where
   same_row : (d e : Desk) (call : Call W) → Step contents failures d call e → length e.seats ≡ length d.seats
   same_row d e (Feeds did) (f, does, is) = ap (λ x. length x.seats) is
-  same_row d e (Admits now (Ok (Some place))) (free, is) = ap (λ x. length x.seats) is ∙ length-set d.seats place (Some (guests.new_guest d.config now))
-  same_row d e (Admits now (Ok None)) (taken, is) = ap (λ x. length x.seats) is
-  same_row d e (Admits now (Err error)) is = ap (λ x. length x.seats) is
+  same_row d e (Admits config now (Ok (Some place))) (free, is) = ap (λ x. length x.seats) is ∙ length-set d.seats place (Some (guests.new_guest config now))
+  same_row d e (Admits config now (Ok None)) (taken, is) = ap (λ x. length x.seats) is
+  same_row d e (Admits config now (Err error)) is = ap (λ x. length x.seats) is
   same_row d e (Hears place piece now count) (s, hears, is) = ap (λ x. length x.seats) is ∙ heard_row d.seats s place piece now count (guest_at d.seats place) hears
   same_row d e (Answers limit now count) is = ap (λ x. length x.seats) is ∙ answered_row d limit count now d.following.joining.state.joined
   same_row d e (Takes place count now) (fits, is) = ap (λ x. length x.seats) is ∙ took_row d.seats place count now (guest_at d.seats place)
   same_row d e (Ticks now) is = ap (λ x. length x.seats) is ∙ length-map d.seats (ticked_seat now)
   same_row d e (Leaves place) is = ap (λ x. length x.seats) is ∙ length-set d.seats place None
 
-  pub rows_stay : (config : ServerConfig) (begun : Following) (later : List (Event W)) (at : Event W) (before : List (Event W)) (d : Desk)
-      → History contents failures config begun (later ++ at ∷ before) d → length d.seats ≡ length at.before.seats
-  rows_stay config begun [] at before d (took, h) = same_row at.before d at.call took
-  rows_stay config begun (x ∷ later) at before d (took, h) = same_row x.before d x.call took ∙ rows_stay config begun later at before x.before h
+  pub rows_stay : (begun : Following) (later : List (Event W)) (at : Event W) (before : List (Event W)) (d : Desk)
+      → History contents failures begun (later ++ at ∷ before) d → length d.seats ≡ length at.before.seats
+  rows_stay begun [] at before d (took, h) = same_row at.before d at.call took
+  rows_stay begun (x ∷ later) at before d (took, h) = same_row x.before d x.call took ∙ rows_stay begun later at before x.before h

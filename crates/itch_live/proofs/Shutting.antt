@@ -79,8 +79,8 @@ module _ {W : Type 0} (contents : W → Option (List ℕ)) (failures : W → Fai
       → inside ≡ f → IsTake inside.held piece n held → IsBlockOf payload held
       → HearsPacket contents failures inside.source inside.sessions inside.session inside.joining payload now record_old (told, known) record_new session joining → dropped ≡ []
       → HearsFeed contents failures f piece now record_old (n, told) record_new
-      (record { credentials = inside.credentials; sessions = known; source = inside.source; held = dropped; session = session; joining = joining })
+      (record { sessions = known; source = inside.source; held = dropped; session = session; joining = joining })
   hears_whole inside f piece held payload dropped now n told known session joining record_old record_new same takes block hears none =
       subst (λ x. HearsFeed contents failures x piece now record_old (n, told) record_new
-      (record { credentials = inside.credentials; sessions = known; source = inside.source; held = dropped; session = session; joining = joining }))
-      same (held, takes, inl (payload, block, hears, refl, refl, none))
+      (record { sessions = known; source = inside.source; held = dropped; session = session; joining = joining }))
+      same (held, takes, inl (payload, block, hears, refl, none))

@@ -14,21 +14,20 @@ use Rattle.itch_live.specs.Kept.{has_room, kept_bytes}
 use Rattle.itch_live.specs.Follows.{Following}
 use Rattle.itch_live.specs.Feeds.{Did, Does}
 
--- who may log in, what follows the feed, and the places of clients
+-- what follows the feed, and the places of clients
 pub record Desk : Type 0 where
-  pub config : ServerConfig
   pub following : Following
   pub seats : Seats
 
-abbrev pub new_desk : ServerConfig → Following → ℕ → Desk
-new_desk config following places = record { config = config; following = following; seats = replicate places None }
+abbrev pub new_desk : Following → ℕ → Desk
+new_desk following places = record { following = following; seats = replicate places None }
 
--- a client is given a free place, or there is none; where memory is refused nothing changes
-abbrev pub Accepts : Desk → ℕ → Result (Option ℕ) AllocError → Desk → Type 0
-Accepts d now (Ok (Some place)) e =
-    IsFree d.seats place × (e ≡ record d { seats = slice_set d.seats place (Some (new_guest d.config now)) })
-Accepts d now (Ok None) e = AreTaken d.seats × (e ≡ d)
-Accepts d now (Err error) e = e ≡ d
+-- a client is given a free place, where its login will be judged by this configuration, or there is none; where memory is refused nothing changes
+abbrev pub Accepts : ServerConfig → Desk → ℕ → Result (Option ℕ) AllocError → Desk → Type 0
+Accepts config d now (Ok (Some place)) e =
+    IsFree d.seats place × (e ≡ record d { seats = slice_set d.seats place (Some (new_guest config now)) })
+Accepts config d now (Ok None) e = AreTaken d.seats × (e ≡ d)
+Accepts config d now (Err error) e = e ≡ d
 
 -- what those who wait are handed at this number: the snapshot of the number that is kept, or else the market's, where there is room for it
 abbrev pub shot_for : ℕ → Seats → Content → ℕ → Option (List ℕ)
@@ -50,7 +49,7 @@ answered d limit count now = answered_with d.following.joining.state.joined d li
 -- a call, with its result; of an answer, how many bytes the snapshots may have, and at how many places it was handed in
 pub data Call (W : Type 0) : Type 0 where
   Feeds : (did : Did W) → Call W
-  Admits : (now : ℕ) (result : Result (Option ℕ) AllocError) → Call W
+  Admits : (config : ServerConfig) (now : ℕ) (result : Result (Option ℕ) AllocError) → Call W
   Hears : (place : ℕ) (piece : List ℕ) (now count : ℕ) → Call W
   Answers : (limit now count : ℕ) → Call W
   Takes : (place count now : ℕ) → Call W
@@ -66,7 +65,7 @@ module _ {W : Type 0} (contents : W → Option (List ℕ)) (failures : W → Fai
   -- what a call makes of a desk
   abbrev pub Step : Desk → Call W → Desk → Type 0
   Step d (Feeds did) e = (f : Following) × Does contents failures d.following did f × (e ≡ record d { following = f })
-  Step d (Admits now result) e = Accepts d now result e
+  Step d (Admits config now result) e = Accepts config d now result e
   Step d (Hears place piece now count) e = (s : Seats) × seating.HearsAt d.seats place piece now count s × (e ≡ record d { seats = s })
   Step d (Answers limit now count) e = e ≡ answered d limit count now
   Step d (Takes place count now) e = (count ≤ length (pending_of (guest_at d.seats place))) × (e ≡ record d { seats = seating.took_at d.seats place count now })
@@ -74,13 +73,13 @@ module _ {W : Type 0} (contents : W → Option (List ℕ)) (failures : W → Fai
   Step d (Leaves place) e = e ≡ record d { seats = slice_set d.seats place None }
 
   -- a desk that was new, after these calls; the latest stands first
-  abbrev pub History : ServerConfig → Following → List (Event W) → Desk → Type 0
-  History config begun [] d = (places : ℕ) × (d ≡ new_desk config begun places)
-  History config begun (x ∷ past) d = Step x.before x.call d × History config begun past x.before
+  abbrev pub History : Following → List (Event W) → Desk → Type 0
+  History begun [] d = (places : ℕ) × (d ≡ new_desk begun places)
+  History begun (x ∷ past) d = Step x.before x.call d × History begun past x.before
 
 -- a client came to this place, or left it
 abbrev pub changes : {W : Type 0} → ℕ → Call W → Bool
-changes k (Admits now (Ok (Some place))) = place == k
+changes k (Admits config now (Ok (Some place))) = place == k
 changes k (Leaves place) = place == k
 changes k other = false
 
@@ -90,7 +89,7 @@ Stays k past = AllByRecursion (λ x. changes k x.call ≡ false) past
 
 -- the bytes that the socket of the present client at this place took
 abbrev pub sent_by : {W : Type 0} → Call W → Desk → ℕ → List ℕ → List ℕ
-sent_by (Admits now (Ok (Some place))) d k so_far = if place == k then [] else so_far
+sent_by (Admits config now (Ok (Some place))) d k so_far = if place == k then [] else so_far
 sent_by (Takes place count now) d k so_far = if place == k then so_far ++ take count (pending_of (guest_at d.seats k)) else so_far
 sent_by (Leaves place) d k so_far = if place == k then [] else so_far
 sent_by other d k so_far = so_far

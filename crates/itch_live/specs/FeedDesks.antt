@@ -2,7 +2,6 @@
 use Rattle.std.specs.Prelude.{◌≡◌, ℕ, ◌-◌, ◌<◌, ◌≤◌, ◌⊎◌, List, [], ◌∷◌, ◌++◌, take, Some, None, Option}
 use Rattle.itch_join.specs.Positions.{Position}
 use Rattle.itch_join.specs.Rules.{Rules, run, bad}
-use Rattle.itch_soup.specs.declared.login.ServerConfig.{ServerConfig}
 use Rattle.itch_soup.specs.declared.packet.LoginRequest.{LoginRequest}
 use Rattle.itch_soup.specs.declared.server.ServerAct.TheVariants as act
 use Rattle.itch_soup.specs.Servers.{judged}
@@ -31,10 +30,10 @@ abbrev pub AreHonest : {W : Type 0} → Rules → List (List ℕ) → List (Even
 AreHonest R feed [] = Unit {0}
 AreHonest R feed (x ∷ past) = IsHonestCall R feed x.before x.call × AreHonest R feed past
 
--- The answer to the login of the present client at this place. It was handed in by one of these calls, after this client's login had come, since when
+-- The answer to the login of the present client at this place, whose visit is this. It was handed in by one of these calls, after this client's login had come, since when
 -- it has stayed at its place, and is the snapshot of the market after exactly the messages of the feed before the one that was the next then, with that
 -- one's number.
-pub record IsFeedAnswer {W : Type 0} (R : Rules) (feed : List (List ℕ)) (config : ServerConfig) (k : ℕ) (past : List (Event W)) (bytes : List ℕ) : Type 0 where
+pub record IsFeedAnswer {W : Type 0} (R : Rules) (feed : List (List ℕ)) (k : ℕ) (past : List (Event W)) (visit : Visit) (bytes : List ℕ) : Type 0 where
   pub later : List (Event W)
   pub at : Event W
   pub before : List (Event W)
@@ -44,7 +43,6 @@ pub record IsFeedAnswer {W : Type 0} (R : Rules) (feed : List (List ℕ)) (confi
   pub count : ℕ
   pub handed : at.call ≡ Answers limit now count
   pub stayed : Stays k later
-  pub visit : Visit
   pub present : visit_at k past ≡ Some visit
   pub earlier : Visit
   pub visiting : visit_at k before ≡ Some earlier
@@ -53,7 +51,7 @@ pub record IsFeedAnswer {W : Type 0} (R : Rules) (feed : List (List ℕ)) (confi
   pub there : guest_at at.before.seats k ≡ Some waiting
   pub login : LoginRequest
   pub asked : waiting.asked ≡ Some login
-  pub accepted : (judged config 0 login).0 ≡ act.Accept 1
+  pub accepted : (judged visit.begun.config 0 login).0 ≡ act.Accept 1
   pub joined : Position
   pub position : at.before.following.joining.state.joined ≡ Some joined
   pub positive : 0 < joined.next
@@ -61,24 +59,25 @@ pub record IsFeedAnswer {W : Type 0} (R : Rules) (feed : List (List ℕ)) (confi
   pub is : bytes ≡ session_bytes (run R (take (joined.next - 1) feed)) joined.next
 
 -- the rejection of a login that the client at this place has sent
-abbrev pub IsRefusalAt : {W : Type 0} → ServerConfig → ℕ → List (Event W) → List ℕ → Type 0
-IsRefusalAt config k past bytes = (visit : Visit) × (visit_at k past ≡ Some visit) × IsRefusal config visit.begun visit.past bytes
+abbrev pub IsRefusalAt : {W : Type 0} → ℕ → List (Event W) → List ℕ → Type 0
+IsRefusalAt k past bytes = (visit : Visit) × (visit_at k past ≡ Some visit) × IsRefusal visit.begun.config visit.begun.now visit.past bytes
 
 -- the acceptance of a login that the client at this place has sent, and heartbeats
-abbrev pub IsGreetingAt : {W : Type 0} → ServerConfig → ℕ → List (Event W) → List ℕ → Type 0
-IsGreetingAt config k past bytes = (visit : Visit) × (visit_at k past ≡ Some visit) × IsGreeting config visit.begun visit.past bytes
+abbrev pub IsGreetingAt : {W : Type 0} → ℕ → List (Event W) → List ℕ → Type 0
+IsGreetingAt k past bytes = (visit : Visit) × (visit_at k past ≡ Some visit) × IsGreeting visit.begun.config visit.begun.now visit.past bytes
 
 -- the same, and then the answer to it
-abbrev pub IsGreetingAndFeedAnswer : {W : Type 0} → Rules → List (List ℕ) → ServerConfig → ℕ → List (Event W) → List ℕ → Type 0
-IsGreetingAndFeedAnswer R feed config k past bytes = (beats : ℕ) × (rest : List ℕ) × IsFeedAnswer R feed config k past rest × (bytes ≡ greeting config beats ++ rest)
+abbrev pub IsGreetingAndFeedAnswer : {W : Type 0} → Rules → List (List ℕ) → ℕ → List (Event W) → List ℕ → Type 0
+IsGreetingAndFeedAnswer R feed k past bytes =
+    (visit : Visit) × (beats : ℕ) × (rest : List ℕ) × IsFeedAnswer R feed k past visit rest × (bytes ≡ greeting visit.begun.config beats ++ rest)
 
 -- what a client is told in all: nothing, the rejection of its login, its acceptance and heartbeats, or those and then the answer to it
-abbrev pub IsToldOfFeed : {W : Type 0} → Rules → List (List ℕ) → ServerConfig → ℕ → List (Event W) → List ℕ → Type 0
-IsToldOfFeed R feed config k past bytes = (bytes ≡ []) ⊎ IsRefusalAt config k past bytes ⊎ IsGreetingAt config k past bytes ⊎ IsGreetingAndFeedAnswer R feed config k past bytes
+abbrev pub IsToldOfFeed : {W : Type 0} → Rules → List (List ℕ) → ℕ → List (Event W) → List ℕ → Type 0
+IsToldOfFeed R feed k past bytes = (bytes ≡ []) ⊎ IsRefusalAt k past bytes ⊎ IsGreetingAt k past bytes ⊎ IsGreetingAndFeedAnswer R feed k past bytes
 
 -- what was sent is the beginning of that, and no more
-abbrev pub IsSentOfFeed : {W : Type 0} → Rules → List (List ℕ) → ServerConfig → ℕ → List (Event W) → List ℕ → Type 0
-IsSentOfFeed R feed config k past sent = (bytes : List ℕ) × IsToldOfFeed R feed config k past bytes × IsBeginning sent bytes
+abbrev pub IsSentOfFeed : {W : Type 0} → Rules → List (List ℕ) → ℕ → List (Event W) → List ℕ → Type 0
+IsSentOfFeed R feed k past sent = (bytes : List ℕ) × IsToldOfFeed R feed k past bytes × IsBeginning sent bytes
 
 -- once there is a market, there is one from then on, of no fewer messages
 abbrev pub GoesOn : Option Position → Option Position → Type 0

@@ -10,6 +10,7 @@ use Rattle.itch_join.specs.States.{State, is_number}
 use Rattle.itch_join.specs.Steps.{snapshot_case}
 use Rattle.itch_join.specs.Deliveries.{Event, History, IsOfFeed}
 use Rattle.itch_join.specs.Stands.{Stands}
+use Rattle.itch_soup.specs.declared.login.Credentials.{Credentials}
 use Rattle.itch_soup.specs.declared.client.ClientAct.{ClientAct}
 use Rattle.itch_soup.specs.declared.client.ClientAct.TheVariants as act
 use Rattle.itch_soup.specs.Clients.{Client}
@@ -18,9 +19,9 @@ use Rattle.itch_live.specs.declared.news.Source.TheVariants as source
 use Rattle.itch_live.specs.declared.news.News.{News}
 use Rattle.itch_live.specs.Follows.{Following, connected, ticked, Means, HearsFeed}
 
--- what a caller does: it begins a connection, lets time pass, or hands in bytes, with the result and the record before and after
+-- what a caller does: it begins a connection with a login, lets time pass, or hands in bytes, with the result and the record before and after
 pub data Did (W : Type 0) : Type 0 where
-  Connects : (now : ℕ) → Did W
+  Connects : (credentials : Credentials) (now : ℕ) → Did W
   Ticks : (now : ℕ) → Did W
   Hears : (piece : List ℕ) (now : ℕ) (result : ℕ × News) (old new : W) → Did W
 
@@ -35,7 +36,7 @@ FitsAct R feed f other = Unit {0}
 
 -- the premise on servers: what a packet that is heard means is of the feed
 abbrev pub IsHonest : {W : Type 0} → Rules → List (List ℕ) → Following → Did W → Type 0
-IsHonest R feed f (Connects now) = Unit {0}
+IsHonest R feed f (Connects credentials now) = Unit {0}
 IsHonest R feed f (Ticks now) = Unit {0}
 IsHonest R feed f (Hears piece now result old new) =
     (held payload : List ℕ) (answer : ClientAct) (named : Option (List ℕ)) (t : Client) → IsTake f.held piece result.0 held → IsBlockOf payload held
@@ -51,7 +52,7 @@ pub record IsJoining (set : Wanted) (cap : ℕ) (feed : List (List ℕ)) (f : Fo
 module _ {W : Type 0} (contents : W → Option (List ℕ)) (failures : W → Failures) where
   -- what a call makes of it
   abbrev pub Does : Following → Did W → Following → Type 0
-  Does f (Connects now) g = g ≡ connected f now
+  Does f (Connects credentials now) g = g ≡ connected f credentials now
   Does f (Ticks now) g = g ≡ ticked f now
   Does f (Hears piece now result old new) g = HearsFeed contents failures f piece now old result new g
 

@@ -31,10 +31,9 @@ use Rattle.itch_live.specs.declared.news.News.TheVariants as news
 use Rattle.itch_live.specs.declared.sessions.Sessions.{Sessions}
 use Rattle.itch_live.specs.Sessions.{expected, other_name, known_after}
 
--- what follows a feed: whom it logs in as, the sessions that are known by name, what it is connected to, the bytes held of an unfinished packet,
+-- what follows a feed: the sessions that are known by name, what it is connected to, the bytes held of an unfinished packet,
 -- its session, and its joiner
 pub record Following : Type 0 where
-  pub credentials : Credentials
   pub sessions : Sessions
   pub source : Source
   pub held : List ℕ
@@ -42,7 +41,7 @@ pub record Following : Type 0 where
   pub joining : Joining
 
 abbrev pub new_following : Credentials → Sessions → Joining → ℕ → Following
-new_following credentials known joining now = record { credentials = credentials; sessions = known; source = source.Live; held = []; session = new_client credentials 0 now; joining = joining }
+new_following credentials known joining now = record { sessions = known; source = source.Live; held = []; session = new_client credentials 0 now; joining = joining }
 
 -- while there is no market the whole of a snapshot is asked for, and from then on the feed's messages from the next number on
 abbrev pub source_for : Option Position → Source
@@ -78,14 +77,13 @@ abbrev pub shut_if : Option (List ℕ) → Client → ℕ → Client
 shut_if None s now = s
 shut_if (Some other) s now = client_after_packet s is.EndOfSession now
 
--- a connection is begun: what was heard of an unfinished packet and of an unfinished snapshot is dropped
-abbrev pub connected : Following → ℕ → Following
-connected f now = record {
-  credentials = f.credentials;
+-- a connection is begun, with this login: what was heard of an unfinished packet and of an unfinished snapshot is dropped
+abbrev pub connected : Following → Credentials → ℕ → Following
+connected f credentials now = record {
   sessions = f.sessions;
   source = source_for f.joining.state.joined;
   held = [];
-  session = new_client (asking f.credentials (expected f.sessions (source_for f.joining.state.joined))) (asked_from f.joining.state.joined) now;
+  session = new_client (asking credentials (expected f.sessions (source_for f.joining.state.joined))) (asked_from f.joining.state.joined) now;
   joining = record { cap = f.joining.cap; set = f.joining.set; state = restarted f.joining.state.joined f.joining.state };
 }
 
@@ -160,7 +158,7 @@ module _ {W : Type 0} (contents : W → Option (List ℕ)) (failures : W → Fai
   abbrev pub HearsHeld : Following → List ℕ → ℕ → W → News → W → Following → Type 0
   HearsHeld f held now record_old told record_new g =
       ((payload : List ℕ) × IsBlockOf payload held × HearsPacket f.source f.sessions f.session f.joining payload now record_old (told, g.sessions) record_new g.session g.joining
-      × (g.credentials ≡ f.credentials) × (g.source ≡ f.source) × (g.held ≡ []))
+      × (g.source ≡ f.source) × (g.held ≡ []))
       ⊎ ((IsBlock held → ⊥) × (told ≡ news.Nothing) × (record_new ≡ record_old) × (g ≡ record f { held = held }))
 
   -- some bytes of a piece of the feed are heard

@@ -16,7 +16,7 @@ use Rattle.itch_live.specs.Feeds.{Did, Connects, Hears, Does}
 
 -- no connection is begun
 abbrev pub StaysConnected : {W : Type 0} → Did W → Type 0
-StaysConnected (Connects now) = ⊥
+StaysConnected (Connects credentials now) = ⊥
 StaysConnected other = Unit {0}
 
 module _ {W : Type 0} (contents : W → Option (List ℕ)) (failures : W → Failures) where

@@ -17,7 +17,7 @@ IsWritten other = Unit {0}
 -- there is one record, which each call is given as the one before it left it, and no write to it failed
 abbrev pub IsOneRecord : {W : Type 0} → W → List (Did W) → W → Type 0
 IsOneRecord begun [] record_now = record_now ≡ begun
-IsOneRecord begun (Connects now ∷ past) record_now = IsOneRecord begun past record_now
+IsOneRecord begun (Connects credentials now ∷ past) record_now = IsOneRecord begun past record_now
 IsOneRecord begun (Ticks now ∷ past) record_now = IsOneRecord begun past record_now
 IsOneRecord begun (Hears piece now result old new ∷ past) record_now = (record_now ≡ new) × IsWritten result.1 × IsOneRecord begun past old
 
@@ -27,7 +27,7 @@ joined_in (news.Joined next) = Some next
 joined_in other = None
 
 abbrev pub joined_by : {W : Type 0} → Did W → Option ℕ
-joined_by (Connects now) = None
+joined_by (Connects credentials now) = None
 joined_by (Ticks now) = None
 joined_by (Hears piece now result old new) = joined_in result.1
 

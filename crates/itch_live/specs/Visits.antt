@@ -7,9 +7,14 @@ use Rattle.itch_live.specs.Stories as stories
 use Rattle.itch_live.specs.Stories.{Happening, Story}
 use Rattle.itch_live.specs.Desks.{Desk, shot_for, Call, Feeds, Admits, Hears, Answers, Takes, Ticks, Leaves, Event}
 
--- when a client came, and what has happened to it since; the latest stands first
+-- how a client came: by which configuration its login is judged, and when
+pub record Arrival : Type 0 where
+  pub config : ServerConfig
+  pub now : ℕ
+
+-- how a client came, and what has happened to it since; the latest stands first
 pub record Visit : Type 0 where
-  pub begun : ℕ
+  pub begun : Arrival
   pub past : List Happening
 
 abbrev pub with : Happening → Option Visit → Option Visit
@@ -24,9 +29,9 @@ answers (Some j) d limit here now visit = if is_some (shot_for limit d.seats j.m
 -- Of a call at another place nothing is seen.
 abbrev pub visit_by : {W : Type 0} → Call W → Desk → ℕ → Option Visit → Option Visit
 visit_by (Feeds did) d k visit = visit
-visit_by (Admits now (Ok (Some place))) d k visit = if place == k then Some (record { begun = now; past = [] }) else visit
-visit_by (Admits now (Ok None)) d k visit = visit
-visit_by (Admits now (Err error)) d k visit = visit
+visit_by (Admits config now (Ok (Some place))) d k visit = if place == k then Some (record { begun = record { config = config; now = now }; past = [] }) else visit
+visit_by (Admits config now (Ok None)) d k visit = visit
+visit_by (Admits config now (Err error)) d k visit = visit
 visit_by (Hears place piece now count) d k visit = if place == k then with (stories.Hears piece now count) visit else visit
 visit_by (Answers limit now count) d k visit = answers d.following.joining.state.joined d limit (nat_lt k count) now visit
 visit_by (Takes place count now) d k visit = if place == k then with (stories.Takes count now) visit else visit
@@ -39,7 +44,7 @@ visit_at k [] = None
 visit_at k (x ∷ past) = visit_by x.call x.before k (visit_at k past)
 
 -- the client of a visit is the one that it makes, and was sent these bytes, as if there were no other client; where there is none, nothing was sent
-abbrev pub IsVisit : ServerConfig → Option Visit → Option Guest → List ℕ → Type 0
-IsVisit config None None sent = sent ≡ []
-IsVisit config (Some v) (Some g) sent = Story config v.begun v.past g sent
-IsVisit config visit seat sent = ⊥
+abbrev pub IsVisit : Option Visit → Option Guest → List ℕ → Type 0
+IsVisit None None sent = sent ≡ []
+IsVisit (Some v) (Some g) sent = Story v.begun.config v.begun.now v.past g sent
+IsVisit visit seat sent = ⊥

@@ -29,7 +29,6 @@ use std::rc::Rc;
 #[derive(Drop)]
 pub struct Desk<B: OrderBook> {
     alloc: B::Alloc,
-    config: ServerConfig,
     follower: Follower<B>,
     seats: Vec<Seat<B::Alloc>, B::Alloc>,
 }
@@ -43,7 +42,7 @@ impl<B: OrderBook> Model for Desk<B> {
 
     ghost coded = { Prim.hlevel (codes, map.code) };
 
-    ghost view = { λ d. record { config = d.config; following = d.follower; seats = d.seats.items } };
+    ghost view = { λ d. record { following = d.follower; seats = d.seats.items } };
 }
 
 impl<B: OrderBook> Desk<B> {
@@ -51,15 +50,13 @@ impl<B: OrderBook> Desk<B> {
     /// [`Desk::admit`].
     pub fn new(
         alloc: B::Alloc,
-        config: ServerConfig,
         follower: Follower<B>,
         clients: usize,
     ) -> Result<Desk<B>, AllocError>
-        ensures { IfOk result (λ d. d ≡ desks.new_desk config follower clients) }
+        ensures { IfOk result (λ d. d ≡ desks.new_desk follower clients) }
     {
         Ok(Desk {
             alloc,
-            config,
             follower,
             seats: free_places(alloc, clients)?,
         })
@@ -80,15 +77,16 @@ impl<B: OrderBook> Desk<B> {
         &mut self.follower
     }
 
-    /// Gives a client that has connected a free place, and returns its number; `None` where there is none.
-    pub fn admit(&mut self, now_ms: u64) -> Result<Option<usize>, AllocError>
-        ensures accepts { desks.Accepts self.old now_ms result self.new }
+    /// Gives a client that has connected a free place, where its login will be judged by this configuration, and returns its number;
+    /// `None` where there is none.
+    pub fn admit(&mut self, config: ServerConfig, now_ms: u64) -> Result<Option<usize>, AllocError>
+        ensures accepts { desks.Accepts config self.old now_ms result self.new }
         ensures refused { OnErr result ((place : ℕ) × places.IsFree self.old.seats place) }
     {
         let Some(place) = free_place(&self.seats) else {
             return Ok(None);
         };
-        let guest = Guest::new(self.alloc, self.config, now_ms)?;
+        let guest = Guest::new(self.alloc, config, now_ms)?;
         self.seats[place] = Some(guest);
         Ok(Some(place))
     }

@@ -24,7 +24,6 @@ use std::marker::Model;
 /// that the first acceptance names, whether it is the feed's or that of a server of snapshots.
 #[derive(Drop)]
 pub struct Follower<B: OrderBook> {
-    credentials: Credentials,
     sessions: Sessions,
     source: Source,
     splitter: Splitter<B::Alloc>,
@@ -41,7 +40,7 @@ impl<B: OrderBook> Model for Follower<B> {
 
     ghost coded = { Prim.hlevel (codes, map.code) };
 
-    ghost view = { λ f. record { credentials = f.credentials; sessions = f.sessions; source = f.source; held = f.splitter; session = f.session; joining = f.joiner } };
+    ghost view = { λ f. record { sessions = f.sessions; source = f.source; held = f.splitter; session = f.session; joining = f.joiner } };
 }
 
 impl<B: OrderBook> Follower<B> {
@@ -57,7 +56,6 @@ impl<B: OrderBook> Follower<B> {
         ensures { IfOk result (λ f. f ≡ follows.new_following credentials sessions joiner now_ms) }
     {
         Ok(Follower {
-            credentials,
             sessions,
             source: Source::Live,
             splitter: Splitter::new(alloc)?,
@@ -66,18 +64,18 @@ impl<B: OrderBook> Follower<B> {
         })
     }
 
-    /// Begins a connection at this moment, and returns the login to send, without the length in front. While there is no
+    /// Begins a connection at this moment with these credentials, and returns the login to send, without the length in front. While there is no
     /// market it asks for the whole of a snapshot, which is read from its beginning, and from then on for the messages of the
     /// feed from the next number on.
-    pub fn connect(&mut self, now_ms: u64) -> [u8; 47]
-        ensures after { self.new ≡ follows.connected self.old now_ms }
+    pub fn connect(&mut self, credentials: Credentials, now_ms: u64) -> [u8; 47]
+        ensures after { self.new ≡ follows.connected self.old credentials now_ms }
         ensures login { result ≡ packet_spelling (Packet.LoginRequest (login_of self.new.session)) }
     {
         let (source, next) = match self.joiner.next() {
             Some(next) => (Source::Live, next.min(GREATEST_SEQ)),
             None => (Source::Glimpse, 1),
         };
-        let credentials = asking(self.credentials, self.sessions.expected(source));
+        let credentials = asking(credentials, self.sessions.expected(source));
         self.joiner.restart();
         self.source = source;
         self.splitter.clear();

@@ -51,10 +51,10 @@ pub fn market_of_the_feed<W: CountedWrite>()
 /// What becomes of a client at a desk, and what it is sent, is what would become of it alone: a call for another client is no
 /// part of its visit. And that alone decides what it is sent, at whichever desk and place.
 pub fn clients_apart<W: CountedWrite>()
-    ensures alone { (config : ServerConfig) → (begun : Following) → (past : List (Event W)) → (d : Desk) → (k : ℕ) → History W.contents W.failures config begun past d
-        → IsVisit config (visit_at k past) (guest_at d.seats k) (sent_at k past) }
-    ensures decides { (config : ServerConfig) → (begun start : Following) → (past other : List (Event W)) → (d e : Desk) → (k i : ℕ)
-        → History W.contents W.failures config begun past d → History W.contents W.failures config start other e
+    ensures alone { (begun : Following) → (past : List (Event W)) → (d : Desk) → (k : ℕ) → History W.contents W.failures begun past d
+        → IsVisit (visit_at k past) (guest_at d.seats k) (sent_at k past) }
+    ensures decides { (begun start : Following) → (past other : List (Event W)) → (d e : Desk) → (k i : ℕ)
+        → History W.contents W.failures begun past d → History W.contents W.failures start other e
         → visit_at k past ≡ visit_at i other → sent_at k past ≡ sent_at i other }
 {}
 
@@ -62,8 +62,8 @@ pub fn clients_apart<W: CountedWrite>()
 /// if the snapshot of its number is kept, or there is room for one more in the bytes that are allowed: with the snapshot of the
 /// market of that moment. No other client can change that.
 pub fn who_waits_is_answered<W: CountedWrite>()
-    ensures { (config : ServerConfig) → (begun : Following) → (past : List (Event W)) → (at : Event W) → (d : Desk) → (limit now count k : ℕ) → (j : Position) → (g : Guest)
-        → History W.contents W.failures config begun (at ∷ past) d → at.call ≡ Answers limit now count → length at.before.seats ≤ count → at.before.following.joining.state.joined ≡ Some j
+    ensures { (begun : Following) → (past : List (Event W)) → (at : Event W) → (d : Desk) → (limit now count k : ℕ) → (j : Position) → (g : Guest)
+        → History W.contents W.failures begun (at ∷ past) d → at.call ≡ Answers limit now count → length at.before.seats ≤ count → at.before.following.joining.state.joined ≡ Some j
         → HasRoom limit at.before j → guest_at at.before.seats k ≡ Some g → is_waiting g ≡ true → guest_at d.seats k ≡ Some (answered g (session_bytes j.market j.next) j.next now) }
 {}
 
@@ -90,14 +90,14 @@ pub fn same_answers()
 
 /// A desk's market never goes back: what was there when a login came is in each snapshot that is handed in after it.
 pub fn market_goes_on<W: CountedWrite>()
-    ensures { (config : ServerConfig) → (begun : Following) → (later : List (Event W)) → (at : Event W) → (before : List (Event W)) → (d : Desk)
-        → History W.contents W.failures config begun (later ++ at ∷ before) d → GoesOn at.before.following.joining.state.joined d.following.joining.state.joined }
+    ensures { (begun : Following) → (later : List (Event W)) → (at : Event W) → (before : List (Event W)) → (d : Desk)
+        → History W.contents W.failures begun (later ++ at ∷ before) d → GoesOn at.before.following.joining.state.joined d.following.joining.state.joined }
 {}
 
 /// Once the session of a desk's feed is known, it stays the same.
 pub fn session_stays<W: CountedWrite>()
-    ensures { (config : ServerConfig) → (begun : Following) → (later : List (Event W)) → (at : Event W) → (before : List (Event W)) → (d : Desk) → (session : List ℕ)
-        → History W.contents W.failures config begun (later ++ at ∷ before) d → at.before.following.sessions.feed ≡ Some session → d.following.sessions.feed ≡ Some session }
+    ensures { (begun : Following) → (later : List (Event W)) → (at : Event W) → (before : List (Event W)) → (d : Desk) → (session : List ℕ)
+        → History W.contents W.failures begun (later ++ at ∷ before) d → at.before.following.sessions.feed ≡ Some session → d.following.sessions.feed ≡ Some session }
 {}
 
 /// What follows a feed takes a message, and its market changes, only in a connection whose login a server has accepted in the name
@@ -109,8 +109,8 @@ pub fn taken_in_session<W: CountedWrite>()
 
 /// A desk has the places that it was made with, so there are never more clients, nor more snapshots kept for them, than those.
 pub fn places_stay<W: CountedWrite>()
-    ensures { (config : ServerConfig) → (begun : Following) → (later : List (Event W)) → (at : Event W) → (before : List (Event W)) → (d : Desk)
-        → History W.contents W.failures config begun (later ++ at ∷ before) d → length d.seats ≡ length at.before.seats }
+    ensures { (begun : Following) → (later : List (Event W)) → (at : Event W) → (before : List (Event W)) → (d : Desk)
+        → History W.contents W.failures begun (later ++ at ∷ before) d → length d.seats ≡ length at.before.seats }
 {}
 
 /// Where no message may wait out of order, and no write to the record fails, what is added to it are exactly the blocks of the
@@ -126,19 +126,19 @@ pub fn record_of_the_feed<W: CountedWrite>()
 /// messages of the feed, the End of Snapshot with n + 1, and the end of the session, for an n at which the feed stood once this
 /// client's login had come.
 pub fn snapshots_of_the_feed<W: CountedWrite>()
-    ensures only { (set : Wanted) → (cap : ℕ) → (feed : List (List ℕ)) → (config : ServerConfig) → (begun : Following) → (past : List (Event W)) → (d : Desk) → (k : ℕ)
-        → AllByRecursion AreBytes feed → IsJoining set cap feed begun → History W.contents W.failures config begun past d → AreHonest (rules_of (has set)) feed past
-        → IsSentOfFeed (rules_of (has set)) feed config k past (sent_at k past) }
-    ensures market { (set : Wanted) → (cap : ℕ) → (feed : List (List ℕ)) → (config : ServerConfig) → (begun : Following) → (past : List (Event W)) → (d : Desk) → (k : ℕ)
-        → ((locate : ℕ) → has set locate ≡ true) → AllByRecursion AreBytes feed → IsJoining set cap feed begun → History W.contents W.failures config begun past d
-        → AreHonest market_rules feed past → IsSentOfFeed market_rules feed config k past (sent_at k past) }
+    ensures only { (set : Wanted) → (cap : ℕ) → (feed : List (List ℕ)) → (begun : Following) → (past : List (Event W)) → (d : Desk) → (k : ℕ)
+        → AllByRecursion AreBytes feed → IsJoining set cap feed begun → History W.contents W.failures begun past d → AreHonest (rules_of (has set)) feed past
+        → IsSentOfFeed (rules_of (has set)) feed k past (sent_at k past) }
+    ensures market { (set : Wanted) → (cap : ℕ) → (feed : List (List ℕ)) → (begun : Following) → (past : List (Event W)) → (d : Desk) → (k : ℕ)
+        → ((locate : ℕ) → has set locate ≡ true) → AllByRecursion AreBytes feed → IsJoining set cap feed begun → History W.contents W.failures begun past d
+        → AreHonest market_rules feed past → IsSentOfFeed market_rules feed k past (sent_at k past) }
 {}
 
 /// A desk keeps the snapshots that its clients are sent, by the numbers of the next messages at which they were encoded: one that is
 /// kept under the number of the present market is its snapshot.
 pub fn snapshots_kept<W: CountedWrite>()
-    ensures { (config : ServerConfig) → (begun : Following) → (past : List (Event W)) → (d : Desk) → (j : Position) → (bytes : List ℕ)
-        → History W.contents W.failures config begun past d → d.following.joining.state.joined ≡ Some j → kept_bytes d.seats j.next ≡ Some bytes → bytes ≡ session_bytes j.market j.next }
+    ensures { (begun : Following) → (past : List (Event W)) → (d : Desk) → (j : Position) → (bytes : List ℕ)
+        → History W.contents W.failures begun past d → d.following.joining.state.joined ≡ Some j → kept_bytes d.seats j.next ≡ Some bytes → bytes ≡ session_bytes j.market j.next }
 {}
 
 /// What a desk holds beside the market of its feed and the words of its places: at most 65,537 bytes for the feed and for each
@@ -146,10 +146,10 @@ pub fn snapshots_kept<W: CountedWrite>()
 /// handed in, if these are more. That one has at most 43 bytes for each of its messages, and 128 for the rest. All this holds where
 /// the markets and their numbers are what the types of these say.
 pub fn memory_of_a_desk<W: CountedWrite>()
-    ensures held { (config : ServerConfig) → (begun : Following) → (past : List (Event W)) → (d : Desk) → AreOfMarkets past
-        → History W.contents W.failures config begun past d → held_bytes d ≤ most_bytes (length d.seats) (max (largest_limit past) (longest past)) }
-    ensures snapshots { (config : ServerConfig) → (begun : Following) → (past : List (Event W)) → (d : Desk) → AreOfMarkets past
-        → History W.contents W.failures config begun past d → longest past ≤ 43 * most_messages past + 128 }
+    ensures held { (begun : Following) → (past : List (Event W)) → (d : Desk) → AreOfMarkets past
+        → History W.contents W.failures begun past d → held_bytes d ≤ most_bytes (length d.seats) (max (largest_limit past) (longest past)) }
+    ensures snapshots { (begun : Following) → (past : List (Event W)) → (d : Desk) → AreOfMarkets past
+        → History W.contents W.failures begun past d → longest past ≤ 43 * most_messages past + 128 }
 {}
 
 /// Whatever happens to a client of a played feed, in whatever order, and however little its socket takes at a time: what it was

@@ -8,7 +8,7 @@ use Rattle.itch_commands.specs.declared.fault.ToolFault.TheVariants as tool
 use Rattle.itchsnap_live.specs.SessionFaults.{session_status}
 use Rattle.itchsnap_live.specs.declared.session_fault.SessionFault.TheVariants as session_fault
 use Rattle.itch_tool.specs.declared.failure.Failure.{Failure}
-use Rattle.itch_tool.specs.declared.failure.Failure.TheVariants.{Command, Session, Open, Checkpoint, Said}
+use Rattle.itch_tool.specs.declared.failure.Failure.TheVariants.{Command, Session, Open, Checkpoint, Users, Said}
 
 -- the status of a failure
 abbrev pub failure_status : Failure → ℕ
@@ -16,6 +16,7 @@ failure_status (Command fault checkpoint) = status_of fault
 failure_status (Session fault) = session_status fault
 failure_status (Open name error) = 3
 failure_status (Checkpoint why detail) = 1
+failure_status (Users path fault) = 2
 failure_status (Said status) = status
 
 -- the status of a job: that of its answer, or of its failure

@@ -104,6 +104,10 @@ fn say<R: Files + Eprint + AllocGlobal>(
             let feed = names.files.subject(Source::Only);
             say_unfit(rt, *why, detail.as_str(), feed, beginning)
         }
+        Failure::Users { path, fault } => {
+            rt.eprintln("itchsnap: bad users")?;
+            eprintln!(rt; "  {path}: {fault}")
+        }
         Failure::Said { .. } => Ok(()),
     }
 }

@@ -4,7 +4,7 @@ ghost use Rattle.itch_tool.specs.Endings.{failure_status};
 
 use itch_commands::ToolFault;
 use itch_commands::snap::Unfit;
-use itchsnap_live::SessionFault;
+use itchsnap_live::{LoginsFault, SessionFault};
 use std::alloc::{AllocError, Global};
 use std::io::{self, ErrorKind};
 
@@ -27,6 +27,11 @@ pub enum Failure {
     Checkpoint {
         why: Unfit,
         detail: String,
+    },
+    /// The file of users of this path is wrong.
+    Users {
+        path: String,
+        fault: LoginsFault,
     },
     /// What follows a feed has ended with this status, and its lines are said.
     Said {
@@ -55,6 +60,7 @@ impl Failure {
             Failure::Session(fault) => fault.status(),
             Failure::Open { .. } => 3,
             Failure::Checkpoint { .. } => 1,
+            Failure::Users { .. } => 2,
             Failure::Said { status } => *status,
         }
     }

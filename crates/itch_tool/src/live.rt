@@ -2,14 +2,14 @@
 
 use crate::explaining::said;
 use crate::failure::Failure;
-use crate::sockets::read_login;
+use crate::password::{read_account, read_users};
 use itch_frame::Counted;
 use itch_live::Sessions;
 use itchsnap_cli::words::{FeedWords, FollowWords, LiveWords, session_of_file};
-use itchsnap_live::sessions::{PIECE, Sending, current_session};
+use itchsnap_live::sessions::{PIECE, Sending};
 use itchsnap_live::{
-    Following, Names, Place, Playing, Servers, Serving, SessionFault, follow_feed, play_feed,
-    serve_live,
+    Accounts, Following, Names, Place, Playing, Servers, Serving, SessionFault, follow_feed,
+    play_feed, serve_live,
 };
 use std::fs::File;
 use std::io::{self, BufWriter};
@@ -21,16 +21,16 @@ pub fn run_live<R>(rt: &R, words: &LiveWords<'_>) -> Result<bool, Failure>
 where
     R: Net + Clock + Files<File = File> + Print + Eprint + AllocGlobal,
 {
-    let login = read_login(rt, &words.login)?;
-    let own = read_login(rt, &words.feed_login)?;
+    let accounts = Accounts {
+        users: read_users(rt, words.users)?,
+        own: read_account(rt, words.feed_login)?,
+    };
     let servers = Servers {
         feeds: words.feeds,
         glimpse: words.glimpse,
     };
     let serving = Serving {
         address: words.address,
-        login,
-        credentials: own.credentials(current_session()),
         session: words.session,
         glimpse_session: words.glimpse_session,
         clients: places(words.clients),
@@ -48,7 +48,7 @@ where
     said(
         rt,
         live_names(words),
-        serve_live(rt, servers, &serving, &mut out),
+        serve_live(rt, servers, &serving, accounts, &mut out),
     )
 }
 
@@ -61,7 +61,7 @@ pub fn run_follow<R>(rt: &R, words: &FollowWords<'_>) -> Result<bool, Failure>
 where
     R: Net + Clock + Files<File = File> + Print + Eprint + AllocGlobal,
 {
-    let login = read_login(rt, &words.login)?;
+    let account = read_account(rt, words.login)?;
     look_up(rt, words.feeds.first)?;
     look_up(rt, words.glimpse)?;
     let servers = Servers {
@@ -69,7 +69,6 @@ where
         glimpse: Some(words.glimpse),
     };
     let following = Following {
-        credentials: login.credentials(current_session()),
         sessions: Sessions {
             feed: words.session,
             glimpse: words.glimpse_session,
@@ -79,7 +78,8 @@ where
     let Ok(buffered) = BufWriter::with_capacity(rt.alloc(), PIECE, io::writer(rt)) else {
         return Err(Failure::Session(SessionFault::OutOfMemory));
     };
-    let followed = follow_feed(rt, servers, &following, &mut Sending::new(buffered));
+    let out = &mut Sending::new(buffered);
+    let followed = follow_feed(rt, servers, &following, account, out);
     said(rt, follow_names(words), followed)
 }
 
@@ -88,17 +88,17 @@ pub fn run_feed<R>(rt: &R, words: &FeedWords<'_>) -> Result<bool, Failure>
 where
     R: Net + Clock + Files<File = File> + Print + Eprint + AllocGlobal,
 {
-    let login = read_login(rt, &words.login)?;
+    let users = read_users(rt, words.users)?;
     let playing = Playing {
         path: words.file,
         address: words.address,
-        config: login.config(words.session.unwrap_or(session_of_file(words.file))),
+        session: words.session.unwrap_or(session_of_file(words.file)),
         pace: words.pace,
         count: words.count,
         stay: words.stay,
     };
     let mut out = Counted::new(io::writer(rt));
-    Ok(play_feed(rt, &playing, &mut out)?)
+    Ok(play_feed(rt, &playing, users, &mut out)?)
 }
 
 // Looks up the name of a server: one that cannot be found at the start ends what follows a feed.

@@ -1,11 +1,12 @@
-//! The password of a login: a word, the first line of a file, or a variable of the environment.
+//! The logins of the command line, whose passwords are words, lines of a file, or a variable of the environment.
 
 use crate::failure::Failure;
-use itchsnap_cli::words::Password;
+use itchsnap_cli::words::{LoginWords, Password, UserWords};
 use itchsnap_live::sessions::first_line;
+use itchsnap_live::{LoginSource, Logins, LoginsFault};
 use std::alloc::AllocError;
 use std::env::{self, Env, VarError};
-use std::fs;
+use std::fs::{self, File};
 use std::io::{self, Read};
 use std::rt::Files;
 
@@ -18,6 +19,46 @@ pub fn password_of_environment<R: Env + AllocGlobal>(rt: &R) -> Result<Option<St
         Ok(password) => Ok(Some(password)),
         Err(VarError::OutOfMemory) => Err(AllocError),
         Err(VarError::NotPresent | VarError::NotUnicode) => Ok(None),
+    }
+}
+
+/// The users of a server.
+pub fn read_users<'a, R: Files<File = File> + AllocGlobal>(
+    rt: &R,
+    users: UserWords<'a>,
+) -> Result<Logins<'a>, Failure> {
+    match users {
+        UserWords::One(login) => read_account(rt, login),
+        UserWords::Listed(path) => read_logins(rt, LoginSource::UserFile { path }),
+    }
+}
+
+/// One login.
+pub fn read_account<'a, R: Files<File = File> + AllocGlobal>(
+    rt: &R,
+    login: LoginWords<'a>,
+) -> Result<Logins<'a>, Failure> {
+    let user = login.user;
+    let source = match login.password {
+        Password::Word(password) => LoginSource::Words { user, password },
+        Password::File(path) => LoginSource::PasswordFile { user, path },
+    };
+    read_logins(rt, source)
+}
+
+fn read_logins<'a, R: Files<File = File> + AllocGlobal>(
+    rt: &R,
+    source: LoginSource<'a>,
+) -> Result<Logins<'a>, Failure> {
+    let path = source.path().unwrap_or("");
+    match Logins::read(rt, source) {
+        Ok(logins) => Ok(logins),
+        Err(LoginsFault::Open(error)) => Err(Failure::open(rt.alloc(), path, error)),
+        Err(LoginsFault::Login(fault)) => Err(Failure::Session(fault)),
+        Err(fault) => Err(Failure::Users {
+            path: String::from_str(rt.alloc(), path)?,
+            fault,
+        }),
     }
 }
 

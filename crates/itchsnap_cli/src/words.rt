@@ -30,4 +30,4 @@ pub use completions::{Completions, Shell};
 pub use job::{Job, read_job};
 pub use live::{FeedWords, FollowWords, LiveWords};
 pub use points::{PointWords, Points};
-pub use session::{LoginWords, Password, Server, session_of_file};
+pub use session::{LoginWords, Password, Server, UserWords, session_of_file};

@@ -2,6 +2,7 @@ pub mod Budgets
 pub mod Departures
 pub mod FeedLines
 pub mod LiveFaults
+pub mod LoginFiles
 pub mod Logins
 pub mod Openings
 pub mod Outputs
@@ -17,4 +18,5 @@ pub mod Sessions
 pub mod Sides
 pub mod Sockets
 pub mod Steps
+pub mod Users
 pub mod Watching

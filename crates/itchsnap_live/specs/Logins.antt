@@ -1,5 +1,6 @@
 -- The user name and the password of the command line.
-use Rattle.std.specs.Prelude.{◌≡◌, ℕ, ◌≤◌, List, length, Result, Ok, Err}
+use Rattle.std.specs.Prelude.{◌≡◌, ℕ, ◌+◌, ◌==◌, ◌≤◌, Bool, List, length, Result, Ok, Err, if◌then◌else◌}
+use Rattle.std.specs.List.{position_or_len, before_first}
 use Rattle.itch_codec.specs.Text.{IsPrintable, padded_to}
 use Rattle.itchsnap_live.specs.declared.session_fault.SessionFault.{SessionFault}
 use Rattle.itchsnap_live.specs.declared.session_fault.SessionFault.TheVariants as session_fault
@@ -16,3 +17,10 @@ ReadsLogin user password (Ok login) =
 ReadsLogin user password (Err session_fault.BadUser) = ¬ IsWord 6 user
 ReadsLogin user password (Err session_fault.BadPassword) = IsWord 6 user × (¬ IsWord 10 password)
 ReadsLogin user password (Err fault) = ⊥
+
+abbrev pub is_return : ℕ → Bool
+is_return byte = byte == 13
+
+-- a line without the carriage return at its end, if that is its only one
+abbrev pub without_return : List ℕ → List ℕ
+without_return line = if position_or_len is_return line + 1 == length line then before_first is_return line else line

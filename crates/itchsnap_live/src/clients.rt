@@ -128,10 +128,11 @@ impl Clients {
         let Arrival {
             link,
             address,
+            config,
             words,
         } = arrival;
         let mut link = link;
-        let Ok(Some(place)) = desk.admit(now_ms) else {
+        let Ok(Some(place)) = desk.admit(config, now_ms) else {
             return reception.write_down(link.number(), Departure::Fault);
         };
         if link

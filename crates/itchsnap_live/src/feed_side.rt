@@ -3,10 +3,12 @@
 use crate::fault::LiveFault;
 use crate::feed_line::{FeedLine, Named, Trouble};
 use crate::log::Log;
+use crate::logins::Logins;
 use crate::piece::Piece;
 use crate::places::MOST_FEEDS;
 use crate::route::{Route, Servers};
 use crate::session_fault::SessionFault;
+use crate::sessions::{Login, current_session};
 use crate::socket::{Got, Socket};
 use crate::step::{Step, rejection_ends, step_of};
 use crate::turns::Turns;
@@ -19,9 +21,10 @@ use mio::Registry;
 use mio::event::Event;
 use mio::net::TcpStream;
 use std::alloc::{AllocError, Global};
+use std::fs::File;
 use std::io;
 use std::net::{Net, SocketAddr};
-use std::rt::Clock;
+use std::rt::{Clock, Files};
 
 /// What is read of the feed at a time, at most.
 pub(crate) const SHARE: usize = 1 << 18;
@@ -49,6 +52,8 @@ impl Connection {
 #[derive(Drop)]
 pub(crate) struct FeedSide<'a> {
     route: Route<'a>,
+    // Whom it logs in as.
+    account: Logins<'a>,
     // The address that was connected to last.
     address: Option<SocketAddr>,
     token: usize,
@@ -72,12 +77,14 @@ impl<'a> FeedSide<'a> {
     pub(crate) fn new(
         alloc: Global,
         servers: Servers<'a>,
+        account: Logins<'a>,
         glimpse_session: Option<Alpha<10>>,
         token: usize,
     ) -> Result<FeedSide<'a>, AllocError> {
         let piece = Piece::new(alloc)?;
         Ok(FeedSide {
             route: Route::new(alloc, servers),
+            account,
             address: None,
             token,
             glimpse_session,
@@ -112,8 +119,11 @@ impl<'a> FeedSide<'a> {
         self.connection.is_none() && now_ms >= self.again_at
     }
 
-    /// Begins a turn: connects where that is due.
-    pub(crate) fn begin_turn<R: Net + Clock + Eprint, B: OrderBook>(
+    /// Begins a turn: connects where that is due. The login is read again before that.
+    pub(crate) fn begin_turn<
+        R: Net + Clock + Files<File = File> + Eprint + AllocGlobal,
+        B: OrderBook,
+    >(
         &mut self,
         log: &mut Log<'_, R>,
         turns: &Turns<'_, R>,
@@ -124,6 +134,7 @@ impl<'a> FeedSide<'a> {
         if !self.is_due(now_ms) {
             return;
         }
+        self.account.look(log, "feed", now_ms);
         let live = follower.next().is_some();
         self.address = self.route.next(log.runtime(), live);
         // To look up a name may take long.
@@ -151,7 +162,8 @@ impl<'a> FeedSide<'a> {
         follower: &mut Follower<B>,
         now_ms: u64,
     ) -> io::Result<Connection> {
-        let login = follower.connect(now_ms);
+        let credentials = self.account.first().credentials(current_session());
+        let login = follower.connect(credentials, now_ms);
         let stream = TcpStream::connect(net, address)?;
         // A login or a heartbeat is not to wait for what follows it.
         let _ = stream.set_nodelay(true);
@@ -260,6 +272,11 @@ impl<'a> FeedSide<'a> {
     /// Has so many bytes read once more in this turn.
     pub(crate) fn renew(&mut self) {
         self.share = SHARE;
+    }
+
+    /// Whom it logs in as.
+    pub(crate) fn login(&self) -> Login {
+        self.account.first()
     }
 
     /// The servers that it may connect to.

@@ -4,9 +4,10 @@ use crate::fault::LiveFault;
 use crate::feed_side::{FeedSide, SHARE};
 use crate::follow_form::FollowForm;
 use crate::log::Log;
+use crate::logins::Logins;
 use crate::route::Servers;
 use crate::session_fault::SessionFault;
-use crate::sessions::{Sending, write_text};
+use crate::sessions::{Sending, current_session, write_text};
 use crate::step::Step;
 use crate::turns::Turns;
 use itch_book::{IndexedBook, OrderBook};
@@ -16,11 +17,11 @@ use itch_join::Joiner;
 use itch_live::{Follower, Sessions};
 use itch_market::Market;
 use itch_snapshot::SnapshotIter;
-use itch_soup::Credentials;
 use std::alloc::{AllocError, Global};
+use std::fs::File;
 use std::io::Write;
 use std::net::Net;
-use std::rt::Clock;
+use std::rt::{Clock, Files};
 
 /// The number of the socket.
 const FEED: usize = 0;
@@ -33,8 +34,6 @@ const MOMENT_MS: u64 = 100;
 /// What is followed, and how it is written.
 #[derive(Clone, Copy)]
 pub struct Following {
-    /// Whom the follower logs in as.
-    pub credentials: Credentials,
     /// The sessions that are named beforehand.
     pub sessions: Sessions,
     pub form: FollowForm,
@@ -54,33 +53,15 @@ pub fn follow_feed<R, W: Write>(
     rt: &R,
     servers: Servers<'_>,
     following: &Following,
+    account: Logins<'_>,
     out: &mut Sending<W>,
 ) -> Result<bool, LiveFault>
 where
-    R: Net + Clock + Eprint + AllocGlobal,
+    R: Net + Clock + Files<File = File> + Eprint + AllocGlobal,
 {
     let joiner: Joiner<IndexedBook<Global>> = Joiner::new(rt.alloc(), 0);
-    follow(rt, servers, following, joiner, out)
-}
-
-// Follows the feed to its end, over any book.
-fn follow<R, B: OrderBook<Alloc = Global>, W: Write>(
-    rt: &R,
-    servers: Servers<'_>,
-    following: &Following,
-    joiner: Joiner<B>,
-    out: &mut Sending<W>,
-) -> Result<bool, LiveFault>
-where
-    R: Net + Clock + Eprint + AllocGlobal,
-{
-    let mut tail = Tail::new(rt, servers, following, joiner)?;
-    for _turn in 0..u64::MAX {
-        if tail.turn(following.form, out)? {
-            break;
-        }
-    }
-    Ok(true)
+    let mut tail = Tail::new(rt, servers, following, account, joiner)?;
+    tail.run(following.form, out)
 }
 
 // What follows the feed, and its connection.
@@ -98,24 +79,22 @@ struct Tail<'r, 'a, R: Clock, B: OrderBook> {
 
 impl<'r, 'a, R, B: OrderBook<Alloc = Global>> Tail<'r, 'a, R, B>
 where
-    R: Net + Clock + Eprint + AllocGlobal,
+    R: Net + Clock + Files<File = File> + Eprint + AllocGlobal,
 {
     // No connection yet.
     fn new(
         rt: &'r R,
         servers: Servers<'a>,
         following: &Following,
+        account: Logins<'a>,
         joiner: Joiner<B>,
     ) -> Result<Tail<'r, 'a, R, B>, LiveFault> {
-        let Following {
-            credentials,
-            sessions,
-            form: _,
-        } = *following;
+        let sessions = following.sessions;
+        let credentials = account.first().credentials(current_session());
         let follower = Follower::new(rt.alloc(), credentials, sessions, joiner, 0)?;
         let log = Log::new(rt)?;
         let turns = Turns::begin(rt, rt, EVENTS)?;
-        let feed = FeedSide::new(rt.alloc(), servers, sessions.glimpse, FEED)?;
+        let feed = FeedSide::new(rt.alloc(), servers, account, sessions.glimpse, FEED)?;
         Ok(Tail {
             log,
             turns,
@@ -124,6 +103,16 @@ where
             is_named: sessions.feed.is_some(),
             block: Vec::new(rt.alloc()),
         })
+    }
+
+    // Follows the feed to its end.
+    fn run<W: Write>(&mut self, form: FollowForm, out: &mut Sending<W>) -> Result<bool, LiveFault> {
+        for _turn in 0..u64::MAX {
+            if self.turn(form, out)? {
+                break;
+            }
+        }
+        Ok(true)
     }
 
     // Waits until something has come or is due, and writes it. True once the feed has ended its session.

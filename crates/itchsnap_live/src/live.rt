@@ -6,6 +6,7 @@ use crate::clients::Clients;
 use crate::fault::LiveFault;
 use crate::feed_side::{FeedSide, SHARE};
 use crate::log::Log;
+use crate::logins::Logins;
 use crate::opened::{follower_of, listen, named_desk, open_folder, open_record};
 use crate::question::{agreed, ask_session, asks_session};
 use crate::reception::Reception;
@@ -13,7 +14,7 @@ use crate::record::{Record, RecordLoss, RecordWords};
 use crate::room::SnapshotRoom;
 use crate::route::Servers;
 use crate::saving::{Saver, SnapshotWords};
-use crate::sessions::{Login, current_session};
+use crate::sessions::current_session;
 use crate::spare::{SPARED, Spare};
 use crate::start::Start;
 use crate::step::Step;
@@ -23,7 +24,6 @@ use itch_codec::{Alpha, Seq};
 use itch_frame::CountedWrite;
 use itch_join::Joiner;
 use itch_live::{Desk, Follower};
-use itch_soup::Credentials;
 use mio::Token;
 use std::alloc::Global;
 use std::fs::File;
@@ -50,10 +50,6 @@ const READING_MS: u64 = 20;
 #[derive(Clone, Copy)]
 pub struct Serving<'a> {
     pub address: SocketAddr,
-    /// Who may log in.
-    pub login: Login,
-    /// Whom it logs in as.
-    pub credentials: Credentials,
     /// The feed's session, and that of the server of snapshots if it is another, where they are named.
     pub session: Option<Alpha<10>>,
     pub glimpse_session: Option<Alpha<10>>,
@@ -70,6 +66,13 @@ pub struct Serving<'a> {
     pub stay: bool,
 }
 
+/// Who may log in to a live server, and whom it logs in as itself.
+#[derive(Drop)]
+pub struct Accounts<'a> {
+    pub users: Logins<'a>,
+    pub own: Logins<'a>,
+}
+
 /// Follows a feed, and serves the snapshot of its present market, with a line on `out` for each client that is gone. It says on
 /// standard error which port it listens on, and what becomes of the feed.
 ///
@@ -84,13 +87,14 @@ pub fn serve_live<R, W: CountedWrite>(
     rt: &R,
     servers: Servers<'_>,
     serving: &Serving<'_>,
+    accounts: Accounts<'_>,
     out: &mut W,
 ) -> Result<bool, LiveFault>
 where
     R: Net + Clock + Files<File = File> + Eprint + AllocGlobal,
 {
     let joiner: Joiner<IndexedBook<Global>> = Joiner::new(rt.alloc(), 0);
-    serve(rt, servers, serving, joiner, out)
+    serve(rt, servers, serving, accounts, joiner, out)
 }
 
 // Serves until it is over, with any book.
@@ -98,13 +102,14 @@ fn serve<R, B: OrderBook<Alloc = Global>, W: CountedWrite>(
     rt: &R,
     servers: Servers<'_>,
     serving: &Serving<'_>,
+    accounts: Accounts<'_>,
     joiner: Joiner<B>,
     out: &mut W,
 ) -> Result<bool, LiveFault>
 where
     R: Net + Clock + Files<File = File> + Eprint + AllocGlobal,
 {
-    let mut server = opened(rt, servers, serving, joiner)?;
+    let mut server = opened(rt, servers, serving, accounts, joiner)?;
     server.run(out)
 }
 
@@ -113,6 +118,7 @@ fn opened<'r, 'a, R, B: OrderBook<Alloc = Global>>(
     rt: &'r R,
     servers: Servers<'a>,
     serving: &'a Serving<'a>,
+    accounts: Accounts<'a>,
     joiner: Joiner<B>,
 ) -> Result<Server<'r, 'a, R, B>, LiveFault>
 where
@@ -120,14 +126,15 @@ where
 {
     let saver = open_folder(rt, serving)?;
     let (record, joiner) = open_record(rt, serving, joiner)?;
-    let follower = follower_of(rt.alloc(), serving, &record, joiner)?;
-    Server::new(rt, servers, serving, follower, record, saver)
+    let follower = follower_of(rt.alloc(), serving, &accounts.own, &record, joiner)?;
+    Server::new(rt, servers, serving, accounts, follower, record, saver)
 }
 
 // A desk, and its sockets.
 #[derive(Drop)]
 struct Server<'r, 'a, R: Clock, B: OrderBook> {
     serving: &'a Serving<'a>,
+    users: Logins<'a>,
     log: Log<'r, R>,
     turns: Turns<'r, R>,
     callers: Callers,
@@ -153,20 +160,32 @@ where
         rt: &'r R,
         servers: Servers<'a>,
         serving: &'a Serving<'a>,
+        accounts: Accounts<'a>,
         follower: Follower<B>,
         record: Record<'a>,
         saver: Option<Saver<'a>>,
     ) -> Result<Server<'r, 'a, R, B>, LiveFault> {
-        let mut start = Start::new(rt, servers, serving.glimpse_session, FEED)?;
+        let Accounts { users, own } = accounts;
+        let mut start = Start::new(rt, servers, own, serving.glimpse_session, FEED)?;
         let callers = listen(rt, &start, serving.address, LISTENER)?;
         let desk = named_desk(rt.alloc(), serving, follower, &mut start)?;
-        Server::open(rt.alloc(), serving, start, desk, callers, record, saver)
+        Server::open(
+            rt.alloc(),
+            serving,
+            users,
+            start,
+            desk,
+            callers,
+            record,
+            saver,
+        )
     }
 
     // Opens the reception of a desk, and its places.
     fn open(
         alloc: Global,
         serving: &'a Serving<'a>,
+        users: Logins<'a>,
         start: Start<'r, 'a, R>,
         desk: Desk<B>,
         callers: Callers,
@@ -174,11 +193,9 @@ where
         saver: Option<Saver<'a>>,
     ) -> Result<Server<'r, 'a, R, B>, LiveFault> {
         let places = serving.clients;
-        let config = serving
-            .login
-            .config(desk.follower().session().unwrap_or(current_session()));
+        let session = desk.follower().session().unwrap_or(current_session());
         let first_room = PLACES.saturating_add(places);
-        let reception = Reception::new(alloc, config, Seq::new(1).unwrap(), first_room)?;
+        let reception = Reception::new(alloc, session, Seq::new(1).unwrap(), first_room)?;
         let room = SnapshotRoom::new(serving.snapshot_memory);
         let clients = Clients::new(alloc, places, serving.clients_per_address, room, PLACES)?;
         let spare = Spare::new(alloc, SPARED)?;
@@ -190,6 +207,7 @@ where
         } = start;
         Ok(Server {
             serving,
+            users,
             log,
             turns,
             callers,
@@ -364,13 +382,7 @@ where
         self.has_asked = true;
         self.spare.release();
         let joiner: Joiner<B> = Joiner::new(self.log.runtime().alloc(), 0);
-        let asked = ask_session(
-            &self.log,
-            &self.feed,
-            address,
-            &self.serving.credentials,
-            joiner,
-        );
+        let asked = ask_session(&self.log, &self.feed, address, joiner);
         agreed(session, asked)
     }
 
@@ -443,7 +455,8 @@ where
                 now_ms,
             );
         }
-        self.reception.turn(now_ms, self.clients.buffer());
+        self.reception
+            .turn(self.users.list(), now_ms, self.clients.buffer());
         self.clients.seat(
             &mut self.reception,
             self.turns.registry(),
@@ -479,7 +492,12 @@ where
         Ok(())
     }
 
+    // Looks at the files that others may change.
     fn watch(&mut self, now_ms: u64) -> Result<(), LiveFault> {
+        if self.users.is_due(now_ms) {
+            self.spare.release();
+            self.users.look(&mut self.log, "users", now_ms);
+        }
         match self.record.watch(self.log.runtime(), now_ms) {
             Ok(()) => Ok(()),
             Err(loss) => self.lose_record(loss),

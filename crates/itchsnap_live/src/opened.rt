@@ -3,10 +3,12 @@
 use crate::callers::Callers;
 use crate::fault::LiveFault;
 use crate::live::Serving;
+use crate::logins::Logins;
 use crate::record::Record;
 use crate::resuming::at_the_first;
 use crate::saving::Saver;
 use crate::session_fault::SessionFault;
+use crate::sessions::current_session;
 use crate::start::Start;
 use crate::turns::called;
 use itch_book::OrderBook;
@@ -48,6 +50,7 @@ pub(crate) fn open_record<'a, R: Files<File = File> + Eprint + AllocGlobal, B: O
 pub(crate) fn follower_of<B: OrderBook<Alloc = Global>>(
     alloc: Global,
     serving: &Serving<'_>,
+    account: &Logins<'_>,
     record: &Record<'_>,
     joiner: Joiner<B>,
 ) -> Result<Follower<B>, AllocError> {
@@ -55,7 +58,8 @@ pub(crate) fn follower_of<B: OrderBook<Alloc = Global>>(
         feed: serving.session.or(record.session()),
         glimpse: serving.glimpse_session,
     };
-    Follower::new(alloc, serving.credentials, sessions, joiner, 0)
+    let credentials = account.first().credentials(current_session());
+    Follower::new(alloc, credentials, sessions, joiner, 0)
 }
 
 /// Listens on the port of a server. Its socket will have this number.
@@ -76,13 +80,11 @@ pub(crate) fn named_desk<R, B: OrderBook<Alloc = Global>>(
     start: &mut Start<'_, '_, R>,
 ) -> Result<Desk<B>, LiveFault>
 where
-    R: Net + Clock + Eprint + AllocGlobal,
+    R: Net + Clock + Files<File = File> + Eprint + AllocGlobal,
 {
     let mut follower = follower;
-    let found = start.find_session(&mut follower)?;
-    let Some(session) = found else {
+    if start.find_session(&mut follower)?.is_none() {
         return Err(LiveFault::Session(SessionFault::TooMany));
-    };
-    let config = serving.login.config(session);
-    Ok(Desk::new(alloc, config, follower, serving.clients)?)
+    }
+    Ok(Desk::new(alloc, follower, serving.clients)?)
 }

@@ -3,6 +3,7 @@
 use crate::callers::Callers;
 use crate::departure::Departure;
 use crate::log::Log;
+use crate::logins::Logins;
 use crate::pace::Pace;
 use crate::playback::Playback;
 use crate::player_side::{PlayerSide, hand_on};
@@ -12,10 +13,9 @@ use crate::session_fault::SessionFault;
 use crate::sessions::PIECE;
 use crate::spare::Spare;
 use crate::turns::{Turns, called};
-use itch_codec::Seq;
+use itch_codec::{Alpha, Seq};
 use itch_frame::CountedWrite;
 use itch_live::Player;
-use itch_soup::ServerConfig;
 use mio::Token;
 use std::alloc::{AllocError, Global};
 use std::fs::File;
@@ -45,7 +45,8 @@ const SOON_MS: u64 = 2;
 pub struct Playing<'a> {
     pub path: &'a str,
     pub address: SocketAddr,
-    pub config: ServerConfig,
+    /// The session that logins are accepted in.
+    pub session: Alpha<10>,
     pub pace: Pace,
     /// After how many connections it ends, if it does.
     pub count: Option<u64>,
@@ -53,7 +54,7 @@ pub struct Playing<'a> {
     pub stay: bool,
 }
 
-/// Plays a day file to each client that logs in, from the number on that it asks for, with a line on `out` for each that is gone. Its
+/// Plays a day file to each of these users that logs in, from the number on that it asks for, with a line on `out` for each that is gone. Its
 /// messages are counted first. Each client has the file opened for itself, so it may be at any place of it.
 ///
 /// # Faults
@@ -63,6 +64,7 @@ pub struct Playing<'a> {
 pub fn play_feed<R, W: CountedWrite>(
     rt: &R,
     playing: &Playing<'_>,
+    users: Logins<'_>,
     out: &mut W,
 ) -> Result<bool, SessionFault>
 where
@@ -72,7 +74,7 @@ where
     let Some(end) = Seq::new(total.saturating_add(1)) else {
         return Err(SessionFault::TooMany);
     };
-    let mut players = Players::new(rt, playing, end)?;
+    let mut players = Players::new(rt, playing, users, end)?;
     for _turn in 0..u64::MAX {
         if playing.count.is_some_and(|count| players.ended >= count) {
             break;
@@ -88,6 +90,7 @@ struct Players<'a, R: Clock> {
     rt: &'a R,
     log: Log<'a, R>,
     playing: &'a Playing<'a>,
+    users: Logins<'a>,
     // The number after that of the last message.
     end: Seq,
     turns: Turns<'a, R>,
@@ -106,17 +109,23 @@ where
     R: Net + Clock + Files<File = File> + Eprint + AllocGlobal,
 {
     // Listens on the port, and says so.
-    fn new(rt: &'a R, playing: &'a Playing<'a>, end: Seq) -> Result<Players<'a, R>, SessionFault> {
+    fn new(
+        rt: &'a R,
+        playing: &'a Playing<'a>,
+        users: Logins<'a>,
+        end: Seq,
+    ) -> Result<Players<'a, R>, SessionFault> {
         let turns = Turns::begin(rt, rt, EVENTS)?;
         let callers = called(Callers::listen(rt, turns.registry(), playing.address, LISTENER))?;
         Ok(Players {
             rt,
             log: Log::new(rt)?,
             playing,
+            users,
             end,
             turns,
             callers,
-            reception: Reception::new(rt.alloc(), playing.config, end, ROOMS)?,
+            reception: Reception::new(rt.alloc(), playing.session, end, ROOMS)?,
             clients: no_clients(rt.alloc())?,
             seated: Seated::new(rt.alloc(), CLIENTS)?,
             spare: Spare::new(rt.alloc(), 1)?,
@@ -137,7 +146,11 @@ where
             self.turns.registry(),
             now_ms,
         );
-        self.reception.turn(now_ms, self.buffer.as_mut_slice());
+        if self.users.is_due(now_ms) {
+            self.users.look(&mut self.log, "users", now_ms);
+        }
+        self.reception
+            .turn(self.users.list(), now_ms, self.buffer.as_mut_slice());
         self.seat(now_ms);
         self.play(now_ms);
         self.close();
@@ -219,8 +232,13 @@ where
     ) -> Result<PlayerSide<File>, SessionFault> {
         let playback = Playback::open(self.rt, self.playing.path)?;
         let total = self.end.value() - 1;
-        let mut player = Player::new(self.rt.alloc(), self.playing.config, total, now_ms)?;
-        let Arrival { link, words, .. } = arrival;
+        let Arrival {
+            link,
+            config,
+            words,
+            ..
+        } = arrival;
+        let mut player = Player::new(self.rt.alloc(), config, total, now_ms)?;
         let mut link = link;
         called(link.move_to(self.turns.registry(), place.saturating_add(PLACES)))?;
         hand_on(&mut player, words.as_slice(), now_ms);

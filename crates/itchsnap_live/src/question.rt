@@ -6,7 +6,9 @@ ghost use Rattle.itchsnap_live.specs.Questions.{asks_session, is_another};
 use crate::fault::{LiveFault, RecordFault};
 use crate::feed_side::FeedSide;
 use crate::log::Log;
+use crate::logins::Logins;
 use crate::resuming::at_the_first;
+use crate::sessions::current_session;
 use crate::start::Start;
 use itch_book::OrderBook;
 use itch_codec::Alpha;
@@ -15,8 +17,9 @@ use itch_join::Joiner;
 use itch_live::{Follower, Sessions};
 use itch_soup::Credentials;
 use std::alloc::Global;
+use std::fs::File;
 use std::net::{Net, SocketAddr};
-use std::rt::Clock;
+use std::rt::{Clock, Files};
 
 /// The answer is waited for so long.
 const MOST_MS: u64 = 2_000;
@@ -62,18 +65,21 @@ pub(crate) fn ask_session<R, B>(
     log: &Log<'_, R>,
     feed: &FeedSide<'_>,
     address: SocketAddr,
-    credentials: &Credentials,
     joiner: Joiner<B>,
 ) -> Option<Alpha<10>>
 where
-    R: Net + Clock + Eprint + AllocGlobal,
+    R: Net + Clock + Files<File = File> + Eprint + AllocGlobal,
     B: OrderBook<Alloc = Global>,
 {
     let rt = log.runtime();
-    let Ok(mut start) = Start::new(rt, feed.servers(), None, FEED) else {
+    let Ok(account) = Logins::of(rt.alloc(), &feed.login()) else {
         return None;
     };
-    let Ok(mut follower) = nameless_follower(rt.alloc(), credentials, joiner) else {
+    let Ok(mut start) = Start::new(rt, feed.servers(), account, None, FEED) else {
+        return None;
+    };
+    let credentials = feed.login().credentials(current_session());
+    let Ok(mut follower) = nameless_follower(rt.alloc(), &credentials, joiner) else {
         return None;
     };
     start.ask(address, &mut follower, MOST_MS)

@@ -6,12 +6,14 @@ use crate::link::Link;
 use crate::opening::{Opening, opening_of};
 use crate::refusals::Refusals;
 use crate::seated::Seated;
+use crate::sessions::Login;
 use crate::socket::Socket;
 use crate::spare::Spare;
+use crate::users::{Verdict, verdict_of};
 use arrayvec::ArrayVec;
-use itch_codec::Seq;
+use itch_codec::{Alpha, Seq};
 use itch_live::{Gone, PendingPacket};
-use itch_soup::{Origin, ServerAct, ServerConfig, ServerSession, parse_packet};
+use itch_soup::{Origin, ServerConfig, ServerSession, parse_packet};
 use mio::Registry;
 use mio::event::Event;
 use mio::net::TcpStream;
@@ -35,11 +37,12 @@ const GRACE_MS: u64 = 1_000;
 /// What is kept of what a connection says: a login after its length, and some more.
 const KEPT: usize = 64;
 
-/// A connection whose login is right, and what it has said: its login, and what it may have said after that.
+/// A connection whose login is right, by which configuration, and what it has said: its login, and what it may have said after that.
 #[derive(Drop)]
 pub(crate) struct Arrival {
     pub link: Link,
     pub address: IpAddr,
+    pub config: ServerConfig,
     pub words: ArrayVec<u8, KEPT>,
 }
 
@@ -48,12 +51,20 @@ pub(crate) struct Arrival {
 enum Stage {
     // It has not sent a whole login.
     Opening,
-    // Its login is right, and it waits for a place.
-    Ready,
+    // Its login is right by this configuration, and it waits for a place.
+    Ready(ServerConfig),
     // Its login was rejected: it is told so, once the moment has come.
     Rejected { code: u8, at_ms: u64 },
     // It is told no more, and its connection has ended so.
     Over(Departure),
+}
+
+// What logins are judged by.
+#[derive(Clone, Copy)]
+struct Served<'a> {
+    users: &'a [Login],
+    session: Alpha<10>,
+    end_number: Seq,
 }
 
 #[derive(Drop)]
@@ -62,7 +73,6 @@ struct Visitor {
     address: IpAddr,
     since_ms: u64,
     stage: Stage,
-    session: ServerSession,
     words: ArrayVec<u8, KEPT>,
     // How many bytes of an uninteresting packet are still to come.
     skipped: usize,
@@ -71,8 +81,8 @@ struct Visitor {
 /// The connections that hold no place.
 #[derive(Drop)]
 pub(crate) struct Reception {
-    config: ServerConfig,
-    // The number after that of the last message there is to log in for.
+    // What is served: the session, and the number after that of the last message there is to log in for.
+    session: Alpha<10>,
     end_number: Seq,
     rooms: Vec<Option<Visitor>>,
     // The number of the socket in the first room.
@@ -91,31 +101,30 @@ impl Visitor {
     fn is_busy(&self) -> bool {
         match self.stage {
             Stage::Opening | Stage::Over(_) => self.link.is_busy(false),
-            Stage::Ready => self.words.remaining_capacity() > 0 && self.link.is_busy(false),
+            Stage::Ready(_) => self.words.remaining_capacity() > 0 && self.link.is_busy(false),
             Stage::Rejected { .. } => false,
         }
     }
 
-    fn new(link: Link, address: IpAddr, session: ServerSession, now_ms: u64) -> Visitor {
+    fn new(link: Link, address: IpAddr, now_ms: u64) -> Visitor {
         Visitor {
             link,
             address,
             since_ms: now_ms,
             stage: Stage::Opening,
-            session,
             words: ArrayVec::new(),
             skipped: 0,
         }
     }
 
-    // Reads what it has said, as far as that is kept, and does what it means.
-    fn turn(&mut self, now_ms: u64, buffer: &mut [u8]) {
+    // Reads what it has said, as far as that is kept, and does what it means at this server.
+    fn turn(&mut self, served: &Served<'_>, now_ms: u64, buffer: &mut [u8]) {
         match self.stage {
             Stage::Opening => {
                 self.read(buffer);
-                self.hear(now_ms);
+                self.hear(served, now_ms);
             }
-            Stage::Ready => self.read(buffer),
+            Stage::Ready(_) => self.read(buffer),
             Stage::Rejected { code, at_ms } if now_ms >= at_ms => {
                 let rejection = PendingPacket::of(&ServerSession::rejected(code));
                 self.link.write(rejection.bytes());
@@ -146,12 +155,12 @@ impl Visitor {
     }
 
     // Hears its packets up to its login. What comes after that is kept.
-    fn hear(&mut self, now_ms: u64) {
+    fn hear(&mut self, served: &Served<'_>, now_ms: u64) {
         for _ in 0..KEPT {
             match opening_of(self.words.as_slice()) {
                 Opening::Begun => return,
                 Opening::Packet(length) => {
-                    if self.hear_packet(length, now_ms) {
+                    if self.hear_packet(length, served, now_ms) {
                         return;
                     }
                     self.pass(length.saturating_add(2));
@@ -169,25 +178,24 @@ impl Visitor {
     }
 
     // Does what a packet means, and says whether it was the last one that is heard here.
-    fn hear_packet(&mut self, length: usize, now_ms: u64) -> bool {
+    fn hear_packet(&mut self, length: usize, served: &Served<'_>, now_ms: u64) -> bool {
         let end = length.saturating_add(2).min(self.words.len());
         let payload = &self.words[end.min(2)..end];
         let Ok(packet) = parse_packet(payload, Origin::Client) else {
             self.stage = Stage::Over(Departure::Fault);
             return true;
         };
-        match self.session.on_packet(&packet, now_ms) {
-            ServerAct::Nothing => return false,
-            ServerAct::Accept { .. } => self.stage = Stage::Ready,
-            ServerAct::Reject(code) => {
-                self.stage = Stage::Rejected {
-                    code,
-                    at_ms: now_ms,
-                };
-            }
-            ServerAct::Close => self.stage = Stage::Over(Departure::Left),
-            ServerAct::Fault(_) => self.stage = Stage::Over(Departure::Fault),
-        }
+        let messages = served.end_number.value() - 1;
+        self.stage = match verdict_of(served.users, &served.session, messages, &packet) {
+            Verdict::Waits => return false,
+            Verdict::Accepted(config) => Stage::Ready(config),
+            Verdict::Rejected(code) => Stage::Rejected {
+                code,
+                at_ms: now_ms,
+            },
+            Verdict::Left => Stage::Over(Departure::Left),
+            Verdict::Fault => Stage::Over(Departure::Fault),
+        };
         true
     }
 
@@ -198,9 +206,17 @@ impl Visitor {
         self.words.drain(..here);
     }
 
+    // By which configuration its login is right, if it is.
+    fn accepted_by(&self) -> Option<ServerConfig> {
+        match &self.stage {
+            Stage::Ready(config) => Some(*config),
+            _ => None,
+        }
+    }
+
     // How its connection ended, once it is to be closed. One whose login was heard is told what that comes to, also where it sends no more.
     fn departure(&self, now_ms: u64) -> Option<Departure> {
-        let waits = matches!(self.stage, Stage::Ready | Stage::Rejected { .. });
+        let waits = matches!(self.stage, Stage::Ready(_) | Stage::Rejected { .. });
         let gone = self.link.ending(None, waits);
         let is_late = now_ms.saturating_sub(self.since_ms) >= PATIENCE_MS;
         match self.stage {
@@ -212,17 +228,16 @@ impl Visitor {
             )),
             Stage::Rejected { .. } => None,
             Stage::Opening if is_late => Some(departure_of(None, None, Gone::Silent)),
-            Stage::Opening | Stage::Ready => Some(departure_of(None, None, gone?)),
+            Stage::Opening | Stage::Ready(_) => Some(departure_of(None, None, gone?)),
         }
     }
 }
 
 impl Reception {
-    /// Nobody yet. Sockets will be registered from this number on, and logins are judged by this configuration, for the messages before
-    /// this number.
+    /// Nobody yet. Sockets will be registered from this number on, and logins are to this session, for the messages before this number.
     pub(crate) fn new(
         alloc: Global,
-        config: ServerConfig,
+        session: Alpha<10>,
         end_number: Seq,
         first_token: usize,
     ) -> Result<Reception, AllocError> {
@@ -231,7 +246,7 @@ impl Reception {
             rooms.push(None)?;
         }
         Ok(Reception {
-            config,
+            session,
             end_number,
             rooms,
             first_token,
@@ -336,11 +351,10 @@ impl Reception {
     ) {
         self.connected = self.connected.saturating_add(1);
         let token = place.saturating_add(self.first_token);
-        let session = ServerSession::new(self.config, self.end_number.value() - 1, now_ms);
         match Socket::register(registry, stream, token, true) {
             Ok(socket) => {
                 let link = Link::new(socket, self.connected);
-                self.put(place, Visitor::new(link, address, session, now_ms));
+                self.put(place, Visitor::new(link, address, now_ms));
             }
             Err(_) => self.write_down(self.connected, Departure::Fault),
         }
@@ -395,25 +409,29 @@ impl Reception {
         {
             return self.write_down(number, departure);
         }
-        let session = ServerSession::new(self.config, self.end_number.value() - 1, now_ms);
-        let mut visitor = Visitor::new(link, address, session, now_ms);
+        let mut visitor = Visitor::new(link, address, now_ms);
         visitor.stage = Stage::Over(departure);
         self.put(place, visitor);
     }
 
-    /// Hears what everyone has said, and closes the connections that are over.
-    pub(crate) fn turn(&mut self, now_ms: u64, buffer: &mut [u8]) {
+    /// Hears what everyone has said, and closes the connections that are over. These users may log in.
+    pub(crate) fn turn(&mut self, users: &[Login], now_ms: u64, buffer: &mut [u8]) {
+        let served = Served {
+            users,
+            session: self.session,
+            end_number: self.end_number,
+        };
         for place in 0..self.end {
-            self.turn_at(place, now_ms, buffer);
+            self.turn_at(place, &served, now_ms, buffer);
         }
     }
 
-    fn turn_at(&mut self, place: usize, now_ms: u64, buffer: &mut [u8]) {
+    fn turn_at(&mut self, place: usize, served: &Served<'_>, now_ms: u64, buffer: &mut [u8]) {
         let Some(Some(visitor)) = self.rooms.get_mut(place) else {
             return;
         };
         let was_opening = matches!(visitor.stage, Stage::Opening);
-        visitor.turn(now_ms, buffer);
+        visitor.turn(served, now_ms, buffer);
         if was_opening && let Stage::Rejected { code, .. } = visitor.stage {
             let at_ms = now_ms.saturating_add(self.refusals.delay_of(visitor.address, now_ms));
             visitor.stage = Stage::Rejected { code, at_ms };
@@ -428,7 +446,7 @@ impl Reception {
         let mut first: Option<(usize, u64)> = None;
         for (place, room) in self.rooms.iter().take(self.end).enumerate() {
             if let Some(visitor) = room
-                && matches!(visitor.stage, Stage::Ready)
+                && matches!(visitor.stage, Stage::Ready(_))
                 && first.is_none_or(|(_, number)| visitor.link.number() < number)
                 && seated.of(visitor.address) < most
             {
@@ -436,9 +454,11 @@ impl Reception {
             }
         }
         let visitor = self.take(first?.0)?;
+        let config = visitor.accepted_by()?;
         Some(Arrival {
             link: visitor.link,
             address: visitor.address,
+            config,
             words: visitor.words,
         })
     }

@@ -25,7 +25,7 @@ mod writing;
 pub use connection::{PIECE, serve_peer, serve_stream};
 pub use ending::{Ending, write_ending};
 pub use fetching::fetch;
-pub use login::{Login, current_session, default_session, first_line};
+pub use login::{Login, current_session, default_session, first_line, without_return};
 pub use patient::{Patient, time_left};
 pub use rest::fetch_rest;
 pub use sending::Sending;

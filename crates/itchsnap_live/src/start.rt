@@ -3,6 +3,7 @@
 use crate::fault::LiveFault;
 use crate::feed_side::{FeedSide, SHARE};
 use crate::log::Log;
+use crate::logins::Logins;
 use crate::recording::Recording;
 use crate::route::Servers;
 use crate::turns::Turns;
@@ -14,7 +15,7 @@ use mio::Token;
 use std::alloc::Global;
 use std::fs::File;
 use std::net::{Net, SocketAddr};
-use std::rt::Clock;
+use std::rt::{Clock, Files};
 
 /// The moment is looked at this often, where no socket is ready.
 const MOMENT_MS: u64 = 100;
@@ -34,18 +35,19 @@ pub(crate) struct Start<'r, 'a, R: Clock> {
 
 impl<'r, 'a, R> Start<'r, 'a, R>
 where
-    R: Net + Clock + Eprint + AllocGlobal,
+    R: Net + Clock + Files<File = File> + Eprint + AllocGlobal,
 {
     /// No connection yet. The feed's socket will have this number.
     pub(crate) fn new(
         rt: &'r R,
         servers: Servers<'a>,
+        account: Logins<'a>,
         glimpse_session: Option<Alpha<10>>,
         token: usize,
     ) -> Result<Start<'r, 'a, R>, LiveFault> {
         let log = Log::new(rt)?;
         let turns = Turns::begin(rt, rt, EVENTS)?;
-        let feed = FeedSide::new(rt.alloc(), servers, glimpse_session, token)?;
+        let feed = FeedSide::new(rt.alloc(), servers, account, glimpse_session, token)?;
         Ok(Start {
             log,
             turns,

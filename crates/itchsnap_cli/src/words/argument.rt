@@ -1,9 +1,10 @@
 //! An argument of a command, as data: a word, a flag, or an option with a value.
 
 use clap::{Arg, ArgAction};
-use std::alloc::Global;
+use std::alloc::{AllocError, Global};
 
-/// What a command takes. `Repeated` is a required option that may stand more than once.
+/// What a command takes. `RequiredUnless` is required where another option is not given, and `Repeated` is a required option that may stand more
+/// than once.
 #[derive(Clone, Copy)]
 pub enum Argument {
     Word {
@@ -28,6 +29,12 @@ pub enum Argument {
         value: Value,
         help: &'static str,
     },
+    RequiredUnless {
+        long: &'static str,
+        other: &'static str,
+        value: Value,
+        help: &'static str,
+    },
     Repeated {
         long: &'static str,
         value: Value,
@@ -46,7 +53,7 @@ pub enum Value {
 
 impl Argument {
     /// The argument, as clap takes it.
-    pub fn arg<'a>(self, alloc: Global) -> Arg<'a> {
+    pub fn arg<'a>(self, alloc: Global) -> Result<Arg<'a>, AllocError> {
         let arg = match self {
             Argument::Word { id, .. } => Arg::new(alloc, id),
             Argument::RequiredWord { id, .. } => Arg::new(alloc, id).required(true),
@@ -55,12 +62,18 @@ impl Argument {
                 .action(ArgAction::SetTrue),
             Argument::Optional { long, value, .. } => value.arg(alloc, long),
             Argument::Required { long, value, .. } => value.arg(alloc, long).required(true),
+            Argument::RequiredUnless {
+                long,
+                other,
+                value,
+                ..
+            } => value.arg(alloc, long).required_unless_present(other)?,
             Argument::Repeated { long, value, .. } => value
                 .arg(alloc, long)
                 .required(true)
                 .action(ArgAction::Append),
         };
-        arg.help(self.help())
+        Ok(arg.help(self.help()))
     }
 
     /// The name of a flag or an option, without its hyphens.
@@ -70,6 +83,7 @@ impl Argument {
             Argument::Flag { long, .. }
             | Argument::Optional { long, .. }
             | Argument::Required { long, .. }
+            | Argument::RequiredUnless { long, .. }
             | Argument::Repeated { long, .. } => Some(long),
         }
     }
@@ -79,6 +93,7 @@ impl Argument {
         match self {
             Argument::Optional { value, .. }
             | Argument::Required { value, .. }
+            | Argument::RequiredUnless { value, .. }
             | Argument::Repeated { value, .. } => Some(value),
             _ => None,
         }
@@ -92,6 +107,7 @@ impl Argument {
             | Argument::Flag { help, .. }
             | Argument::Optional { help, .. }
             | Argument::Required { help, .. }
+            | Argument::RequiredUnless { help, .. }
             | Argument::Repeated { help, .. } => help,
         }
     }

@@ -105,6 +105,20 @@ pub const USER: Argument = Argument::Required {
     help: "The user name: 1 to 6 printable characters",
 };
 
+// The users of a server that may have several.
+pub const ONE_USER: Argument = Argument::RequiredUnless {
+    long: "user",
+    other: "users",
+    value: Value::Text("U"),
+    help: "The user name: 1 to 6 printable characters",
+};
+
+pub const USERS: Argument = Argument::Optional {
+    long: "users",
+    value: Value::Path("FILE"),
+    help: "A file with a line USER:PASSWORD for each user, instead of --user and its password",
+};
+
 pub const PASSWORD: Argument = Argument::Optional {
     long: "pass",
     value: Value::Text("W"),

@@ -2,8 +2,9 @@
 
 use crate::words::argument::{Argument, Value};
 use crate::words::arguments::{
-    AFTER, BIND, FEED, FEED_FILE, FEED_SESSION, FILE, GLIMPSE_SESSION, JSON, MOST_COUNTED, ONLY,
-    OUTPUT, PASSWORD, PASSWORD_FILE, PORT, PROGRESS, RECORDED, SESSION, STOCK, UNTIL, USER,
+    AFTER, BIND, FEED, FEED_FILE, FEED_SESSION, FILE, GLIMPSE_SESSION, JSON, MOST_COUNTED,
+    ONE_USER, ONLY, OUTPUT, PASSWORD, PASSWORD_FILE, PORT, PROGRESS, RECORDED, SESSION, STOCK,
+    UNTIL, USER, USERS,
 };
 use clap::error::ErrorKind;
 use clap::{Command, Error};
@@ -326,9 +327,10 @@ pub const COMMANDS: [Entry; 15] = [
             GLIMPSE_SESSION,
             BIND,
             PORT,
-            USER,
+            ONE_USER,
             PASSWORD,
             PASSWORD_FILE,
+            USERS,
             Argument::Optional {
                 long: "clients",
                 value: Value::Range("N", 1, 1_000),
@@ -428,9 +430,10 @@ pub const COMMANDS: [Entry; 15] = [
             SESSION,
             BIND,
             PORT,
-            USER,
+            ONE_USER,
             PASSWORD,
             PASSWORD_FILE,
+            USERS,
         ],
         example: "Example: itchsnap feed day.itch --port 5000 --user desk --pass-file pass --rate 1000",
     },
@@ -469,7 +472,7 @@ impl Entry {
             .about(self.about)
             .after_help(self.example);
         for argument in self.takes {
-            command = command.arg(argument.arg(alloc))?;
+            command = command.arg(argument.arg(alloc)?)?;
         }
         Ok(command)
     }

@@ -3,7 +3,9 @@
 use crate::words::commands::usage_fault;
 use crate::words::places::{read_feeds, read_place, read_place_if_any};
 use crate::words::request::read_count;
-use crate::words::session::{LoginWords, Password, read_address, read_login, read_session};
+use crate::words::session::{
+    LoginWords, Password, UserWords, read_address, read_login, read_session, read_users,
+};
 use crate::words::size::read_size;
 use clap::{ArgMatches, Error};
 use itch_codec::Alpha;
@@ -22,7 +24,7 @@ pub struct LiveWords<'a> {
     pub glimpse: Option<Place<'a>>,
     pub address: SocketAddr,
     /// Who may log in.
-    pub login: LoginWords<'a>,
+    pub users: UserWords<'a>,
     /// Whom it logs in as itself.
     pub feed_login: LoginWords<'a>,
     /// The feed's session, where it is named.
@@ -59,7 +61,8 @@ pub struct FollowWords<'a> {
 pub struct FeedWords<'a> {
     pub file: &'a str,
     pub address: SocketAddr,
-    pub login: LoginWords<'a>,
+    /// Who may log in.
+    pub users: UserWords<'a>,
     /// The session that logins are accepted in, where it is named.
     pub session: Option<Alpha<10>>,
     pub pace: Pace,
@@ -75,7 +78,7 @@ pub fn read_live<'a>(
     options: &ArgMatches<'a>,
     password: Option<&'a str>,
 ) -> Result<LiveWords<'a>, Error> {
-    let login = read_login(alloc, options, password)?;
+    let users = read_users(alloc, options, password)?;
     let glimpse = read_place_if_any(alloc, options, "glimpse")?;
     let record = read_record(alloc, options)?;
     if glimpse.is_some() && record.is_some() {
@@ -88,8 +91,8 @@ pub fn read_live<'a>(
         feeds: read_feeds(alloc, options)?,
         glimpse,
         address: read_address(alloc, options)?,
-        login,
-        feed_login: read_feed_login(options, login),
+        users,
+        feed_login: read_feed_login(alloc, options, users, password)?,
         session: read_session(alloc, options, "session")?,
         glimpse_session: read_glimpse_session(alloc, options, glimpse.is_some())?,
         clients: read_counted(alloc, options, "clients")?.unwrap_or(CLIENTS),
@@ -126,7 +129,7 @@ pub fn read_feed<'a>(
     Ok(FeedWords {
         file: read_played(alloc, options)?,
         address: read_address(alloc, options)?,
-        login: read_login(alloc, options, password)?,
+        users: read_users(alloc, options, password)?,
         session: read_session(alloc, options, "session")?,
         pace: read_pace(alloc, options)?,
         count: read_counted(alloc, options, "count")?,
@@ -178,14 +181,26 @@ fn read_glimpse_session<'a>(
     }
 }
 
-// Whom a live server logs in as: a name and a password of its own where they are given, and otherwise those of its clients.
-fn read_feed_login<'a>(options: &ArgMatches<'a>, login: LoginWords<'a>) -> LoginWords<'a> {
-    LoginWords {
-        user: options.get_str("feed-user").unwrap_or(login.user),
-        password: match options.get_str("feed-pass-file") {
-            Some(path) => Password::File(path),
-            None => login.password,
-        },
+// Whom a live server logs in as: a name and a password of its own where they are given, and otherwise those of its one user.
+fn read_feed_login<'a>(
+    alloc: Global,
+    options: &ArgMatches<'a>,
+    users: UserWords<'a>,
+    environment: Option<&'a str>,
+) -> Result<LoginWords<'a>, Error> {
+    let (user, password) = match users {
+        UserWords::One(login) => (Some(login.user), Some(login.password)),
+        UserWords::Listed(_) => (None, environment.map(|word| Password::Word(word))),
+    };
+    let user = options.get_str("feed-user").or(user);
+    let file = options.get_str("feed-pass-file");
+    let password = file.map(|path| Password::File(path)).or(password);
+    match (user, password) {
+        (Some(user), Some(password)) => Ok(LoginWords { user, password }),
+        _ => Err(usage_fault(
+            alloc,
+            "--users requires --feed-user, and --feed-pass-file or ITCHSNAP_PASS",
+        )?),
     }
 }
 

@@ -36,6 +36,15 @@ impl Debug for LoginWords<'_> {
     }
 }
 
+/// Who may log in to a server.
+#[derive(Clone, Copy, Debug, PartialEq, Eq)]
+pub enum UserWords<'a> {
+    /// One user.
+    One(LoginWords<'a>),
+    /// Those whom the file of this path lists.
+    Listed(&'a str),
+}
+
 /// The server of a fetch.
 #[derive(Clone, Copy, Debug, PartialEq, Eq)]
 pub struct Server<'a> {
@@ -108,6 +117,23 @@ pub fn read_login<'a>(
         }
     };
     Ok(LoginWords { user, password })
+}
+
+/// The users after `--users`, or the one after `--user`.
+pub fn read_users<'a>(
+    alloc: Global,
+    options: &ArgMatches<'a>,
+    environment: Option<&'a str>,
+) -> Result<UserWords<'a>, Error> {
+    let Some(path) = options.get_str("users") else {
+        return Ok(UserWords::One(read_login(alloc, options, environment)?));
+    };
+    for other in ["user", "pass", "pass-file"] {
+        if options.get_str(other).is_some() {
+            return Err(usage_fault(alloc, "--users excludes --user, --pass and --pass-file")?);
+        }
+    }
+    Ok(UserWords::Listed(path))
 }
 
 /// The number after an option, in decimal digits alone.

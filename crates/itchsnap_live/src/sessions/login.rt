@@ -2,7 +2,7 @@
 ghost use Rattle.std.specs.Prelude.{◌≡◌, ◌==◌, ◌↔◌, IsSome, IfSome, [], codes};
 ghost use Rattle.std.specs.List.{before_first};
 ghost use Rattle.itch_codec.specs.Text.{padded_to};
-ghost use Rattle.itchsnap_live.specs.Logins.{IsWord, ReadsLogin};
+ghost use Rattle.itchsnap_live.specs.Logins.{IsWord, ReadsLogin, without_return};
 
 use crate::session_fault::SessionFault;
 use itch_codec::Alpha;
@@ -81,13 +81,23 @@ pub fn current_session() -> Alpha<10>
     Alpha::from_text("").unwrap()
 }
 
-/// The first line of a text, without its line feed.
+/// The first line of a text, without its line ending.
 pub fn first_line(text: &str) -> &str
-    ensures { result.now ≡ before_first (λ byte. byte == 10) text.now }
+    ensures { result.now ≡ without_return (before_first (λ byte. byte == 10) text.now) }
 {
     match text.split_once('\n') {
-        Some((line, _)) => line,
-        None => text,
+        Some((line, _)) => without_return(line),
+        None => without_return(text),
+    }
+}
+
+/// A line without the carriage return at its end, if it has one.
+pub fn without_return(line: &str) -> &str
+    ensures { result.now ≡ without_return line.now }
+{
+    match line.split_once('\r') {
+        Some((front, rest)) if rest.is_empty() => front,
+        _ => line,
     }
 }
 

@@ -1,6 +1,6 @@
 //! Each allocation refused in turn: what was there before is there still, and the same call succeeds with memory.
 use super::messages::{AAPL, ADD_1, EVENT, LOGIN, SNAPSHOT_2, WELCOME};
-use super::steps::{Brought, Standing, Step, desk, take_steps};
+use super::steps::{Brought, Standing, Step, config, desk, take_steps};
 use crate::equal::{Host, TestResult, holds_in, same_in};
 use itch_book::{IndexedBook, OrderBook};
 use itch_live::Desk;
@@ -39,7 +39,7 @@ fn refuse_client<B: OrderBook>(
 ) -> u64 {
     for nth in 0..16 {
         refusing.arm(nth);
-        let place = desk.admit(0);
+        let place = desk.admit(config(rt), 0);
         if !refusing.has_refused() {
             same_in(rt, 1, place, Ok(Some(0)));
             return nth;

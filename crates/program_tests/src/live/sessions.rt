@@ -3,7 +3,9 @@ use super::messages::{
     AAPL, ACCEPTED_1, ACCEPTED_3, ADD_1, ADD_2, DAY, END_3, EVENT, FEED_FROM_1, FEED_FROM_3,
     FEED_FROM_3_BLANK, MONDAY_FROM_1, SNAPSHOTS_1, SNAPSHOTS_FROM_1, TUESDAY_1, TUESDAY_3,
 };
-use super::steps::{Brought, Step, UNKNOWN, config, desk_of, feed, follower_of, known, take_steps};
+use super::steps::{
+    Brought, Step, UNKNOWN, credentials, desk_of, feed, follower_of, known, take_steps,
+};
 use crate::equal::{Host, TestResult, same_in};
 use itch_book::{IndexedBook, OrderBook};
 use itch_live::{Desk, Follower};
@@ -119,11 +121,16 @@ const GONE_ON: &[Step<'static>] = &[
 fn check_connected<B: OrderBook>(rt: &impl Host, memory: B::Alloc) -> TestResult {
     let mut follower: Follower<B> = follower_of(rt, memory, UNKNOWN, false)?;
     let mut record = FuseWriter::new(rt.alloc(), 5, None);
-    same_in(rt, 0, &follower.connect(0)[..], FEED_FROM_1);
+    same_in(
+        rt,
+        0,
+        &follower.connect(credentials(rt), 0)[..],
+        FEED_FROM_1,
+    );
     feed(&mut follower, ACCEPTED_1, 7, 0, &mut record);
     feed(&mut follower, EVENT, 7, 0, &mut record);
     feed(&mut follower, AAPL, 7, 0, &mut record);
-    let mut desk = Desk::new(memory, config(rt), follower, 1)?;
+    let mut desk = Desk::new(memory, follower, 1)?;
     take_steps(rt, &mut desk, &mut record, GONE_ON)
 }
 

@@ -158,7 +158,7 @@ pub(crate) fn desk_of<B: OrderBook>(
     places: usize,
 ) -> Result<Desk<B>, AllocError> {
     let follower = follower_of(rt, memory, sessions, glimpse)?;
-    Desk::new(memory, config(rt), follower, places)
+    Desk::new(memory, follower, places)
 }
 
 /// What follows a feed with these sessions, whose market is that of no messages, or none yet.
@@ -257,7 +257,12 @@ fn begin<B: OrderBook>(
     (at, now): (usize, u64),
     (login, accepted, next): (&[u8], &[u8], u64),
 ) {
-    same_in(rt, at, &desk.follower_mut().connect(now)[..], login);
+    same_in(
+        rt,
+        at,
+        &desk.follower_mut().connect(credentials(rt), now)[..],
+        login,
+    );
     let news = feed(desk.follower_mut(), accepted, 7, now, record);
     same_in(rt, at, news, Brought::Accepted(next));
 }
@@ -272,7 +277,12 @@ pub(crate) fn take_step<B: OrderBook>(
 ) -> Result<u64, Fail> {
     match step {
         Step::At(now) => return Ok(now),
-        Step::Connect(login) => same_in(rt, at, &desk.follower_mut().connect(now)[..], login),
+        Step::Connect(login) => same_in(
+            rt,
+            at,
+            &desk.follower_mut().connect(credentials(rt), now)[..],
+            login,
+        ),
         Step::Begin => begin(rt, desk, record, (at, now), (FEED_FROM_1, ACCEPTED_1, 1)),
         Step::GoOn => begin(rt, desk, record, (at, now), (FEED_FROM_3, ACCEPTED_3, 3)),
         Step::Feed(bytes, want) => {
@@ -304,7 +314,7 @@ fn take_client_step<B: OrderBook>(
     step: Step<'_>,
 ) -> TestResult {
     match step {
-        Step::Admit(want) => same_in(rt, at, desk.admit(now)?, want),
+        Step::Admit(want) => same_in(rt, at, desk.admit(config(rt), now)?, want),
         Step::Hear(place, bytes) => same_in(rt, at, hear(desk, place, bytes, now), bytes.len()),
         Step::Login(place) => {
             same_in(rt, at, hear(desk, place, LOGIN, now), LOGIN.len());

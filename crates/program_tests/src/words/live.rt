@@ -2,7 +2,7 @@
 
 use super::{ask_for, asked, columns, words};
 use crate::equal::{TestResult, holds_in, same_in};
-use itchsnap_cli::words::{Job, Password, read_job};
+use itchsnap_cli::words::{Job, Password, UserWords, read_job};
 use std::test::Fail;
 
 const FEED: &str =
@@ -44,7 +44,7 @@ fn words_of_a_live_server_are_read(rt: HostRuntime) -> TestResult {
             "live --feed h:1 --port 0 --user user --pass secret {more}"
         )?;
         let wanted = format!(in rt.alloc();
-            "Live(LiveWords {{ {FEED}, {place}, login: {LOGIN}, feed_login: {LOGIN}, {kept} }})"
+            "Live(LiveWords {{ {FEED}, {place}, users: One({LOGIN}), feed_login: {LOGIN}, {kept} }})"
         )?;
         ask_for(&rt, line.as_str(), wanted.as_str())?;
     }
@@ -104,7 +104,7 @@ fn words_of_a_played_feed_are_read(rt: HostRuntime) -> TestResult {
             "feed day.itch --port 5 --user user --pass secret {more}"
         )?;
         let wanted = format!(in rt.alloc();
-            "Feed(FeedWords {{ file: \"day.itch\", address: 127.0.0.1:5, login: {LOGIN}, session: None, {rest} }})"
+            "Feed(FeedWords {{ file: \"day.itch\", address: 127.0.0.1:5, users: One({LOGIN}), session: None, {rest} }})"
         )?;
         ask_for(&rt, line.as_str(), wanted.as_str())?;
     }
@@ -123,6 +123,28 @@ fn a_live_server_may_have_a_login_of_its_own(rt: HostRuntime) -> TestResult {
     };
     same_in(&rt, line, own.user, "other");
     holds_in(&rt, line, own.password == Password::File("p"));
+    Ok(())
+}
+
+#[test]
+fn a_live_server_may_have_users_of_a_file(rt: HostRuntime) -> TestResult {
+    for (more, password) in [
+        ("--feed-pass-file p", Password::File("p")),
+        ("", Password::Word("variable")),
+    ] {
+        let line = format!(in rt.alloc();
+            "live --feed h:1 --port 0 --users f --feed-user other {more}"
+        )?;
+        let words = words(rt.alloc(), line.as_str())?;
+        let job = read_job(rt.alloc(), words.as_slice(), false, Some("variable"));
+        let (users, own) = match &job {
+            Ok(Job::Live(live)) => (live.users, live.feed_login),
+            _ => return Err(Fail::from("no live server")),
+        };
+        holds_in(&rt, more, users == UserWords::Listed("f"));
+        same_in(&rt, more, own.user, "other");
+        holds_in(&rt, more, own.password == password);
+    }
     Ok(())
 }
 

@@ -39,7 +39,7 @@ returns-in_default g c = record {
 pub returns : goal.returns
 returns g c =
     let length_is : length c.hand_in.new.seats ≡ c.self.inside.seats.len = c.hand_in.auto.seats ∙ ap length c.deref_mut.ensures.value ∙ sym c.self.inside.seats.ok.0 in
-    let with_seats : Seats → Desk = λ s. record { config = c.self.inside.config; following = c.self.inside.follower; seats = s } in record {
+    let with_seats : Seats → Desk = λ s. record { following = c.self.inside.follower; seats = s } in record {
       refused = on_err c.hand_in.result _ (ap (list_any waits) (ap (λ d. d.seats) (sym c.self.view_is) ∙ sym c.deref.ensures.value) ∙ sym c.any_waits.ensures ∙ c.if-not-any_waits.false);
       after = (
         c.hand_in.ensures.0,
