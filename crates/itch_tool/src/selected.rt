@@ -60,6 +60,9 @@ impl<'a> Selected<'a> {
             Command::Show { kind, filters, .. } => {
                 Selected::new(filters.only, filters.stocks, Some(part_of(*kind)))
             }
+            Command::ShowOrders { limit, filters, .. } => {
+                Selected::new(filters.only, filters.stocks, Some(*limit))
+            }
             Command::Check { limit, .. } | Command::Info { limit, .. } => {
                 Selected::new(None, None, Some(*limit))
             }
