@@ -1,4 +1,4 @@
-"""What takes minutes, by a clock that goes faster (hurry.c): two feeds that fail in turn, each in a network namespace of its own, and a feed that
+"""Runs that would take minutes, by a clock that goes faster (hurry.c): two feeds that fail in turn, each in a network namespace of its own, and a feed that
 stays for a minute.
 
 RUNS has a function for each run, named for what it shows; it is given the program, and yields what differs. `hurried.py PROGRAM SHIM`, in a user

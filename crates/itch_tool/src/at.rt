@@ -15,14 +15,14 @@ use std::alloc::{AllocError, Global};
 use std::rt::{Clock, Files};
 
 /// Joins a day file to the checkpoint that is nearest to a point of the day. The file is read from there on.
-pub fn join_at<R: Files + Input + Eprint + AllocGlobal + Clock, W: CountedWrite>(
+pub fn join_at<'x, R: Files + Input + Eprint + AllocGlobal + Clock, W: CountedWrite>(
     rt: &R,
     folder: &str,
     feed: Option<&str>,
     point: Limit,
     selection: Selection<'_>,
-    progress: Option<&Progress<'_, R>>,
-    beginning: &Beginning,
+    progress: Option<&'x Progress<'_, R>>,
+    beginning: &'x Beginning,
     only: Option<LocateSet<Global>>,
     out: &mut W,
 ) -> Result<bool, Failure> {

@@ -35,7 +35,7 @@ impl<'a> Selected<'a> {
 
     fn of_request(request: &Request<'a>) -> Selected<'a> {
         match request {
-            Request::One { command, .. } => Selected::of_command(command),
+            Request::One { command, .. } => Selected::of_command(*command),
             Request::Two {
                 command: PairCommand::Join { selection, .. },
                 ..
@@ -49,22 +49,22 @@ impl<'a> Selected<'a> {
         }
     }
 
-    fn of_command(command: &Command<'a>) -> Selected<'a> {
+    fn of_command(command: Command<'a>) -> Selected<'a> {
         match command {
-            Command::Snap { limit, selection } => Selected::by(*selection, Some(*limit)),
+            Command::Snap { limit, selection } => Selected::by(selection, Some(limit)),
             Command::Book {
                 selection,
                 kind,
                 ..
-            } => Selected::by(*selection, Some(part_of(*kind))),
+            } => Selected::by(selection, Some(part_of(kind))),
             Command::Show { kind, filters, .. } => {
-                Selected::new(filters.only, filters.stocks, Some(part_of(*kind)))
+                Selected::new(filters.only, filters.stocks, Some(part_of(kind)))
             }
             Command::ShowOrders { limit, filters, .. } => {
-                Selected::new(filters.only, filters.stocks, Some(*limit))
+                Selected::new(filters.only, filters.stocks, Some(limit))
             }
             Command::Check { limit, .. } | Command::Info { limit, .. } => {
-                Selected::new(None, None, Some(*limit))
+                Selected::new(None, None, Some(limit))
             }
             Command::Canon { .. } => Selected::nothing(),
         }
