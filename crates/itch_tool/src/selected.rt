@@ -15,7 +15,7 @@ pub struct Selected<'a> {
 impl<'a> Selected<'a> {
     pub fn of(job: &Job<'a>) -> Selected<'a> {
         match job {
-            Job::Files { request, .. } => Selected::of_request(request),
+            Job::Files { request, .. } => Selected::of_request(*request),
             Job::Points(PointWords { only, .. }) => Selected::new(*only, None, None),
             _ => Selected::nothing(),
         }
@@ -33,19 +33,22 @@ impl<'a> Selected<'a> {
         }
     }
 
-    fn of_request(request: &Request<'a>) -> Selected<'a> {
+    fn of_request(request: Request<'a>) -> Selected<'a> {
         match request {
-            Request::One { command, .. } => Selected::of_command(*command),
-            Request::Two {
-                command: PairCommand::Join { selection, .. },
-                ..
-            } => Selected::by(*selection, None),
-            Request::Two { .. } => Selected::nothing(),
+            Request::One { command, .. } => Selected::of_command(command),
+            Request::Two { command, .. } => Selected::of_pair(command),
             Request::At {
                 selection,
                 point,
                 ..
-            } => Selected::by(*selection, Some(*point)),
+            } => Selected::by(selection, Some(point)),
+        }
+    }
+
+    fn of_pair(command: PairCommand<'a>) -> Selected<'a> {
+        match command {
+            PairCommand::Join { selection, .. } => Selected::by(selection, None),
+            _ => Selected::nothing(),
         }
     }
 
