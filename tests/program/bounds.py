@@ -4,13 +4,12 @@ waiting messages in a joiner of the released C library.
 RUNS has a function for each run, named for what it shows; it is given the program, and yields what differs.
 """
 import contextlib
-import select
 import subprocess
 import threading
 import time
 from concurrent.futures import ThreadPoolExecutor
 
-from common import differs, ended_in, split
+from common import differs, ended_in, readable, split
 from living import (CLIENT_BEAT, ENDED, LOGIN, Feed, acceptance, answer, connect, day_of, feeding, fetch, folder_with, follow, live, memory_of,
                     number_of, packet, plays, received, sends, snapshot_after, told)
 from standby import waits_for
@@ -47,7 +46,7 @@ class Crowd:
         return len(self.accepted) == count
 
     def hear(self, seconds):
-        for client in select.select(self.waiting, [], [], seconds)[0]:
+        for client in readable(self.waiting, seconds):
             if received(client, len(acceptance(1))) == acceptance(1):
                 self.accepted.append(client)
             self.waiting.remove(client)

@@ -2,6 +2,7 @@
 import configparser
 import functools
 import os
+import select
 import subprocess
 import tempfile
 from pathlib import Path
@@ -26,6 +27,16 @@ def blocks():
 def file(words):
     """The bytes of these blocks, each given by its name or in hexadecimal digits."""
     return b"".join(blocks()[word] if word in blocks() else bytes.fromhex(word) for word in words.split())
+
+
+def readable(sources, seconds):
+    """Those of some files and sockets that can be read, as soon as one can, or none after so many seconds. (select.select takes no number
+    above 1023.)"""
+    poll = select.poll()
+    numbers = {it.fileno(): it for it in sources}
+    for number in numbers:
+        poll.register(number, select.POLLIN)
+    return [numbers[number] for number, _ in poll.poll(seconds * 1000)]
 
 
 def split(data):

@@ -8,7 +8,6 @@ import functools
 import itertools
 import os
 import resource
-import select
 import selectors
 import shlex
 import shutil
@@ -21,7 +20,7 @@ from pathlib import Path
 from typing import NamedTuple
 
 import large
-from common import differs, split
+from common import differs, readable, split
 from living import (BEAT, CLIENT_BEAT, ENDED, LOGIN, PATIENCE, SILENCE, Feed, acceptance, answer, connect, day_of, fetch, folder_with, live,
                     number_in, number_of, packet, plays, received, sends)
 
@@ -465,7 +464,7 @@ def a_login_is_accepted_before_there_is_a_market(program):
             live(program, feed.port, "--glimpse", f"127.0.0.1:{glimpse.port}") as server, connect(server.port) as peer:
         peer.sendall(LOGIN)
         begun, told, times = time.monotonic(), b"", []
-        while (left := begun + SILENCE + 2 - time.monotonic()) > 0 and select.select([peer], [], [], left)[0]:
+        while (left := begun + SILENCE + 2 - time.monotonic()) > 0 and readable([peer], left):
             if not (piece := peer.recv(4096)):
                 break
             told += piece

@@ -5,7 +5,6 @@ RUNS has a function for each run, named for what it shows; it is given the progr
 import contextlib
 import re
 import resource
-import select
 import signal
 import socket
 import struct
@@ -14,7 +13,7 @@ import threading
 import time
 from pathlib import Path
 
-from common import differs, ended_in, split
+from common import differs, ended_in, readable, split
 from living import (BEAT, CLIENT_BEAT, ENDED, LOGIN, PATIENCE, SILENCE, WORDS, Feed, Running, acceptance, answer, block_in, connect, day_of,
                     feeding, fetch, folder_with, large_server, live, number_of, packet, plays, received, recorded, sends, session_in, snapshot_after,
                     told, without_first_beats)
@@ -416,7 +415,7 @@ def one_place_is_given_to_one_client_at_a_time(program):
             first.sendall(LOGIN)
             yield from differs("first, its beginning", received(first, len(acceptance(1))), acceptance(1))
             second.sendall(LOGIN)
-            if select.select([second], [], [], 1)[0]:
+            if readable([second], 1):
                 yield "the second is told something"
             yield from differs("first", without_first_beats(acceptance(1) + received(first)) == whole, True)
             yield from differs("second", without_first_beats(received(second)) == whole, True)

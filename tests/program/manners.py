@@ -15,7 +15,7 @@ import time
 from pathlib import Path
 
 import large
-from common import differs
+from common import differs, readable
 
 TOP = Path(__file__).resolve().parent.parent.parent
 OPENING = TOP / "examples/opening.itch"
@@ -209,7 +209,7 @@ def what_is_wrongly_shown(error, length):
 def shown_next(stream):
     """The next line of progress, or what came within a minute."""
     shown = b""
-    while not shown.endswith(b"MB/s") and select.select([stream], [], [], 60)[0]:
+    while not shown.endswith(b"MB/s") and readable([stream], 60):
         byte = os.read(stream.fileno(), 1)
         if not byte:
             break

@@ -6,14 +6,13 @@ RUNS has a function for each run, named for what it shows; it is given the progr
 import contextlib
 import os
 import re
-import select
 import socket
 import subprocess
 import tempfile
 import time
 from pathlib import Path
 
-from common import differs, ended_in, split
+from common import differs, ended_in, readable, split
 from fetches import answering
 from sessions import EXAMPLES, STARTING, fetched_differs, messages, snapshot
 
@@ -28,7 +27,7 @@ def serving(program, *words, **environment):
                                stdout=subprocess.PIPE, stderr=subprocess.PIPE, env={**os.environ, **environment})
     try:
         line = b""
-        if select.select([process.stderr], [], [], STARTING)[0]:
+        if readable([process.stderr], STARTING):
             line = process.stderr.readline()
         said = re.fullmatch(r"listening on (.+):(\d+)\n", line.decode())
         yield process, said and said[1], said and said[2]

@@ -212,7 +212,7 @@ def a_day_is_refused_where_check_refuses_it_after_the_lines_before(program):
 def a_stock_that_never_comes_is_a_fault_after_all_lines(program):
     made = Writer(1)
     yield from agreement("AAPL,NONE", program, made.day(), [row for row in Reader(made.payloads).rows if row.before.stock == "AAPL"], 1,
-                         b"itchsnap: unknown stock\n", "--stock", "AAPL,NONE")
+                         b"itchsnap: unknown stock\n  day.itch: no stock NONE\n", "--stock", "AAPL,NONE")
 
 
 RUNS = [

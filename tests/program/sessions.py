@@ -6,7 +6,6 @@ import contextlib
 import itertools
 import os
 import random
-import select
 import socket
 import struct
 import subprocess
@@ -18,6 +17,7 @@ from pathlib import Path
 
 import failing
 import large
+from common import readable
 
 EXAMPLES = Path(__file__).resolve().parent.parent.parent / "examples"
 LOGIN = b"\0\x2fLuser  secret    " + b" " * 10 + b"1".rjust(20)
@@ -61,7 +61,7 @@ class Server:
         self.line = self.output = b""
 
     def __enter__(self):
-        if select.select([self.process.stderr], [], [], STARTING)[0]:
+        if readable([self.process.stderr], STARTING):
             self.line = self.process.stderr.readline()
         return self
 

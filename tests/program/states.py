@@ -3,11 +3,10 @@
 RUNS has a function for each run, named for what it shows; it is given the program, and yields what differs.
 """
 import contextlib
-import select
 import socket
 import threading
 
-from common import differs, split
+from common import differs, readable, split
 from hostile import started_by, without_beats
 from idle import share_differs
 from living import CLIENT_BEAT, ENDED, LOGIN, Feed, acceptance, answer, connect, day_of, feeding, folder_with, live, packet, plays, received, told
@@ -121,7 +120,7 @@ def places_are_given_in_the_order_of_those_who_come(program):
         for place, other in enumerate(others):
             first.close()
             yield from differs(f"{place}", received(other, ACCEPTED), acceptance(1))
-            later = [it for it in others[place + 1:] if select.select([it], [], [], 0)[0]]
+            later = [it for it in others[place + 1:] if readable([it], 0)]
             yield from differs(f"told something after {place}", len(later), 0)
             first = other
 

@@ -61,6 +61,13 @@ fn take_first<'a, T: Sink>(sink: &mut T, number: u64, blocks: &'a [u8]) -> Optio
     Some(after)
 }
 
+// After how many messages a sink is first told what comes next, of a part that begins after so many. Parts of one message tell it only
+// now and then.
+#[inline(always)]
+pub(crate) fn first_look(count: u64) -> u64 {
+    count.saturating_add(15) / 16 * 16
+}
+
 // Tells a sink what comes next, where it has looked at no more messages than were taken. Nothing changes.
 #[inline(always)]
 pub(crate) fn look_ahead<T: Sink>(sink: &mut T, count: u64, seen: &mut u64, blocks: &[u8])

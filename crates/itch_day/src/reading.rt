@@ -9,7 +9,7 @@ ghost use Rattle.itch_day.specs.Sinks.{Decodes};
 ghost use Rattle.itch_day.specs.declared.limit.Limit.{Limit as AnyLimit};
 ghost use Rattle.itch_day.specs.declared.stop.Stop.{Stop as AnyStop};
 
-use crate::batch::{Batch, look_ahead};
+use crate::batch::{Batch, first_look, look_ahead};
 use crate::limit::Limit;
 use crate::not_taken::{NotTaken, stop_of};
 use crate::sink::Sink;
@@ -35,7 +35,7 @@ pub fn read_part<R: CountedRead, A: Allocator, T: Sink>(
     ensures ready { UnlessRefused result (T.is_ready sink.new (count.new + 1)) }
     ensures few { count.new ≤ 10 ^ 19 - 1 }
 {
-    let mut seen = 0;
+    let mut seen = first_look(*count);
     while *count < limit.most() {
         take_at_hand(reader, count, sink, limit, &mut seen);
         if *count < limit.most() {

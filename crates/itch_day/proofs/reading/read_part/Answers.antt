@@ -1,6 +1,13 @@
 use Rattle.std.proofs.Common.{◌≡◌, false, Ok, arith}
-use Rattle.itch_day.proofs.Progress.{before_most, going_both, going_on, going_stops}
+use Rattle.itch_day.proofs.Progress.{before_most, going_both, going_first, going_on, going_stops}
 use Rattle.itch_day.proofs.reading.read_part.Goals as goal
+
+pub loop-count-init : goal.loop-count-init
+loop-count-init g c = record {
+  going = going_first g.R.CountedRead.remaining g.R.CountedRead.failures g.T.Sink.takes g.T.Sink.refuses c.args.limit c.args.reader.now c.args.count.now c.args.sink.now;
+  few = c.requires.few;
+  ready = c.requires.ready;
+}
 
 pub loop-count-preserved-in-Ok-true : goal.loop-count-preserved-in-Ok-true
 loop-count-preserved-in-Ok-true g c =
