@@ -1,6 +1,9 @@
 //! What has become of the feed, in a line.
 
+use crate::cause::cause_of_code;
+use crate::log::entry::{Entry, Event, Field, Level};
 use itch_codec::Alpha;
+use itch_status::Cause;
 use std::fmt::{self, Display, Formatter};
 
 /// What has become of the connection to the feed, or to the server of a snapshot.
@@ -55,6 +58,55 @@ impl<L: Display> Display for Named<'_, L> {
     }
 }
 
+impl Event for FeedLine {
+    fn entry(&self) -> Entry<'_> {
+        match *self {
+            FeedLine::GlimpseAccepted => Entry::new(Level::Info, "glimpse_accepted"),
+            FeedLine::GlimpseLost => Entry::new(Level::Warn, "glimpse_lost"),
+            FeedLine::Accepted(next) => numbered(Level::Info, "feed_accepted", next),
+            FeedLine::Joined(next) => numbered(Level::Info, "feed_joined", next),
+            FeedLine::Lost(next) => numbered(Level::Warn, "feed_lost", next),
+            FeedLine::Ended(next) => numbered(Level::Info, "feed_ended", next),
+        }
+    }
+}
+
+fn numbered<'a>(level: Level, event: &'static str, next: u64) -> Entry<'a> {
+    Entry::new(level, event).with("next", Field::Number(next))
+}
+
+impl<L: Event> Event for Named<'_, L> {
+    fn entry(&self) -> Entry<'_> {
+        self.line
+            .entry()
+            .with_some("server", self.name.map(Field::Text))
+    }
+}
+
+/// A server is lost, for a reason that only an entry has, as its name.
+#[derive(Clone, Copy)]
+pub(crate) struct Loss<'a> {
+    pub line: FeedLine,
+    pub cause: Option<Cause>,
+    pub name: Option<&'a str>,
+}
+
+impl Display for Loss<'_> {
+    fn fmt<W: fmt::Write>(&self, f: &mut Formatter<W>) -> fmt::Result {
+        let line = &self.line;
+        write!(f, "{line}")
+    }
+}
+
+impl Event for Loss<'_> {
+    fn entry(&self) -> Entry<'_> {
+        self.line
+            .entry()
+            .with_some("cause", self.cause.map(Field::Cause))
+            .with_some("server", self.name.map(Field::Text))
+    }
+}
+
 /// Why a server is asked again, where more is known than that it is lost.
 #[derive(Clone, Copy, Debug, PartialEq, Eq)]
 pub(crate) enum Trouble {
@@ -75,9 +127,43 @@ pub(crate) enum Trouble {
 }
 
 impl Trouble {
+    /// The same as a cause of the status.
+    pub(crate) fn cause(&self) -> Cause {
+        match self {
+            Trouble::GlimpseUnknown | Trouble::Unknown => Cause::NotFound,
+            Trouble::GlimpseRejected(code) | Trouble::Rejected(code) => cause_of_code(*code),
+            Trouble::OtherSession(..) => Cause::OtherSession,
+            Trouble::Gap { .. } => Cause::Gap,
+            Trouble::NoMemory(_) => Cause::NoMemory,
+        }
+    }
+
     /// Whether a line about it names the server, also where there is only one.
     pub(crate) fn is_of_a_name(&self) -> bool {
         matches!(self, Trouble::GlimpseUnknown | Trouble::Unknown)
+    }
+}
+
+impl Event for Trouble {
+    fn entry(&self) -> Entry<'_> {
+        let event = match self {
+            Trouble::GlimpseUnknown | Trouble::GlimpseRejected(_) => "glimpse_lost",
+            _ => "feed_lost",
+        };
+        let entry = Entry::new(Level::Warn, event).with("cause", Field::Cause(self.cause()));
+        match self {
+            Trouble::GlimpseUnknown | Trouble::Unknown => entry,
+            Trouble::GlimpseRejected(code) | Trouble::Rejected(code) => {
+                entry.with("code", Field::Letter(*code))
+            }
+            Trouble::OtherSession(named, wanted) => entry
+                .with("session", Field::Text(named.text().trim()))
+                .with("wanted", Field::Text(wanted.text().trim())),
+            Trouble::Gap { next, begins } => entry
+                .with("next", Field::Number(*next))
+                .with("begins", Field::Number(*begins)),
+            Trouble::NoMemory(next) => entry.with("next", Field::Number(*next)),
+        }
     }
 }
 
