@@ -460,18 +460,6 @@ where
         Ok(())
     }
 
-    // Looks at the files that others may change.
-    fn watch(&mut self, now_ms: u64) -> Result<(), LiveFault> {
-        if self.users.is_due(now_ms) {
-            self.spare.release();
-            self.users.look(&mut self.log, "users", now_ms);
-        }
-        match self.record.watch(self.log.runtime(), now_ms) {
-            Ok(()) => Ok(()),
-            Err(loss) => self.lose_record(loss),
-        }
-    }
-
     // Writes what has become of the connections.
     fn write_lines<W: CountedWrite>(&mut self, now_ms: u64, out: &mut W) {
         for _ in 0..u64::MAX {

@@ -1,6 +1,7 @@
 //! The logins that a server accepts, or that a client gives: words of the command line, or those of a file, which is read again when it has changed.
 
 use crate::log::Log;
+use crate::log::entry::{Entry, Event, Field, Level};
 use crate::login_file::{Look, Sight, Version, look_of};
 use crate::session_fault::SessionFault;
 use crate::sessions::{Login, first_line, without_return};
@@ -233,6 +234,22 @@ impl Display for LoginLine<'_, '_, '_> {
         match self.fault {
             None => write!(f, "{whose}: reloaded {path}"),
             Some(fault) => write!(f, "{whose}: cannot reload {path}: {fault}"),
+        }
+    }
+}
+
+impl Event for LoginLine<'_, '_, '_> {
+    fn entry(&self) -> Entry<'_> {
+        let entry = match self.fault {
+            None => Entry::new(Level::Info, "logins_reloaded"),
+            Some(_) => Entry::new(Level::Warn, "logins_kept"),
+        };
+        let entry = entry
+            .with("whose", Field::Text(self.whose))
+            .with("file", Field::Text(self.path));
+        match self.fault {
+            None => entry,
+            Some(fault) => entry.with("reason", Field::Logins(fault)),
         }
     }
 }

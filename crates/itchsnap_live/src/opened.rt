@@ -9,7 +9,7 @@ use crate::record::Record;
 use crate::resuming::at_the_first;
 use crate::saving::Saver;
 use crate::session_fault::SessionFault;
-use crate::sessions::current_session;
+use crate::sessions::{Listening, current_session};
 use crate::start::Start;
 use crate::status::StatusPort;
 use crate::turns::called;

@@ -274,7 +274,7 @@ impl Reception {
             if let Some(visitor) = room {
                 match visitor.stage {
                     Stage::Opening => opening = opening.saturating_add(1),
-                    Stage::Ready => ready = ready.saturating_add(1),
+                    Stage::Ready(_) => ready = ready.saturating_add(1),
                     Stage::Rejected { .. } | Stage::Over(_) => {}
                 }
             }
@@ -468,7 +468,7 @@ impl Reception {
             visitor.stage = Stage::Rejected { code, at_ms };
         }
         let who = visitor.link.who();
-        let has_logged_in = was_opening && matches!(visitor.stage, Stage::Ready);
+        let has_logged_in = was_opening && matches!(visitor.stage, Stage::Ready(_));
         let departure = visitor.departure(now_ms);
         if has_logged_in {
             self.happens(who, Happening::LoggedIn);

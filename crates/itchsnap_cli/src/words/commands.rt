@@ -20,7 +20,7 @@ pub struct Entry {
 }
 
 /// The commands.
-pub const COMMANDS: [Entry; 15] = [
+pub const COMMANDS: [Entry; 16] = [
     Entry {
         name: "snap",
         about: "Write the snapshot of the market that a day file leaves",

@@ -1,4 +1,4 @@
-//! The record and the snapshots of a live server.
+//! The files of a live server.
 
 use super::Server;
 use crate::fault::LiveFault;
@@ -79,7 +79,12 @@ where
         fault
     }
 
+    // Looks at the files that others may change.
     pub(super) fn watch(&mut self, now_ms: u64) -> Result<(), LiveFault> {
+        if self.users.is_due(now_ms) {
+            self.spare.release();
+            self.users.look(&mut self.log, "users", now_ms);
+        }
         match self.record.watch(self.log.runtime(), now_ms) {
             Ok(()) => Ok(()),
             Err(loss) => self.lose_record(loss),

@@ -1,6 +1,7 @@
 //! What a line of the log says, as fields.
 
 use crate::log::form::LogForm;
+use crate::logins::LoginsFault;
 use crate::watch::Change;
 use itch_status::{Cause, UTC};
 use std::fmt::{self, Display, Formatter};
@@ -31,6 +32,7 @@ pub(crate) enum Field<'a> {
     Cause(Cause),
     Change(Change),
     System(io::Error),
+    Logins(&'a LoginsFault),
 }
 
 /// What a line says: an event, and its fields.
@@ -114,6 +116,7 @@ impl Display for Field<'_> {
             Field::Cause(cause) => f.write_str(cause.words()),
             Field::Change(change) => write!(f, "{change}"),
             Field::System(error) => write!(f, "{error}"),
+            Field::Logins(fault) => write!(f, "{fault}"),
         }
     }
 }
