@@ -1,7 +1,8 @@
 //! What has become of the feed, in a line.
 
 use crate::cause::cause_of_code;
-use crate::log::entry::{Entry, Event, Field, Level};
+use crate::log::entry::{Event, Level, write_letter, write_number, write_text};
+use crate::log::form::LogForm;
 use itch_codec::Alpha;
 use itch_status::Cause;
 use std::fmt::{self, Display, Formatter};
@@ -59,27 +60,59 @@ impl<L: Display> Display for Named<'_, L> {
 }
 
 impl Event for FeedLine {
-    fn entry(&self) -> Entry<'_> {
-        match *self {
-            FeedLine::GlimpseAccepted => Entry::new(Level::Info, "glimpse_accepted"),
-            FeedLine::GlimpseLost => Entry::new(Level::Warn, "glimpse_lost"),
-            FeedLine::Accepted(next) => numbered(Level::Info, "feed_accepted", next),
-            FeedLine::Joined(next) => numbered(Level::Info, "feed_joined", next),
-            FeedLine::Lost(next) => numbered(Level::Warn, "feed_lost", next),
-            FeedLine::Ended(next) => numbered(Level::Info, "feed_ended", next),
+    fn level(&self) -> Level {
+        match self {
+            FeedLine::GlimpseLost | FeedLine::Lost(_) => Level::Warn,
+            _ => Level::Info,
+        }
+    }
+
+    fn name(&self) -> &'static str {
+        match self {
+            FeedLine::GlimpseAccepted => "glimpse_accepted",
+            FeedLine::GlimpseLost => "glimpse_lost",
+            FeedLine::Accepted(_) => "feed_accepted",
+            FeedLine::Joined(_) => "feed_joined",
+            FeedLine::Lost(_) => "feed_lost",
+            FeedLine::Ended(_) => "feed_ended",
+        }
+    }
+
+    fn write_fields<W: fmt::Write>(&self, f: &mut Formatter<W>, form: LogForm) -> fmt::Result {
+        match self {
+            FeedLine::GlimpseAccepted | FeedLine::GlimpseLost => Ok(()),
+            FeedLine::Accepted(next)
+            | FeedLine::Joined(next)
+            | FeedLine::Lost(next)
+            | FeedLine::Ended(next) => write_number(f, form, "next", *next),
         }
     }
 }
 
-fn numbered<'a>(level: Level, event: &'static str, next: u64) -> Entry<'a> {
-    Entry::new(level, event).with("next", Field::Number(next))
+// Writes the name of a server, if there is one.
+fn write_server<W: fmt::Write>(
+    f: &mut Formatter<W>,
+    form: LogForm,
+    name: Option<&str>,
+) -> fmt::Result {
+    match name {
+        Some(name) => write_text(f, form, "server", name),
+        None => Ok(()),
+    }
 }
 
 impl<L: Event> Event for Named<'_, L> {
-    fn entry(&self) -> Entry<'_> {
-        self.line
-            .entry()
-            .with_some("server", self.name.map(Field::Text))
+    fn level(&self) -> Level {
+        self.line.level()
+    }
+
+    fn name(&self) -> &'static str {
+        self.line.name()
+    }
+
+    fn write_fields<W: fmt::Write>(&self, f: &mut Formatter<W>, form: LogForm) -> fmt::Result {
+        self.line.write_fields(f, form)?;
+        write_server(f, form, self.name)
     }
 }
 
@@ -99,11 +132,20 @@ impl Display for Loss<'_> {
 }
 
 impl Event for Loss<'_> {
-    fn entry(&self) -> Entry<'_> {
-        self.line
-            .entry()
-            .with_some("cause", self.cause.map(Field::Cause))
-            .with_some("server", self.name.map(Field::Text))
+    fn level(&self) -> Level {
+        self.line.level()
+    }
+
+    fn name(&self) -> &'static str {
+        self.line.name()
+    }
+
+    fn write_fields<W: fmt::Write>(&self, f: &mut Formatter<W>, form: LogForm) -> fmt::Result {
+        self.line.write_fields(f, form)?;
+        if let Some(cause) = self.cause {
+            write_text(f, form, "cause", cause.words())?;
+        }
+        write_server(f, form, self.name)
     }
 }
 
@@ -145,24 +187,33 @@ impl Trouble {
 }
 
 impl Event for Trouble {
-    fn entry(&self) -> Entry<'_> {
-        let event = match self {
+    fn level(&self) -> Level {
+        Level::Warn
+    }
+
+    fn name(&self) -> &'static str {
+        match self {
             Trouble::GlimpseUnknown | Trouble::GlimpseRejected(_) => "glimpse_lost",
             _ => "feed_lost",
-        };
-        let entry = Entry::new(Level::Warn, event).with("cause", Field::Cause(self.cause()));
+        }
+    }
+
+    fn write_fields<W: fmt::Write>(&self, f: &mut Formatter<W>, form: LogForm) -> fmt::Result {
+        write_text(f, form, "cause", self.cause().words())?;
         match self {
-            Trouble::GlimpseUnknown | Trouble::Unknown => entry,
+            Trouble::GlimpseUnknown | Trouble::Unknown => Ok(()),
             Trouble::GlimpseRejected(code) | Trouble::Rejected(code) => {
-                entry.with("code", Field::Letter(*code))
+                write_letter(f, form, "code", *code)
             }
-            Trouble::OtherSession(named, wanted) => entry
-                .with("session", Field::Text(named.text().trim()))
-                .with("wanted", Field::Text(wanted.text().trim())),
-            Trouble::Gap { next, begins } => entry
-                .with("next", Field::Number(*next))
-                .with("begins", Field::Number(*begins)),
-            Trouble::NoMemory(next) => entry.with("next", Field::Number(*next)),
+            Trouble::OtherSession(named, wanted) => {
+                write_text(f, form, "session", named.text().trim())?;
+                write_text(f, form, "wanted", wanted.text().trim())
+            }
+            Trouble::Gap { next, begins } => {
+                write_number(f, form, "next", *next)?;
+                write_number(f, form, "begins", *begins)
+            }
+            Trouble::NoMemory(next) => write_number(f, form, "next", *next),
         }
     }
 }

@@ -3,8 +3,7 @@ ghost use Rattle.std.specs.Prelude.{◌≡◌, ◌≤◌, ◌&&◌, ◌||◌, no
 ghost use Rattle.itchsnap_live.specs.Departures.{ending};
 
 use crate::socket::{Got, Socket};
-use crate::who::Who;
-use itch_codec::Alpha;
+use crate::who::{User, Who};
 use itch_live::Gone;
 use mio::Registry;
 use mio::event::Event;
@@ -43,7 +42,7 @@ impl Link {
     }
 
     /// Takes note of the user name that a login gives.
-    pub(crate) fn set_user(&mut self, user: Alpha<6>) {
+    pub(crate) fn set_user(&mut self, user: User) {
         self.who.user = Some(user);
     }
 

@@ -10,7 +10,7 @@ use crate::who::{Happening, Visit};
 use entry::{Event, Line};
 use form::LogForm;
 use itch_frame::CountedWrite;
-use itch_status::utc;
+use itch_status::{UTC, utc};
 use lines::LinesLost;
 use mio::unix::SourceFd;
 use mio::{Events, Interest, Poll, Token};
@@ -101,12 +101,17 @@ impl<'a, R: Eprint> Log<'a, R> {
         let said = match self.form {
             LogForm::Plain => self.rt.eprintln(line),
             form => self.rt.eprintln(&Line {
-                time: self.time.and_then(utc),
+                time: self.time(),
                 form,
-                entry: line.entry(),
+                event: line,
             }),
         };
         said.is_ok()
+    }
+
+    // The time of this turn, as it is written.
+    fn time(&self) -> Option<[u8; UTC]> {
+        utc(self.time?)
     }
 
     /// Writes what has become of a client's connection: plain lines have only its end, on standard output.

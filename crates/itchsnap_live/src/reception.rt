@@ -10,7 +10,7 @@ use crate::sessions::Login;
 use crate::socket::Socket;
 use crate::spare::Spare;
 use crate::users::{Verdict, verdict_of};
-use crate::who::{Happening, Who};
+use crate::who::{Happening, User, Who};
 use arrayvec::ArrayVec;
 use itch_codec::{Alpha, Seq};
 use itch_live::{Gone, PendingPacket};
@@ -107,6 +107,10 @@ impl Visitor {
         }
     }
 
+    fn who(&self) -> Who {
+        self.link.who()
+    }
+
     fn new(link: Link, address: IpAddr, now_ms: u64) -> Visitor {
         Visitor {
             link,
@@ -187,7 +191,7 @@ impl Visitor {
             return true;
         };
         if let Packet::LoginRequest(login) = &packet {
-            self.link.set_user(login.username);
+            self.link.set_user(User::new(login.username.text()));
         }
         let messages = served.end_number.value() - 1;
         self.stage = match verdict_of(served.users, &served.session, messages, &packet) {
@@ -467,8 +471,8 @@ impl Reception {
             let at_ms = now_ms.saturating_add(self.refusals.delay_of(visitor.address, now_ms));
             visitor.stage = Stage::Rejected { code, at_ms };
         }
-        let who = visitor.link.who();
-        let has_logged_in = was_opening && matches!(visitor.stage, Stage::Ready(_));
+        let who = visitor.who();
+        let has_logged_in = was_opening && matches!(visitor.stage, Stage::Ready);
         let departure = visitor.departure(now_ms);
         if has_logged_in {
             self.happens(who, Happening::LoggedIn);

@@ -2,7 +2,8 @@
 
 use crate::fault::{LiveFault, Owned, RecordFault};
 use crate::log::Log;
-use crate::log::entry::{Entry, Event, Field, Level};
+use crate::log::entry::{Event, Level, write_shown};
+use crate::log::form::LogForm;
 use crate::log::lines::Dropped;
 use crate::recording::Recording;
 use crate::resuming::replay_record;
@@ -260,12 +261,19 @@ impl Display for RecordLoss {
 }
 
 impl Event for RecordLoss {
-    fn entry(&self) -> Entry<'_> {
-        let why = match self {
-            RecordLoss::Changed(change) => Field::Change(*change),
-            RecordLoss::System(error) => Field::System(*error),
-        };
-        Entry::new(Level::Error, "record_given_up").with("why", why)
+    fn level(&self) -> Level {
+        Level::Error
+    }
+
+    fn name(&self) -> &'static str {
+        "record_given_up"
+    }
+
+    fn write_fields<W: fmt::Write>(&self, f: &mut Formatter<W>, form: LogForm) -> fmt::Result {
+        match self {
+            RecordLoss::Changed(change) => write_shown(f, form, "why", change),
+            RecordLoss::System(error) => write_shown(f, form, "why", error),
+        }
     }
 }
 

@@ -6,7 +6,8 @@ ghost use Rattle.itchsnap_live.specs.Savings.{is_wanted};
 
 use crate::fault::{LiveFault, Owned};
 use crate::log::Log;
-use crate::log::entry::{Entry, Event, Field, Level};
+use crate::log::entry::{Event, Level, write_number, write_shown, write_text};
+use crate::log::form::LogForm;
 use crate::recording::Recording;
 use crate::session_fault::SessionFault;
 use crate::sessions::{PIECE, Sending, write_closed};
@@ -73,17 +74,24 @@ impl Display for Missed<'_> {
 }
 
 impl Event for Missed<'_> {
-    fn entry(&self) -> Entry<'_> {
-        let entry = Entry::new(Level::Warn, "snapshots_missed")
-            .with("count", Field::Number(self.count))
-            .with("folder", Field::Text(self.folder))
-            .with("messages", Field::Number(self.messages));
+    fn level(&self) -> Level {
+        Level::Warn
+    }
+
+    fn name(&self) -> &'static str {
+        "snapshots_missed"
+    }
+
+    fn write_fields<W: fmt::Write>(&self, f: &mut Formatter<W>, form: LogForm) -> fmt::Result {
+        write_number(f, form, "count", self.count)?;
+        write_text(f, form, "folder", self.folder)?;
+        write_number(f, form, "messages", self.messages)?;
         match self.fault {
             SessionFault::Folder(error) | SessionFault::Write(error) => {
-                entry.with("why", Field::System(*error))
+                write_shown(f, form, "why", error)
             }
-            SessionFault::OutOfMemory => entry.with("why", Field::Text("out of memory")),
-            _ => entry.with("why", Field::Text("too many messages")),
+            SessionFault::OutOfMemory => write_text(f, form, "why", "out of memory"),
+            _ => write_text(f, form, "why", "too many messages"),
         }
     }
 }

@@ -1,10 +1,13 @@
 //! Whose connection it is, and what becomes of it.
 
 use crate::departure::Departure;
-use crate::log::entry::{Entry, Event, Field, Level};
-use itch_codec::Alpha;
+use crate::log::entry::{
+    Event, Level, write_letter, write_number, write_seconds, write_shown, write_text,
+};
+use crate::log::form::LogForm;
 use std::fmt::{self, Display, Formatter};
 use std::net::IpAddr;
+use std::str;
 
 /// Whose connection it is.
 #[derive(Clone, Copy, Debug)]
@@ -13,7 +16,7 @@ pub(crate) struct Who {
     pub number: u64,
     pub address: IpAddr,
     /// The user name of its login, once it was read.
-    pub user: Option<Alpha<6>>,
+    pub user: Option<User>,
     /// When it connected, and how many bytes it was sent.
     pub since_ms: u64,
     pub sent: u64,
@@ -29,6 +32,27 @@ impl Who {
             since_ms: now_ms,
             sent: 0,
         }
+    }
+}
+
+/// A user name, with spaces at its end.
+#[derive(Clone, Copy, Debug)]
+pub(crate) struct User {
+    name: [u8; 6],
+}
+
+impl User {
+    /// The user of this name, or of its first six bytes.
+    pub(crate) fn new(text: &str) -> User {
+        let mut name = [b' '; 6];
+        for (to, from) in name.iter_mut().zip(text.as_bytes()) {
+            *to = *from;
+        }
+        User { name }
+    }
+
+    fn text(&self) -> &str {
+        str::from_utf8(&self.name).unwrap_or("").trim_end()
     }
 }
 
@@ -50,14 +74,6 @@ pub(crate) struct Visit {
     pub passed_ms: u64,
 }
 
-impl Display for Visit {
-    fn fmt<W: fmt::Write>(&self, f: &mut Formatter<W>) -> fmt::Result {
-        let number = self.who.number;
-        f.write_str(self.event())?;
-        write!(f, " {number}")
-    }
-}
-
 impl Visit {
     pub(crate) fn new(who: Who, happening: Happening, now_ms: u64) -> Visit {
         Visit {
@@ -66,8 +82,24 @@ impl Visit {
             passed_ms: now_ms.saturating_sub(who.since_ms),
         }
     }
+}
 
-    fn event(&self) -> &'static str {
+impl Display for Visit {
+    fn fmt<W: fmt::Write>(&self, f: &mut Formatter<W>) -> fmt::Result {
+        let (name, number) = (self.name(), self.who.number);
+        write!(f, "{name} {number}")
+    }
+}
+
+impl Event for Visit {
+    fn level(&self) -> Level {
+        match self.happening {
+            Happening::Connected | Happening::LoggedIn | Happening::FirstByte => Level::Info,
+            Happening::Ended(departure) => level_of(departure),
+        }
+    }
+
+    fn name(&self) -> &'static str {
         match self.happening {
             Happening::Connected => "client_connected",
             Happening::LoggedIn => "client_logged_in",
@@ -76,44 +108,50 @@ impl Visit {
         }
     }
 
-    fn level(&self) -> Level {
-        match self.happening {
-            Happening::Ended(
-                Departure::Answered { .. } | Departure::Played { .. } | Departure::Left,
-            ) => { Level::Info }
-            Happening::Ended(_) => Level::Warn,
-            _ => Level::Info,
+    fn write_fields<W: fmt::Write>(&self, f: &mut Formatter<W>, form: LogForm) -> fmt::Result {
+        write_number(f, form, "number", self.who.number)?;
+        write_shown(f, form, "address", &self.who.address)?;
+        if let Some(user) = &self.who.user {
+            write_text(f, form, "user", user.text())?;
         }
-    }
-}
-
-impl Event for Visit {
-    fn entry(&self) -> Entry<'_> {
-        let entry = Entry::new(self.level(), self.event())
-            .with("number", Field::Number(self.who.number))
-            .with("address", Field::Address(self.who.address))
-            .with_some("user", self.who.user.as_ref().map(text_of));
         match self.happening {
-            Happening::Connected => entry,
+            Happening::Connected => Ok(()),
             Happening::LoggedIn | Happening::FirstByte => {
-                entry.with("seconds", Field::Seconds(self.passed_ms))
+                write_seconds(f, form, "seconds", self.passed_ms)
             }
-            Happening::Ended(departure) => with_departure(
-                entry
-                    .with("bytes", Field::Number(self.who.sent))
-                    .with("seconds", Field::Seconds(self.passed_ms)),
-                departure,
-            ),
+            Happening::Ended(departure) => {
+                write_number(f, form, "bytes", self.who.sent)?;
+                write_seconds(f, form, "seconds", self.passed_ms)?;
+                write_departure(f, form, departure)
+            }
         }
     }
 }
 
-fn text_of(user: &Alpha<6>) -> Field<'_> {
-    Field::Text(user.text())
+fn level_of(departure: Departure) -> Level {
+    match departure {
+        Departure::Answered { .. } | Departure::Played { .. } | Departure::Left => Level::Info,
+        _ => Level::Warn,
+    }
 }
 
-fn with_departure(entry: Entry<'_>, departure: Departure) -> Entry<'_> {
-    let reason = match departure {
+// Writes how a connection ended, and a number or a code with it.
+fn write_departure<W: fmt::Write>(
+    f: &mut Formatter<W>,
+    form: LogForm,
+    departure: Departure,
+) -> fmt::Result {
+    write_text(f, form, "reason", reason_of(departure))?;
+    match departure {
+        Departure::Answered { next, .. } => write_number(f, form, "next", next),
+        Departure::Played { from, .. } => write_number(f, form, "from", from),
+        Departure::Rejected(code) => write_letter(f, form, "code", code),
+        _ => Ok(()),
+    }
+}
+
+fn reason_of(departure: Departure) -> &'static str {
+    match departure {
         Departure::Answered { .. } => "answered",
         Departure::Played { .. } => "played",
         Departure::Rejected(_) => "rejected",
@@ -121,12 +159,5 @@ fn with_departure(entry: Entry<'_>, departure: Departure) -> Entry<'_> {
         Departure::Fault => "fault",
         Departure::CutOff => "cut off",
         Departure::Slowest => "slowest",
-    };
-    let entry = entry.with("reason", Field::Text(reason));
-    match departure {
-        Departure::Answered { next, .. } => entry.with("next", Field::Number(next)),
-        Departure::Played { from, .. } => entry.with("from", Field::Number(from)),
-        Departure::Rejected(code) => entry.with("code", Field::Letter(code)),
-        _ => entry,
     }
 }

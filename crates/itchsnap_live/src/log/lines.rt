@@ -1,13 +1,22 @@
 //! The lines of a server besides those of its feed and its clients.
 
-use crate::log::entry::{Entry, Event, Field, Level};
+use crate::log::entry::{Event, Level, write_number, write_shown};
+use crate::log::form::LogForm;
 use crate::sessions::Listening;
 use std::fmt::{self, Display, Formatter};
 use std::net::SocketAddr;
 
 impl Event for Listening {
-    fn entry(&self) -> Entry<'_> {
-        Entry::new(Level::Info, "listening").with("on", Field::Socket(self.0))
+    fn level(&self) -> Level {
+        Level::Info
+    }
+
+    fn name(&self) -> &'static str {
+        "listening"
+    }
+
+    fn write_fields<W: fmt::Write>(&self, f: &mut Formatter<W>, form: LogForm) -> fmt::Result {
+        write_shown(f, form, "on", &self.0)
     }
 }
 
@@ -23,8 +32,16 @@ impl Display for StatusOn {
 }
 
 impl Event for StatusOn {
-    fn entry(&self) -> Entry<'_> {
-        Entry::new(Level::Info, "status").with("on", Field::Socket(self.0))
+    fn level(&self) -> Level {
+        Level::Info
+    }
+
+    fn name(&self) -> &'static str {
+        "status"
+    }
+
+    fn write_fields<W: fmt::Write>(&self, f: &mut Formatter<W>, form: LogForm) -> fmt::Result {
+        write_shown(f, form, "on", &self.0)
     }
 }
 
@@ -40,8 +57,16 @@ impl Display for LinesLost {
 }
 
 impl Event for LinesLost {
-    fn entry(&self) -> Entry<'_> {
-        Entry::new(Level::Warn, "lines_lost").with("count", Field::Number(self.0))
+    fn level(&self) -> Level {
+        Level::Warn
+    }
+
+    fn name(&self) -> &'static str {
+        "lines_lost"
+    }
+
+    fn write_fields<W: fmt::Write>(&self, f: &mut Formatter<W>, form: LogForm) -> fmt::Result {
+        write_number(f, form, "count", self.0)
     }
 }
 
@@ -60,9 +85,16 @@ impl Display for Dropped {
 }
 
 impl Event for Dropped {
-    fn entry(&self) -> Entry<'_> {
-        Entry::new(Level::Warn, "record_cut")
-            .with("bytes", Field::Number(self.bytes))
-            .with("messages", Field::Number(self.messages))
+    fn level(&self) -> Level {
+        Level::Warn
+    }
+
+    fn name(&self) -> &'static str {
+        "record_cut"
+    }
+
+    fn write_fields<W: fmt::Write>(&self, f: &mut Formatter<W>, form: LogForm) -> fmt::Result {
+        write_number(f, form, "bytes", self.bytes)?;
+        write_number(f, form, "messages", self.messages)
     }
 }
