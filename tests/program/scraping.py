@@ -173,7 +173,7 @@ def what_prometheus_scrapes(program):
 
 def asked_of(port, query):
     """The answer of Prometheus to a query; none where it does not answer yet."""
-    with contextlib.suppress(OSError, http.client.HTTPException):
+    with contextlib.suppress(OSError, ValueError, http.client.HTTPException):
         asking = http.client.HTTPConnection("127.0.0.1", port, timeout=PATIENCE)
         with contextlib.closing(asking):
             asking.request("GET", "/api/v1/query?" + urllib.parse.urlencode({"query": query}))
