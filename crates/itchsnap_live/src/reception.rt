@@ -472,7 +472,7 @@ impl Reception {
             visitor.stage = Stage::Rejected { code, at_ms };
         }
         let who = visitor.who();
-        let has_logged_in = was_opening && matches!(visitor.stage, Stage::Ready);
+        let has_logged_in = was_opening && matches!(visitor.stage, Stage::Ready(_));
         let departure = visitor.departure(now_ms);
         if has_logged_in {
             self.happens(who, Happening::LoggedIn);
