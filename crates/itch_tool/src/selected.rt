@@ -66,9 +66,6 @@ impl<'a> Selected<'a> {
             Command::ShowOrders { limit, filters, .. } => {
                 Selected::new(filters.only, filters.stocks, Some(limit))
             }
-            Command::ShowOrders { limit, filters, .. } => {
-                Selected::new(filters.only, filters.stocks, Some(*limit))
-            }
             Command::Check { limit, .. } | Command::Info { limit, .. } => {
                 Selected::new(None, None, Some(limit))
             }
