@@ -173,7 +173,7 @@ def each_command_has_an_example(program):
         if not example:
             yield f"{command} has none"
             continue
-        if command in ("serve", "fetch", "live", "follow", "feed"):
+        if command in ("serve", "fetch", "live", "follow", "feed", "status"):
             continue
         with tempfile.TemporaryDirectory() as folder:
             for name, blocks in FILES.items():

@@ -43,6 +43,8 @@ where
         record: words.record,
         snapshots: words.snapshots,
         stay: words.stay,
+        status: words.status,
+        log: words.log,
     };
     let mut out = Counted::new(io::writer(rt));
     said(
@@ -120,6 +122,10 @@ fn live_names<'a>(words: &LiveWords<'a>) -> Names<'a> {
             Some(snapshots) => snapshots.folder,
             None => "",
         },
+        status: match words.status {
+            Some(place) => place.words,
+            None => "",
+        },
         feeds: words.feeds,
     }
 }
@@ -129,6 +135,7 @@ fn follow_names<'a>(words: &FollowWords<'a>) -> Names<'a> {
     Names {
         record: "",
         snapshots: "",
+        status: "",
         feeds: words.feeds,
     }
 }

@@ -4,7 +4,9 @@ ghost use Rattle.itch_tool.specs.Names.{first_path, input_name, last_path, name_
 
 use crate::selected::Selected;
 use itch_commands::{Command, PairCommand, Request, Source};
-use itchsnap_cli::words::{FeedWords, FollowWords, Job, LiveWords, PointWords, Server};
+use itchsnap_cli::words::{
+    FeedWords, FollowWords, Job, LiveWords, PointWords, Server, StatusWords,
+};
 use itchsnap_live::{SessionDevice, SessionFault};
 use std::fmt;
 use std::net::SocketAddr;
@@ -246,6 +248,10 @@ impl<'a> SessionNames<'a> {
         }
     }
 
+    pub fn of_status(words: &StatusWords<'a>) -> Self {
+        SessionNames::of_peer(Name::Server(words.place.host, words.place.port), None)
+    }
+
     /// The name of the device that a session failed at, or of its peer.
     pub fn name(&self, fault: &SessionFault) -> Name<'a> {
         match fault.cause() {
@@ -301,6 +307,7 @@ impl<'a> JobNames<'a> {
             Job::Live(words) => JobNames::of_session(SessionNames::of_live(words)),
             Job::Follow(words) => JobNames::of_session(SessionNames::of_follow(words)),
             Job::Feed(words) => JobNames::of_session(SessionNames::of_feed(words)),
+            Job::Status(words) => JobNames::of_session(SessionNames::of_status(words)),
             Job::Completions(_) => JobNames::none(),
         }
     }

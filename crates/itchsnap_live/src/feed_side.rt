@@ -1,7 +1,11 @@
 //! The connection to a feed, or to the server of a snapshot.
 
+mod health;
+
+use crate::cause::cause_of;
 use crate::fault::LiveFault;
-use crate::feed_line::{FeedLine, Named, Trouble};
+use crate::feed_line::{FeedLine, Loss, Named, Trouble};
+use crate::glance::Glance;
 use crate::log::Log;
 use crate::logins::Logins;
 use crate::piece::Piece;
@@ -17,6 +21,7 @@ use itch_codec::Alpha;
 use itch_frame::CountedWrite;
 use itch_live::{Follower, PendingPacket, Source};
 use itch_soup::{ClientSession, SoupFault, Tick};
+use itch_status::Cause;
 use mio::Registry;
 use mio::event::Event;
 use mio::net::TcpStream;
@@ -67,6 +72,12 @@ pub(crate) struct FeedSide<'a> {
     // Whether it was said that the server is lost, and what more was said since of each server.
     is_down: bool,
     troubles: [Option<Trouble>; MOST_FEEDS],
+    // Why it was lost last, since a login was accepted, and how often it was lost.
+    cause: Option<Cause>,
+    losses: u64,
+    glance: Glance,
+    // The timestamp of the last message.
+    market_ns: Option<u64>,
     piece: Piece,
     // How much may still be read in this turn.
     share: usize,
@@ -94,6 +105,10 @@ impl<'a> FeedSide<'a> {
             was_accepted: false,
             is_down: false,
             troubles: [None; MOST_FEEDS],
+            cause: None,
+            losses: 0,
+            glance: Glance::new(),
+            market_ns: None,
             piece,
             share: 0,
         })
@@ -149,7 +164,7 @@ impl<'a> FeedSide<'a> {
         };
         match self.connect(log.runtime(), turns.registry(), address, follower, now_ms) {
             Ok(connection) => self.connection = Some(connection),
-            Err(_) => self.lose(log, follower, None, now_ms),
+            Err(error) => self.break_off(log, follower, cause_of(error), now_ms),
         }
     }
 
@@ -185,9 +200,25 @@ impl<'a> FeedSide<'a> {
         };
         let tick = follower.tick(now_ms);
         let sent = connection.send(matches!(tick, Tick::Heartbeat));
-        if matches!(tick, Tick::Lost) || sent.is_err() {
-            self.lose(log, follower, None, now_ms);
+        match sent {
+            Err(error) => self.break_off(log, follower, cause_of(error), now_ms),
+            Ok(()) if matches!(tick, Tick::Lost) => {
+                self.break_off(log, follower, Cause::Silent, now_ms);
+            }
+            Ok(()) => {}
         }
+    }
+
+    // Drops the connection for a reason that is known to the status alone.
+    fn break_off<R: Eprint, B: OrderBook>(
+        &mut self,
+        log: &mut Log<'_, R>,
+        follower: &Follower<B>,
+        cause: Cause,
+        now_ms: u64,
+    ) {
+        self.cause = Some(cause);
+        self.lose(log, follower, None, now_ms);
     }
 
     // Drops the connection, to make another one. It is said once that the server is lost, until it accepts a login; what more is known is
@@ -199,9 +230,14 @@ impl<'a> FeedSide<'a> {
         why: Option<Trouble>,
         now_ms: u64,
     ) {
+        self.losses = self.losses.saturating_add(1);
+        if let Some(why) = &why {
+            self.cause = Some(why.cause());
+        }
         let next = follower.next();
         let server = self.route.server();
         let name = self.name(next.is_some(), why.is_some_and(|it| it.is_of_a_name()));
+        let lost = self.route.name(next.is_some());
         let wait = self.route.lose(next.is_some(), now_ms);
         self.drop_connection(now_ms.saturating_add(wait));
         let is_known = self.is_down && (why.is_none() || self.trouble_of(server) == why);
@@ -211,8 +247,8 @@ impl<'a> FeedSide<'a> {
         }
         match (why, next) {
             (Some(line), _) => log.say(&Named { line, name }),
-            (None, Some(next)) => log.say(&FeedLine::Lost(next)),
-            (None, None) => log.say(&FeedLine::GlimpseLost),
+            (None, Some(next)) => log.say(&self.loss(FeedLine::Lost(next), lost)),
+            (None, None) => log.say(&self.loss(FeedLine::GlimpseLost, lost)),
         }
         if let Some(trouble) = self.troubles.get_mut(server) {
             *trouble = why;
@@ -239,6 +275,7 @@ impl<'a> FeedSide<'a> {
         self.connection = None;
         self.is_accepted = false;
         self.piece.clear();
+        self.glance.clear();
         self.again_at = again_at;
     }
 
@@ -256,15 +293,23 @@ impl<'a> FeedSide<'a> {
             match self.fill() {
                 Ok(Got::Bytes(_)) => {}
                 Ok(Got::Nothing) => return Ok(None),
-                Ok(Got::Ended) | Err(_) => {
-                    self.lose(log, follower, None, now_ms);
+                Ok(Got::Ended) => {
+                    self.break_off(log, follower, Cause::Closed, now_ms);
+                    return Ok(None);
+                }
+                Err(error) => {
+                    self.break_off(log, follower, cause_of(error), now_ms);
                     return Ok(None);
                 }
             }
         }
         let (count, news) = follower.hear(self.piece.bytes(), now_ms, record);
+        self.glance.read(&self.piece.bytes()[..count]);
         self.piece.passed(count);
         let step = step_of(news)?;
+        if matches!(step, Step::Taken(_)) {
+            self.market_ns = self.glance.stamp().or(self.market_ns);
+        }
         self.follow(log, follower, &step, now_ms)?;
         Ok(Some(step))
     }
@@ -353,7 +398,7 @@ impl<'a> FeedSide<'a> {
                 let line = follower.next().map(Trouble::NoMemory);
                 self.lose(log, follower, line, now_ms);
             }
-            Step::Lost => self.lose(log, follower, None, now_ms),
+            Step::Lost => self.break_off(log, follower, Cause::Broken, now_ms),
         }
         Ok(())
     }
@@ -402,7 +447,7 @@ impl<'a> FeedSide<'a> {
                 self.drop_connection(u64::MAX);
                 log.say(&FeedLine::Ended(next));
             }
-            _ => self.lose(log, follower, None, now_ms),
+            _ => self.break_off(log, follower, Cause::Closed, now_ms),
         }
     }
 

@@ -13,6 +13,7 @@
 
 mod budget;
 mod callers;
+mod cause;
 mod client;
 mod clients;
 mod departure;
@@ -21,6 +22,7 @@ mod feed_line;
 mod feed_side;
 mod follow;
 mod follow_form;
+mod glance;
 mod line;
 mod link;
 mod live;
@@ -52,11 +54,14 @@ mod socket;
 mod spare;
 mod spot;
 mod start;
+mod status;
 mod step;
 mod turns;
 mod users;
+mod utc;
 mod version;
 mod watch;
+mod who;
 
 pub use budget::{is_slow, may_encode};
 pub use departure::{Departure, departure_of, write_departure};
@@ -64,6 +69,7 @@ pub use fault::{Detail, LiveFault, Names, Owned, RecordFault};
 pub use follow::{Following, follow_feed};
 pub use follow_form::FollowForm;
 pub use live::{Accounts, Serving, serve_live};
+pub use log::form::LogForm;
 pub use login_file::{Look, Sight, Version, look_of};
 pub use logins::{LoginSource, Logins, LoginsFault};
 pub use opening::{Opening, opening_of};

@@ -1,13 +1,18 @@
 //! `live`: a feed that is followed, and the snapshot of its present market for each client that asks.
 
+mod figures;
+mod keeping;
+
 use crate::budget::Budget;
 use crate::callers::Callers;
 use crate::clients::Clients;
 use crate::fault::LiveFault;
 use crate::feed_side::{FeedSide, SHARE};
 use crate::log::Log;
+use crate::log::form::LogForm;
 use crate::logins::Logins;
-use crate::opened::{follower_of, listen, named_desk, open_folder, open_record};
+use crate::opened::{follower_of, listen, named_desk, open_folder, open_record, open_status};
+use crate::places::Place;
 use crate::question::{agreed, ask_session, asks_session};
 use crate::reception::Reception;
 use crate::record::{Record, RecordLoss, RecordWords};
@@ -15,15 +20,18 @@ use crate::room::SnapshotRoom;
 use crate::route::Servers;
 use crate::saving::{Saver, SnapshotWords};
 use crate::sessions::current_session;
-use crate::spare::{SPARED, Spare};
+use crate::spare::Spare;
 use crate::start::Start;
+use crate::status::{STATUS, StatusPort};
 use crate::step::Step;
 use crate::turns::Turns;
+use crate::who::Visit;
 use itch_book::{IndexedBook, OrderBook};
 use itch_codec::{Alpha, Seq};
 use itch_frame::CountedWrite;
 use itch_join::Joiner;
 use itch_live::{Desk, Follower};
+use itch_status::Tally;
 use mio::Token;
 use std::alloc::Global;
 use std::fs::File;
@@ -64,6 +72,9 @@ pub struct Serving<'a> {
     pub snapshots: Option<SnapshotWords<'a>>,
     /// Whether it serves on once the feed has ended.
     pub stay: bool,
+    /// Where its status is asked for, if it is.
+    pub status: Option<Place<'a>>,
+    pub log: LogForm,
 }
 
 /// Who may log in to a live server, and whom it logs in as itself.
@@ -124,10 +135,13 @@ fn opened<'r, 'a, R, B: OrderBook<Alloc = Global>>(
 where
     R: Net + Clock + Files<File = File> + Eprint + AllocGlobal,
 {
+    let mut log = Log::new(rt, serving.log)?;
     let saver = open_folder(rt, serving)?;
-    let (record, joiner) = open_record(rt, serving, joiner)?;
+    let (record, joiner) = open_record(&mut log, serving, joiner)?;
     let follower = follower_of(rt.alloc(), serving, &accounts.own, &record, joiner)?;
-    Server::new(rt, servers, serving, accounts, follower, record, saver)
+    let Accounts { users, own } = accounts;
+    let start = Start::new(rt, log, servers, own, serving.glimpse_session, FEED)?;
+    Server::new(rt, serving, users, start, follower, record, saver)
 }
 
 // A desk, and its sockets.
@@ -146,6 +160,8 @@ struct Server<'r, 'a, R: Clock, B: OrderBook> {
     record: Record<'a>,
     saver: Option<Saver<'a>>,
     spare: Spare,
+    status: Option<StatusPort>,
+    tally: Tally,
     // Whether the feed has ended its session, and whether it was asked which one that is.
     has_ended: bool,
     has_asked: bool,
@@ -158,16 +174,16 @@ where
     // Listens on the port, says so, and waits until the session of the feed is known.
     fn new(
         rt: &'r R,
-        servers: Servers<'a>,
         serving: &'a Serving<'a>,
-        accounts: Accounts<'a>,
+        users: Logins<'a>,
+        start: Start<'r, 'a, R>,
         follower: Follower<B>,
         record: Record<'a>,
         saver: Option<Saver<'a>>,
     ) -> Result<Server<'r, 'a, R, B>, LiveFault> {
-        let Accounts { users, own } = accounts;
-        let mut start = Start::new(rt, servers, own, serving.glimpse_session, FEED)?;
-        let callers = listen(rt, &start, serving.address, LISTENER)?;
+        let mut start = start;
+        open_status(serving, &record, &mut start)?;
+        let callers = listen(rt, &mut start, serving.address, LISTENER)?;
         let desk = named_desk(rt.alloc(), serving, follower, &mut start)?;
         Server::open(
             rt.alloc(),
@@ -198,13 +214,16 @@ where
         let reception = Reception::new(alloc, session, Seq::new(1).unwrap(), first_room)?;
         let room = SnapshotRoom::new(serving.snapshot_memory);
         let clients = Clients::new(alloc, places, serving.clients_per_address, room, PLACES)?;
-        let spare = Spare::new(alloc, SPARED)?;
         let Start {
             log,
             turns,
             feed,
             token: _,
+            spare,
+            status,
+            figures: _,
         } = start;
+        let tally = Tally::new(desk.follower().next());
         Ok(Server {
             serving,
             users,
@@ -219,6 +238,8 @@ where
             record,
             saver,
             spare,
+            status,
+            tally,
             has_ended: false,
             has_asked: false,
         })
@@ -259,17 +280,24 @@ where
     fn turn<W: CountedWrite>(&mut self, out: &mut W) -> Result<(), LiveFault> {
         let most_ms = self.patience_ms();
         let now_ms = self.turns.wait(most_ms)?;
+        self.log.look_at_clock();
         self.note();
         self.follow(now_ms)?;
+        self.tally.see(self.desk.follower().next(), now_ms);
         self.serve(now_ms)?;
         self.watch(now_ms)?;
         self.write_lines(now_ms, out);
+        self.tell_status(now_ms);
         Ok(())
     }
 
     // How long there is nothing to do unless something is ready.
     fn patience_ms(&self) -> u64 {
-        if self.feed.is_busy() || self.clients.is_busy(&self.desk) || self.reception.is_busy() {
+        if self.feed.is_busy()
+            || self.clients.is_busy(&self.desk)
+            || self.reception.is_busy()
+            || self.is_asked()
+        {
             return 0;
         }
         if self.clients.any_waits(&self.desk) {
@@ -286,6 +314,11 @@ where
             match token {
                 LISTENER => self.callers.note(),
                 FEED => self.feed.note(event),
+                _ if token >= STATUS => {
+                    if let Some(status) = &mut self.status {
+                        status.note(token, event);
+                    }
+                }
                 _ if token < first_room => self.clients.note(token, event),
                 _ => self.reception.note(token, event),
             }
@@ -351,14 +384,6 @@ where
         }
     }
 
-    // Goes on without the record where that is what failed, and is optional.
-    fn fail(&mut self, fault: LiveFault) -> Result<(), LiveFault> {
-        match fault.write_error() {
-            Some(error) => self.lose_record(RecordLoss::System(error)),
-            None => Err(self.explained(fault)),
-        }
-    }
-
     // Does what a step asks for, and says whether that may have taken long.
     fn act(&mut self, step: &Step, now_ms: u64) -> Result<bool, LiveFault> {
         match *step {
@@ -386,64 +411,6 @@ where
         agreed(session, asked)
     }
 
-    // The record has the feed's session before it has a message.
-    fn begin_record(&mut self) -> Result<(), LiveFault> {
-        let Some(session) = self.desk.follower().session() else {
-            return Ok(());
-        };
-        match self.record.begin(self.log.runtime(), session) {
-            Ok(()) => Ok(()),
-            Err(LiveFault::SessionFile(error)) if self.record.is_optional() => {
-                self.lose_record(RecordLoss::System(error))
-            }
-            Err(fault) => Err(fault),
-        }
-    }
-
-    // Writes the snapshot after a message, where one is asked for, and says whether it is. The record has each message that the snapshot has.
-    fn save(&mut self, next: u64, now_ms: u64) -> Result<bool, LiveFault> {
-        if !self.saver.as_ref().is_some_and(|saver| saver.wants(next)) {
-            return Ok(false);
-        }
-        if let Err(error) = self.record.flush() {
-            self.lose_record(RecordLoss::System(error))?;
-        }
-        self.spare.release();
-        let saved = match (&mut self.saver, self.desk.follower().market()) {
-            (Some(saver), Some(market)) => {
-                let recording = &mut self.record.recording;
-                saver.save(&mut self.log, market, next, now_ms, recording)
-            }
-            _ => Ok(()),
-        };
-        if let Err(error) = saved {
-            self.lose_record(RecordLoss::System(error))?;
-        }
-        Ok(true)
-    }
-
-    // Goes on without the record where that is allowed.
-    fn lose_record(&mut self, loss: RecordLoss) -> Result<(), LiveFault> {
-        if self.record.is_optional() {
-            self.log.say(&loss);
-            self.record.give_up();
-            return Ok(());
-        }
-        Err(loss.fault(self.desk.follower().next()))
-    }
-
-    // The fault of a feed that refuses to go on: with its session, or with the one of the record or of the snapshot, which it is not in.
-    fn explained(&self, fault: LiveFault) -> LiveFault {
-        let fault = fault.of_message(self.desk.follower().session(), self.feed.server());
-        if self.record.session().is_some() {
-            return fault.of_record();
-        }
-        if self.serving.from_snapshot && self.serving.session.is_none() {
-            return fault.after_glimpse();
-        }
-        fault
-    }
-
     // Does what the clients have sent, and sends them what they are told. Once the feed has ended none is accepted, unless it stays.
     fn serve(&mut self, now_ms: u64) -> Result<(), LiveFault> {
         if !self.is_closed() {
@@ -465,7 +432,8 @@ where
         );
         self.clients.hear(&mut self.desk, now_ms);
         self.answer(now_ms)?;
-        self.clients.tell(&mut self.desk, now_ms);
+        self.clients
+            .tell(&mut self.reception, &mut self.desk, now_ms);
         self.clients.close(
             &mut self.reception,
             self.turns.registry(),
@@ -492,34 +460,14 @@ where
         Ok(())
     }
 
-    // Looks at the files that others may change.
-    fn watch(&mut self, now_ms: u64) -> Result<(), LiveFault> {
-        if self.users.is_due(now_ms) {
-            self.spare.release();
-            self.users.look(&mut self.log, "users", now_ms);
-        }
-        match self.record.watch(self.log.runtime(), now_ms) {
-            Ok(()) => Ok(()),
-            Err(loss) => self.lose_record(loss),
-        }
-    }
-
-    // Writes the lines of the connections that have ended.
+    // Writes what has become of the connections.
     fn write_lines<W: CountedWrite>(&mut self, now_ms: u64, out: &mut W) {
         for _ in 0..u64::MAX {
-            let Some((number, departure)) = self.reception.next_ended() else {
+            let Some((who, happening)) = self.reception.next_happening() else {
                 break;
             };
-            self.log.departs(out, number, departure);
+            self.log.tell(out, &Visit::new(who, happening, now_ms));
         }
         self.log.report(now_ms);
-    }
-
-    // Has all of the record on disk.
-    fn finish(&mut self) -> Result<(), LiveFault> {
-        match self.record.finish() {
-            Ok(()) => Ok(()),
-            Err(error) => self.lose_record(RecordLoss::System(error)),
-        }
     }
 }

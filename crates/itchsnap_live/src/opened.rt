@@ -3,13 +3,15 @@
 use crate::callers::Callers;
 use crate::fault::LiveFault;
 use crate::live::Serving;
+use crate::log::Log;
 use crate::logins::Logins;
 use crate::record::Record;
 use crate::resuming::at_the_first;
 use crate::saving::Saver;
 use crate::session_fault::SessionFault;
-use crate::sessions::current_session;
+use crate::sessions::{Listening, current_session};
 use crate::start::Start;
+use crate::status::StatusPort;
 use crate::turns::called;
 use itch_book::OrderBook;
 use itch_join::Joiner;
@@ -31,8 +33,8 @@ pub(crate) fn open_folder<'a, R: Files<File = File>>(
 }
 
 /// Opens the record, if there is to be one, and brings the joiner to its end.
-pub(crate) fn open_record<'a, R: Files<File = File> + Eprint + AllocGlobal, B: OrderBook>(
-    rt: &R,
+pub(crate) fn open_record<'a, R: Files<File = File> + Clock + Eprint + AllocGlobal, B: OrderBook>(
+    log: &mut Log<'_, R>,
     serving: &Serving<'a>,
     joiner: Joiner<B>,
 ) -> Result<(Record<'a>, Joiner<B>), LiveFault> {
@@ -41,7 +43,7 @@ pub(crate) fn open_record<'a, R: Files<File = File> + Eprint + AllocGlobal, B: O
         at_the_first(&mut joiner)?;
     }
     match serving.record {
-        Some(words) => Record::open(rt, words, serving.session, joiner),
+        Some(words) => Record::open(log, words, serving.session, joiner),
         None => Ok((Record::none(), joiner)),
     }
 }
@@ -65,11 +67,27 @@ pub(crate) fn follower_of<B: OrderBook<Alloc = Global>>(
 /// Listens on the port of a server. Its socket will have this number.
 pub(crate) fn listen<R: Net + Clock + Eprint>(
     rt: &R,
-    start: &Start<'_, '_, R>,
+    start: &mut Start<'_, '_, R>,
     address: SocketAddr,
     token: usize,
 ) -> Result<Callers, SessionFault> {
-    called(Callers::listen(rt, start.turns.registry(), address, token))
+    let (callers, address) = called(Callers::open(rt, start.turns.registry(), address, token))?;
+    start.log.say(&Listening(address));
+    Ok(callers)
+}
+
+/// Opens the status port, if there is to be one. Until the feed's session is known it shows no clients.
+pub(crate) fn open_status<R: Net + Clock + Eprint + AllocGlobal>(
+    serving: &Serving<'_>,
+    record: &Record<'_>,
+    start: &mut Start<'_, '_, R>,
+) -> Result<(), LiveFault> {
+    if let Some(place) = serving.status {
+        start.status = Some(StatusPort::open(&mut start.log, start.turns.registry(), place)?);
+        start.figures.slots = serving.clients as u64;
+        start.figures.recorded = record.figures();
+    }
+    Ok(())
 }
 
 /// The desk under the name of the feed's session, once that is known.

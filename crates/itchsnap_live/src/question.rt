@@ -6,6 +6,7 @@ ghost use Rattle.itchsnap_live.specs.Questions.{asks_session, is_another};
 use crate::fault::{LiveFault, RecordFault};
 use crate::feed_side::FeedSide;
 use crate::log::Log;
+use crate::log::form::LogForm;
 use crate::logins::Logins;
 use crate::resuming::at_the_first;
 use crate::sessions::current_session;
@@ -75,7 +76,10 @@ where
     let Ok(account) = Logins::of(rt.alloc(), &feed.login()) else {
         return None;
     };
-    let Ok(mut start) = Start::new(rt, feed.servers(), account, None, FEED) else {
+    let Ok(log) = Log::new(rt, LogForm::Plain) else {
+        return None;
+    };
+    let Ok(mut start) = Start::new(rt, log, feed.servers(), account, None, FEED) else {
         return None;
     };
     let credentials = feed.login().credentials(current_session());

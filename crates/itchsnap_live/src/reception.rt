@@ -10,10 +10,11 @@ use crate::sessions::Login;
 use crate::socket::Socket;
 use crate::spare::Spare;
 use crate::users::{Verdict, verdict_of};
+use crate::who::{Happening, User, Who};
 use arrayvec::ArrayVec;
 use itch_codec::{Alpha, Seq};
 use itch_live::{Gone, PendingPacket};
-use itch_soup::{Origin, ServerConfig, ServerSession, parse_packet};
+use itch_soup::{Origin, Packet, ServerConfig, ServerSession, parse_packet};
 use mio::Registry;
 use mio::event::Event;
 use mio::net::TcpStream;
@@ -92,8 +93,8 @@ pub(crate) struct Reception {
     present: usize,
     end: usize,
     refusals: Refusals,
-    // Those that have ended, and whose lines are not written yet.
-    ended: Vec<(u64, Departure)>,
+    // What has become of whom, and is not written yet.
+    happened: Vec<(Who, Happening)>,
 }
 
 impl Visitor {
@@ -104,6 +105,10 @@ impl Visitor {
             Stage::Ready(_) => self.words.remaining_capacity() > 0 && self.link.is_busy(false),
             Stage::Rejected { .. } => false,
         }
+    }
+
+    fn who(&self) -> Who {
+        self.link.who()
     }
 
     fn new(link: Link, address: IpAddr, now_ms: u64) -> Visitor {
@@ -185,6 +190,9 @@ impl Visitor {
             self.stage = Stage::Over(Departure::Fault);
             return true;
         };
+        if let Packet::LoginRequest(login) = &packet {
+            self.link.set_user(User::new(login.username.text()));
+        }
         let messages = served.end_number.value() - 1;
         self.stage = match verdict_of(served.users, &served.session, messages, &packet) {
             Verdict::Waits => return false,
@@ -254,8 +262,28 @@ impl Reception {
             present: 0,
             end: 0,
             refusals: Refusals::new(alloc)?,
-            ended: Vec::with_capacity(alloc, 2 * ROOM)?,
+            happened: Vec::with_capacity(alloc, 2 * ROOM)?,
         })
+    }
+
+    /// How many connections there have been.
+    pub(crate) fn connected(&self) -> u64 {
+        self.connected
+    }
+
+    /// How many of those here have not logged in, and how many wait for a place.
+    pub(crate) fn counts(&self) -> (u64, u64) {
+        let (mut opening, mut ready) = (0u64, 0u64);
+        for room in self.rooms.iter().take(self.end) {
+            if let Some(visitor) = room {
+                match visitor.stage {
+                    Stage::Opening => opening = opening.saturating_add(1),
+                    Stage::Ready(_) => ready = ready.saturating_add(1),
+                    Stage::Rejected { .. } | Stage::Over(_) => {}
+                }
+            }
+        }
+        (opening, ready)
     }
 
     /// Whether nobody is there.
@@ -351,12 +379,14 @@ impl Reception {
     ) {
         self.connected = self.connected.saturating_add(1);
         let token = place.saturating_add(self.first_token);
+        let who = Who::new(self.connected, address, now_ms);
+        self.happens(who, Happening::Connected);
         match Socket::register(registry, stream, token, true) {
             Ok(socket) => {
-                let link = Link::new(socket, self.connected);
+                let link = Link::new(socket, who);
                 self.put(place, Visitor::new(link, address, now_ms));
             }
-            Err(_) => self.write_down(self.connected, Departure::Fault),
+            Err(_) => self.write_down(who, Departure::Fault),
         }
     }
 
@@ -380,13 +410,18 @@ impl Reception {
     // Closes a connection, which has ended so.
     fn end(&mut self, place: usize, departure: Departure) {
         if let Some(visitor) = self.take(place) {
-            self.write_down(visitor.link.number(), departure);
+            self.write_down(visitor.link.who(), departure);
         }
     }
 
     /// Takes note of how a connection has ended, for its line.
-    pub(crate) fn write_down(&mut self, number: u64, departure: Departure) {
-        let _ = self.ended.push((number, departure));
+    pub(crate) fn write_down(&mut self, who: Who, departure: Departure) {
+        self.happens(who, Happening::Ended(departure));
+    }
+
+    /// Takes note of what has become of a connection.
+    pub(crate) fn happens(&mut self, who: Who, happening: Happening) {
+        let _ = self.happened.push((who, happening));
     }
 
     /// Takes note of a connection whose client is told no more: it is closed once the client closes it.
@@ -398,16 +433,16 @@ impl Reception {
         registry: &Registry,
         now_ms: u64,
     ) {
-        let number = link.number();
+        let who = link.who();
         let Some(place) = self.free_room() else {
-            return self.write_down(number, departure);
+            return self.write_down(who, departure);
         };
         let mut link = link;
         if link
             .move_to(registry, place.saturating_add(self.first_token))
             .is_err()
         {
-            return self.write_down(number, departure);
+            return self.write_down(who, departure);
         }
         let mut visitor = Visitor::new(link, address, now_ms);
         visitor.stage = Stage::Over(departure);
@@ -436,7 +471,13 @@ impl Reception {
             let at_ms = now_ms.saturating_add(self.refusals.delay_of(visitor.address, now_ms));
             visitor.stage = Stage::Rejected { code, at_ms };
         }
-        if let Some(departure) = visitor.departure(now_ms) {
+        let who = visitor.who();
+        let has_logged_in = was_opening && matches!(visitor.stage, Stage::Ready(_));
+        let departure = visitor.departure(now_ms);
+        if has_logged_in {
+            self.happens(who, Happening::LoggedIn);
+        }
+        if let Some(departure) = departure {
             self.end(place, departure);
         }
     }
@@ -463,11 +504,11 @@ impl Reception {
         })
     }
 
-    /// The number of a connection that has ended, and how, once for each.
-    pub(crate) fn next_ended(&mut self) -> Option<(u64, Departure)> {
-        if self.ended.is_empty() {
+    /// What has become of whom, once for each happening.
+    pub(crate) fn next_happening(&mut self) -> Option<(Who, Happening)> {
+        if self.happened.is_empty() {
             return None;
         }
-        Some(self.ended.remove(0))
+        Some(self.happened.remove(0))
     }
 }

@@ -1,6 +1,10 @@
 //! The record of a live server: a day file that this process alone appends to, and the session that it is of.
 
 use crate::fault::{LiveFault, Owned, RecordFault};
+use crate::log::Log;
+use crate::log::entry::{Event, Level, write_shown};
+use crate::log::form::LogForm;
+use crate::log::lines::Dropped;
 use crate::recording::Recording;
 use crate::resuming::replay_record;
 use crate::session_fault::SessionFault;
@@ -12,10 +16,11 @@ use itch_book::OrderBook;
 use itch_codec::Alpha;
 use itch_frame::tally::Failures;
 use itch_join::Joiner;
+use itch_status::Recorded;
 use std::fmt::{self, Display, Formatter};
 use std::fs::{self, File, OpenOptions, TryLockError};
 use std::io::{self, BufWriter, ErrorKind};
-use std::rt::Files;
+use std::rt::{Clock, Files};
 
 /// The record is looked at, and synced, this often.
 const WATCH_MS: u64 = 1_000;
@@ -73,13 +78,13 @@ impl<'a> Record<'a> {
 
     /// Opens a record to append to, for this process alone, replays what it has, and drops what is not a whole message at its end. It has
     /// to be of this session, if one is named. A record that is refused stays as it is.
-    pub(crate) fn open<R: Files<File = File> + Eprint + AllocGlobal, B: OrderBook>(
-        rt: &R,
+    pub(crate) fn open<R: Files<File = File> + Clock + Eprint + AllocGlobal, B: OrderBook>(
+        log: &mut Log<'_, R>,
         words: RecordWords<'a>,
         named: Option<Alpha<10>>,
         joiner: Joiner<B>,
     ) -> Result<(Record<'a>, Joiner<B>), LiveFault> {
-        let path = words.path;
+        let (rt, path) = (log.runtime(), words.path);
         let file = open_alone(rt, path)?;
         let mut opened = seen(&file)?;
         let beside = if opened.length == 0 {
@@ -90,9 +95,11 @@ impl<'a> Record<'a> {
         let session = session_of(opened.length, beside, named)?;
         let (joiner, whole) = replay_record(rt.alloc(), open_again(rt, path)?, joiner)?;
         if whole.offset < opened.length {
-            let (rest, messages) = (opened.length - whole.offset, whole.count);
             cut(&file, whole.offset)?;
-            let _ = eprintln!(rt; "record: dropped {rest} bytes after message {messages}");
+            log.say(&Dropped {
+                bytes: opened.length - whole.offset,
+                messages: whole.count,
+            });
             opened.length = whole.offset;
         }
         let Ok(file) = BufWriter::with_capacity(rt.alloc(), PIECE, file) else {
@@ -207,6 +214,16 @@ impl<'a> Record<'a> {
         }
     }
 
+    /// How many bytes it has, and how many of those that were added are not on disk, where there is a record.
+    pub(crate) fn figures(&self) -> Option<Recorded> {
+        let kept = self.kept.as_ref()?;
+        let added = self.recording.added();
+        Some(Recorded {
+            length: kept.opened.length.saturating_add(added),
+            unsynced: added.saturating_sub(kept.synced),
+        })
+    }
+
     /// Gives it up.
     pub(crate) fn give_up(&mut self) {
         *self = Record::none();
@@ -239,6 +256,23 @@ impl Display for RecordLoss {
         match self {
             RecordLoss::Changed(change) => write!(f, "record: given up: {change}"),
             RecordLoss::System(error) => write!(f, "record: given up: {error}"),
+        }
+    }
+}
+
+impl Event for RecordLoss {
+    fn level(&self) -> Level {
+        Level::Error
+    }
+
+    fn name(&self) -> &'static str {
+        "record_given_up"
+    }
+
+    fn write_fields<W: fmt::Write>(&self, f: &mut Formatter<W>, form: LogForm) -> fmt::Result {
+        match self {
+            RecordLoss::Changed(change) => write_shown(f, form, "why", change),
+            RecordLoss::System(error) => write_shown(f, form, "why", error),
         }
     }
 }

@@ -6,6 +6,8 @@ ghost use Rattle.itchsnap_live.specs.Savings.{is_wanted};
 
 use crate::fault::{LiveFault, Owned};
 use crate::log::Log;
+use crate::log::entry::{Event, Level, write_number, write_shown, write_text};
+use crate::log::form::LogForm;
 use crate::recording::Recording;
 use crate::session_fault::SessionFault;
 use crate::sessions::{PIECE, Sending, write_closed};
@@ -34,7 +36,10 @@ pub(crate) struct Saver<'a> {
     words: SnapshotWords<'a>,
     // It holds the lock.
     _folder: File,
-    // How many were not written since that was said, and when it was.
+    // How many messages the last one has, if one was written.
+    saved: Option<u64>,
+    // How many were not written, also since that was said last, and when it was.
+    all_missed: u64,
     missed: u64,
     reported_ms: Option<u64>,
 }
@@ -68,6 +73,29 @@ impl Display for Missed<'_> {
     }
 }
 
+impl Event for Missed<'_> {
+    fn level(&self) -> Level {
+        Level::Warn
+    }
+
+    fn name(&self) -> &'static str {
+        "snapshots_missed"
+    }
+
+    fn write_fields<W: fmt::Write>(&self, f: &mut Formatter<W>, form: LogForm) -> fmt::Result {
+        write_number(f, form, "count", self.count)?;
+        write_text(f, form, "folder", self.folder)?;
+        write_number(f, form, "messages", self.messages)?;
+        match self.fault {
+            SessionFault::Folder(error) | SessionFault::Write(error) => {
+                write_shown(f, form, "why", error)
+            }
+            SessionFault::OutOfMemory => write_text(f, form, "why", "out of memory"),
+            _ => write_text(f, form, "why", "too many messages"),
+        }
+    }
+}
+
 impl<'a> Saver<'a> {
     /// Looks at the folder, and locks it.
     pub(crate) fn open<R: Files<File = File>>(
@@ -86,9 +114,16 @@ impl<'a> Saver<'a> {
         Ok(Saver {
             words,
             _folder: folder,
+            saved: None,
+            all_missed: 0,
             missed: 0,
             reported_ms: None,
         })
+    }
+
+    /// How many messages the last snapshot has, if one was written, and how many were not written.
+    pub(crate) fn figures(&self) -> (Option<u64>, u64) {
+        (self.saved, self.all_missed)
     }
 
     /// Whether a snapshot is wanted of the market before this number.
@@ -107,7 +142,7 @@ impl<'a> Saver<'a> {
         recording: &mut Recording<File>,
     ) -> io::Result<()> {
         match save(log.runtime(), self.words.folder, market, next, recording) {
-            Ok(()) => {}
+            Ok(()) => self.saved = Some(next.saturating_sub(1)),
             Err(Unsaved::Record(error)) => return Err(error),
             Err(Unsaved::Snapshot(fault)) => self.miss(log, &fault, next, now_ms),
         }
@@ -122,6 +157,7 @@ impl<'a> Saver<'a> {
         next: u64,
         now_ms: u64,
     ) {
+        self.all_missed = self.all_missed.saturating_add(1);
         self.missed = self.missed.saturating_add(1);
         let is_due = match self.reported_ms {
             Some(reported_ms) => now_ms.saturating_sub(reported_ms) >= REPORT_MS,

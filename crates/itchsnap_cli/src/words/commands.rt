@@ -20,7 +20,7 @@ pub struct Entry {
 }
 
 /// The commands.
-pub const COMMANDS: [Entry; 15] = [
+pub const COMMANDS: [Entry; 16] = [
     Entry {
         name: "snap",
         about: "Write the snapshot of the market that a day file leaves",
@@ -374,6 +374,16 @@ pub const COMMANDS: [Entry; 15] = [
                 long: "stay",
                 help: "Continue to serve after the feed has ended its session",
             },
+            Argument::Optional {
+                long: "status",
+                value: Value::Text("HOST:PORT"),
+                help: "Serve metrics and a status page over HTTP; a port alone is on 127.0.0.1",
+            },
+            Argument::Optional {
+                long: "log",
+                value: Value::Text("FORM"),
+                help: "Log every event with its time on standard error: text or json",
+            },
         ],
         example: "Example: itchsnap live --feed feed.example:5000 --port 5100 --user desk --pass-file pass",
     },
@@ -436,6 +446,23 @@ pub const COMMANDS: [Entry; 15] = [
             USERS,
         ],
         example: "Example: itchsnap feed day.itch --port 5000 --user desk --pass-file pass --rate 1000",
+    },
+    Entry {
+        name: "status",
+        about: "Print the status of a live server",
+        takes: &[
+            Argument::RequiredWord {
+                id: "SERVER",
+                help: "The status port, HOST:PORT, or a port of this machine",
+            },
+            Argument::Optional {
+                long: "wait",
+                value: Value::Range("SECONDS", 1, 86_400),
+                help: "Wait up to this long, 1 to 86400, until the server is ready",
+            },
+            JSON,
+        ],
+        example: "Example: itchsnap status 127.0.0.1:9100 --wait 60",
     },
     Entry {
         name: "completions",

@@ -1,7 +1,7 @@
 //! The words of a live server, of what follows a feed, and of a feed that is played.
 
 use crate::words::commands::usage_fault;
-use crate::words::places::{read_feeds, read_place, read_place_if_any};
+use crate::words::places::{read_feeds, read_place, read_place_if_any, read_status};
 use crate::words::request::read_count;
 use crate::words::session::{
     LoginWords, Password, UserWords, read_address, read_login, read_session, read_users,
@@ -9,7 +9,9 @@ use crate::words::session::{
 use crate::words::size::read_size;
 use clap::{ArgMatches, Error};
 use itch_codec::Alpha;
-use itchsnap_live::{Feeds, FollowForm, Pace, Place, RecordWords, SnapshotWords, SyncTime};
+use itchsnap_live::{
+    Feeds, FollowForm, LogForm, Pace, Place, RecordWords, SnapshotWords, SyncTime,
+};
 use std::alloc::Global;
 use std::net::SocketAddr;
 
@@ -41,6 +43,9 @@ pub struct LiveWords<'a> {
     pub snapshots: Option<SnapshotWords<'a>>,
     /// Whether it serves on once the feed has ended.
     pub stay: bool,
+    /// Where its status is asked for, if it is.
+    pub status: Option<Place<'a>>,
+    pub log: LogForm,
 }
 
 /// What is followed, and how.
@@ -101,6 +106,8 @@ pub fn read_live<'a>(
         record,
         snapshots: read_snapshots(alloc, options)?,
         stay: options.get_flag("stay"),
+        status: read_status(alloc, options, "status")?,
+        log: read_log(alloc, options)?,
     })
 }
 
@@ -164,6 +171,15 @@ fn read_sync<'a>(alloc: Global, options: &ArgMatches<'a>) -> Result<Option<SyncT
         Some("second") => Ok(Some(SyncTime::EverySecond)),
         Some("message") => Ok(Some(SyncTime::EveryMessage)),
         Some(_) => Err(usage_fault(alloc, "--sync takes no, second or message")?),
+    }
+}
+
+fn read_log<'a>(alloc: Global, options: &ArgMatches<'a>) -> Result<LogForm, Error> {
+    match options.get_str("log") {
+        None => Ok(LogForm::Plain),
+        Some("text") => Ok(LogForm::Text),
+        Some("json") => Ok(LogForm::Json),
+        Some(_) => Err(usage_fault(alloc, "--log takes text or json")?),
     }
 }
 

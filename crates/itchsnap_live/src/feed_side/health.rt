@@ -1,0 +1,45 @@
+//! The state of a feed, for the status.
+
+use super::FeedSide;
+use crate::feed_line::{FeedLine, Loss};
+use itch_status::{Cause, FeedState};
+
+impl FeedSide<'_> {
+    /// The state of the feed, and why it is not followed, as far as that is known.
+    pub(crate) fn state(&self) -> (FeedState, Option<Cause>) {
+        if self.is_over() {
+            return (FeedState::Ended, None);
+        }
+        if self.is_accepted {
+            return (FeedState::Following, None);
+        }
+        if self.was_accepted {
+            return (FeedState::Lost, self.cause);
+        }
+        (FeedState::Connecting, self.cause)
+    }
+
+    /// The place of that server, from 1.
+    pub(crate) fn server_number(&self) -> u64 {
+        (self.server() as u64).saturating_add(1)
+    }
+
+    /// How often a connection was lost, or was not made.
+    pub(crate) fn losses(&self) -> u64 {
+        self.losses
+    }
+
+    /// The timestamp of the last message, in nanoseconds since midnight.
+    pub(crate) fn market_ns(&self) -> Option<u64> {
+        self.market_ns
+    }
+
+    /// What is said of the loss of the server with this name.
+    pub(super) fn loss<'a>(&self, line: FeedLine, name: Option<&'a str>) -> Loss<'a> {
+        Loss {
+            line,
+            cause: self.cause,
+            name,
+        }
+    }
+}

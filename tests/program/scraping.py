@@ -1,0 +1,387 @@
+"""The status port of `live`, and `status`.
+
+RUNS has a function for each run, named for what it shows; it is given the program, and yields what differs.
+"""
+import contextlib
+import http.client
+import json
+import re
+import shutil
+import socket
+import subprocess
+import threading
+import time
+import urllib.parse
+
+from common import differs, ended_in, split
+from living import (ENDED, LOGIN, PATIENCE, WORDS, Feed, Running, connect, day_of, fetch, feeding, folder_with, number_of, plays, received, sends,
+                    snapshot_after)
+
+PAGES = {"/": "text/html; charset=utf-8", "/metrics": "text/plain; version=0.0.4; charset=utf-8", "/healthz": "text/plain; charset=utf-8",
+         "/readyz": "text/plain; charset=utf-8", "/status": "application/json", "/status.txt": "text/plain; charset=utf-8"}
+GET = b"GET /healthz HTTP/1.1\r\nHost: a\r\n\r\n"
+# How long a connection may be open, and the most connections.
+LIMIT, MOST = 5, 16
+
+
+@contextlib.contextmanager
+def watched(program, feed, *words):
+    """A live server of this feed, whose status port is `status`."""
+    with Running(program, "live", "--feed", f"127.0.0.1:{feed}", "--port", "0", *WORDS, "--status", "127.0.0.1:0", *words) as server:
+        server.status = int(server.said("status on ").rsplit(":", 1)[1])
+        yield server
+
+
+def page(server, path, method="GET"):
+    """The response to a request: its status, its fields and its body."""
+    asking = http.client.HTTPConnection("127.0.0.1", server.status, timeout=PATIENCE)
+    with contextlib.closing(asking):
+        asking.request(method, path)
+        response = asking.getresponse()
+        return response.status, dict(response.getheaders()), response.read()
+
+
+def figures(server):
+    return json.loads(page(server, "/status")[2])
+
+
+def waits_for(condition, seconds=PATIENCE):
+    begun = time.monotonic()
+    while not (found := condition()) and time.monotonic() < begun + seconds:
+        time.sleep(0.02)
+    return found
+
+
+def answer_to(port, *pieces):
+    """All that is answered to these pieces, which are sent one after the other."""
+    with connect(port) as peer:
+        with contextlib.suppress(ConnectionError):
+            for piece in pieces:
+                peer.sendall(piece)
+        with contextlib.suppress(ConnectionError):
+            return received(peer)
+    return b"reset"
+
+
+def status_of(response):
+    return response.split(b"\r\n", 1)[0].decode()
+
+
+def samples_of(text):
+    """The samples of metrics by their names, each of which has a description and a type before it."""
+    described, typed, samples = set(), {}, {}
+    for line in text.splitlines():
+        if line.startswith("# HELP "):
+            described.add(line.split(" ", 3)[2])
+        elif line.startswith("# TYPE "):
+            _, _, name, kind = line.split(" ")
+            typed[name] = kind
+        else:
+            name, labels, value = re.fullmatch(r'(\w+)(\{\w+="(?:[^"\\]|\\.)*"\})? (\S+)', line).groups()
+            samples[name + (labels or "")] = float(value)
+            assert name in described and typed[name] == ("counter" if name.endswith("_total") else "gauge"), line
+    return samples
+
+
+def each_page_of_the_status(program):
+    """While a feed is followed and after a client was served: the pages say the same, and HEAD has no body."""
+    day, _ = day_of(400)
+    count = len(split(day))
+    with folder_with() as folder, Feed(plays(day, wait=threading.Event())) as feed, watched(program, feed.port, "--record", folder / "record") as server:
+        waits_for(lambda: figures(server)["next_message"] == count + 1)
+        status, snapshot, _ = fetch(program, server.port)
+        yield from differs("client", (status, number_of(snapshot)), (0, count + 1))
+        waits_for(lambda: figures(server)["clients_served"] == 0)
+        for path, kind in PAGES.items():
+            code, fields, body = page(server, path)
+            yield from differs(path, (code, fields["Content-Type"], fields["Content-Length"], fields["Connection"]), (200, kind, str(len(body)), "close"))
+            head, its_fields, nothing = page(server, path, "HEAD")
+            yield from differs(f"HEAD {path}", (head, its_fields["Content-Type"], nothing), (200, kind, b""))
+        yield from differs("healthz", page(server, "/healthz?from=here")[2], b"ok\n")
+        yield from differs("readyz", page(server, "/readyz")[2], b"ready\n")
+        yield from figures_differ(server, folder, day, count)
+        yield from forms_differ(program, server)
+
+
+def figures_differ(server, folder, day, count):
+    """The figures beside what is known of the day and the record."""
+    waits_for(lambda: figures(server)["record_unsynced_bytes"] == 0)
+    got = figures(server)
+    wanted = {"ready": True, "feed_state": "following", "feed_cause": None, "feed_session": "ITCHSNAP", "feed_server": 1, "feed_losses_total": 0,
+              "next_message": count + 1, "messages_total": count, "market_time_seconds": 0.0, "connections_total": 1, "connections_opening": 0,
+              "clients_waiting": 0, "clients_served": 0, "client_slots": 64, "snapshots_encoded_total": 1, "record_bytes": len(day),
+              "record_unsynced_bytes": 0, "snapshot_file_message": None, "snapshot_files_missed_total": 0, "log_lines_lost_total": 0}
+    yield from differs("figures", {key: got[key] for key in wanted}, wanted)
+    yield from differs("record", (folder / "record").stat().st_size, len(day))
+    yield from differs("by second", (len(got["messages_by_second"]), sum(got["messages_by_second"])), (61, count))
+    if not got["sent_bytes_total"] > 0 or not 0 <= got["silence_seconds"] <= got["uptime_seconds"]:
+        yield f"sent, silence or uptime: {got}"
+
+
+def forms_differ(program, server):
+    """The forms of the status beside each other."""
+    got, samples = figures(server), samples_of(page(server, "/metrics")[2].decode())
+    for key, value in got.items():
+        if isinstance(value, int) and key not in ("uptime_seconds", "silence_seconds"):
+            yield from differs(key, samples.get(f"itchsnap_{key}"), float(value))
+    states = {it: samples[f'itchsnap_feed_state{{state="{it}"}}'] for it in ("connecting", "following", "lost", "ended")}
+    yield from differs("states", states, {"connecting": 0, "following": 1, "lost": 0, "ended": 0})
+    yield from differs("session", samples['itchsnap_feed_session{session="ITCHSNAP"}'], 1.0)
+    html = page(server, "/")[2].decode()
+    lines = page(server, "/status.txt")[2].decode().splitlines()
+    yield from differs("lines", [line.split(" ")[0] for line in lines], [*(key for key in got if key not in ("version", "messages_by_second")), "version"])
+    yield from differs("rows and bars", (html.count("<tr>"), html.count("<rect "), "<script" in html, "http:" in html), (len(lines) - 1, 60, False, False))
+    yield from differs("version", lines[-1], "version " + got["version"])
+    done = ended_in("/", program, "status", str(server.status), "--json")
+    yield from differs("status", (done[0], json.loads(done[1])["next_message"], done[2]), (0, got["next_message"], b""))
+
+
+def metrics_that_prometheus_takes(program):
+    if not (tool := shutil.which("promtool")):
+        print("skipped: what Prometheus makes of the metrics: no promtool here")
+        return
+    day, _ = day_of(20)
+    with Feed(plays(day, wait=threading.Event())) as feed, watched(program, feed.port) as server:
+        server.said("feed: accepted")
+        done = subprocess.run([tool, "check", "metrics"], input=page(server, "/metrics")[2], capture_output=True, timeout=PATIENCE)
+        yield from differs("promtool", (done.returncode, done.stdout, done.stderr), (0, b"", b""))
+
+
+def what_prometheus_scrapes(program):
+    """It finds the server, and a query returns how long ago the last message was received."""
+    if not (tool := shutil.which("prometheus")):
+        print("skipped: what Prometheus scrapes: no prometheus here")
+        return
+    day, _ = day_of(20)
+    with folder_with() as folder, Feed(plays(day, wait=threading.Event())) as feed, watched(program, feed.port) as server, \
+            socket.create_server(("127.0.0.1", 0)) as free:
+        port = free.getsockname()[1]
+        free.close()
+        target = f'{{"targets": ["127.0.0.1:{server.status}"]}}'
+        (folder / "config").write_text(f'{{"scrape_configs": [{{"job_name": "live", "scrape_interval": "1s", "static_configs": [{target}]}}]}}')
+        words = f"--config.file={folder}/config", f"--storage.tsdb.path={folder}/data", f"--web.listen-address=127.0.0.1:{port}"
+        scraper = subprocess.Popen([tool, *words], stdout=subprocess.DEVNULL, stderr=subprocess.DEVNULL)
+        try:
+            found = waits_for(lambda: asked_of(port, "itchsnap_next_message == 41"))
+            yield from differs("next message", bool(found), True)
+            lag = asked_of(port, "itchsnap_silence_seconds")
+            yield from differs("lag", bool(lag) and 0 <= float(lag[0]["value"][1]) < PATIENCE, True)
+        finally:
+            scraper.terminate()
+            scraper.wait()
+
+
+def asked_of(port, query):
+    """The answer of Prometheus to a query; none where it does not answer yet."""
+    with contextlib.suppress(OSError, ValueError, http.client.HTTPException):
+        asking = http.client.HTTPConnection("127.0.0.1", port, timeout=PATIENCE)
+        with contextlib.closing(asking):
+            asking.request("GET", "/api/v1/query?" + urllib.parse.urlencode({"query": query}))
+            return json.loads(asking.getresponse().read()).get("data", {}).get("result")
+
+
+def what_a_browser_shows(program):
+    """The page as its document is after it was drawn: nothing of it was refused."""
+    if not (tool := shutil.which("chromium")):
+        print("skipped: what a browser shows of the status: no chromium here")
+        return
+    day, _ = day_of(20)
+    with folder_with() as folder, Feed(plays(day, wait=threading.Event())) as feed, watched(program, feed.port) as server:
+        waits_for(lambda: figures(server)["next_message"] == 41)
+        words = "--headless", "--no-sandbox", "--disable-gpu", f"--user-data-dir={folder}/data", "--dump-dom", f"http://127.0.0.1:{server.status}/"
+        done = subprocess.run([tool, *words], capture_output=True, text=True, timeout=PATIENCE)
+        yield from differs("rows and bars", (done.returncode, done.stdout.count("<tr>"), done.stdout.count("<rect ")), (0, 25, 60))
+        yield from differs("next", "<th>Next message</th><td>41</td>" in done.stdout, True)
+        yield from differs("refused", "Refused" in done.stderr, False)
+
+
+def requests_that_are_refused(program):
+    """Each with its own code; what follows a request is not answered."""
+    day, _ = day_of(20)
+    long = b"GET / HTTP/1.1\r\nX: " + b"a" * 9000 + b"\r\n\r\n"
+    many = b"GET / HTTP/1.1\r\n" + b"X: a\r\n" * 65 + b"\r\n"
+    just = b"GET /healthz HTTP/1.1\r\nX: " + b"a" * (8192 - 30) + b"\r\n\r\n"
+    cases = {"unknown": (b"GET /x HTTP/1.1\r\n\r\n", "404 Not Found"), "path": (b"GET /metrics/ HTTP/1.1\r\n\r\n", "404 Not Found"),
+             "post": (b"POST /metrics HTTP/1.1\r\nContent-Length: 3\r\n\r\nabc", "405 Method Not Allowed"),
+             "delete": (b"DELETE / HTTP/1.1\r\n\r\n", "405 Method Not Allowed"), "get": (b"get / HTTP/1.1\r\n\r\n", "405 Method Not Allowed"),
+             "garbage": (b"\x16\x03\x01\x02\x00\x01\x00\x01\xfc\x03\x03", "400 Bad Request"), "version": (b"GET / HTTP/2.0\r\n\r\n", "400 Bad Request"),
+             "field": (b"GET / HTTP/1.1\r\nX y\r\n\r\n", "400 Bad Request"), "long": (long, "431 Request Header Fields Too Large"),
+             "no newline": (b"GET /" + b"a" * 20000, "431 Request Header Fields Too Large"), "many": (many, "431 Request Header Fields Too Large"),
+             "just within": (just, "200 OK"), "old": (b"GET /healthz HTTP/1.0\r\n\r\n", "200 OK"), "login": (LOGIN, "400 Bad Request")}
+    with Feed(plays(day, wait=threading.Event())) as feed, watched(program, feed.port) as server:
+        server.said("feed: accepted")
+        for name, (request, wanted) in cases.items():
+            yield from differs(name, status_of(answer_to(server.status, request)), f"HTTP/1.1 {wanted}")
+        allowed = answer_to(server.status, b"PUT / HTTP/1.1\r\n\r\n")
+        yield from differs("allowed", b"\r\nAllow: GET, HEAD\r\n" in allowed, True)
+        yield from differs("byte by byte", status_of(answer_to(server.status, *(bytes([it]) for it in GET))), "HTTP/1.1 200 OK")
+        yield from differs("pipelined", answer_to(server.status, GET * 50).count(b"HTTP/1.1"), 1)
+        yield from differs("after all that", page(server, "/readyz")[0], 200)
+
+
+def connections_that_say_nothing(program):
+    """A hundred: sixteen are there at a time, each for five seconds, and is told that its time is over. The feed and a client do not notice."""
+    day, wanted = day_of(400)
+    with Feed(plays(day, wait=threading.Event())) as feed, watched(program, feed.port) as server, contextlib.ExitStack() as held:
+        server.said("feed: accepted")
+        begun = time.monotonic()
+        peers = [held.enter_context(connect(server.status)) for _ in range(100)]
+        for peer in peers[:8]:
+            peer.sendall(b"GET / HTTP/1.1\r\nX: ")
+        yield from differs("client", fetch(program, server.port), (0, wanted, b""))
+        if (seconds := time.monotonic() - begun) > LIMIT:
+            yield f"a client waited for {seconds:.1f} seconds"
+        with contextlib.suppress(ConnectionError):
+            yield from differs("told", status_of(received(peers[0])), "HTTP/1.1 408 Request Timeout")
+        if not LIMIT - 1 < (seconds := time.monotonic() - begun) < 4 * LIMIT:
+            yield f"one that said nothing was told so after {seconds:.1f} seconds"
+        held.close()
+        yield from differs("after that", waits_for(lambda: page(server, "/healthz")[2]), b"ok\n")
+
+
+def a_scraper_that_reads_nothing(program):
+    """It is cut off after five seconds, and so is one that floods; a feed of 100,000 messages a second is followed meanwhile, and a client served."""
+    day, wanted = day_of(30000)
+    with folder_with(day=day) as folder, feeding(program, folder / "day", "--rate", "20000", "--stay") as feed, watched(program, feed.port) as server, \
+            contextlib.ExitStack() as held:
+        for _ in range(MOST // 2):
+            peer = held.enter_context(connect(server.status, room=2304))
+            peer.sendall(b"GET / HTTP/1.1\r\n\r\n")
+        flood = held.enter_context(connect(server.status))
+        flooding = threading.Thread(target=floods, args=(flood,))
+        flooding.start()
+        waits_for(lambda: figures(server)["next_message"] == len(split(day)) + 1)
+        flooding.join()
+        got = figures(server)
+        yield from differs("whole", (got["messages_total"], got["feed_losses_total"]), (len(split(day)), 0))
+        yield from differs("client", fetch(program, server.port), (0, wanted, b""))
+
+
+def floods(peer):
+    """Sends a request that never ends, until it is cut off."""
+    with contextlib.suppress(OSError):
+        while True:
+            peer.sendall(b"a" * 65536)
+
+
+def the_state_of_a_feed(program):
+    """Connecting and why, following, lost and why, and following again; `status` waits for it."""
+    day, _ = day_of(20)
+    gate, closing = threading.Event(), threading.Event()
+
+    def closes(peer, login):
+        plays(day, until=5)(peer, login)
+        closing.wait(PATIENCE)
+
+    def waits(peer, login):
+        if not gate.wait(0.1):
+            return sends(b"\0\x02JS")(peer, login)
+        plays(day, wait=threading.Event())(peer, login)
+
+    with Feed(sends(b"\0\x02JS"), sends(b""), closes, waits) as feed, watched(program, feed.port) as server:
+        first = waits_for(lambda: (it := figures(server))["feed_cause"] and it)
+        yield from differs("first", (first["feed_state"], first["ready"], first["next_message"]), ("connecting", False, 1))
+        waits_for(lambda: figures(server)["next_message"] == 6)
+        yield from differs("followed", figures(server)["feed_state"], "following")
+        closing.set()
+        lost = waits_for(lambda: (it := figures(server))["feed_cause"] == "rejected S" and it)
+        yield from differs("lost", (lost["feed_state"], lost["ready"], lost["next_message"], page(server, "/readyz")[0]), ("lost", False, 6, 503))
+        yield from differs("status", ended_in("/", program, "status", str(server.status))[0], 1)
+        waiting = subprocess.Popen([program, "status", f"127.0.0.1:{server.status}", "--wait", "60"], stdout=subprocess.PIPE)
+        gate.set()
+        yield from differs("waits", (waiting.communicate(timeout=PATIENCE)[0].splitlines()[:2], waiting.returncode), ([b"ready yes", b"feed_state following"], 0))
+        if figures(server)["feed_losses_total"] < 4:
+            yield f"losses: {figures(server)}"
+
+
+def a_status_port_that_cannot_be_had(program):
+    """It ends `live` at the start, as does an address of nobody's; `status` of a port where nobody listens has status 3."""
+    with socket.create_server(("127.0.0.1", 0)) as taken:
+        port = taken.getsockname()[1]
+        words = "live", "--feed", "127.0.0.1:9", "--port", "0", *WORDS, "--status"
+        done = ended_in("/", program, *words, f"127.0.0.1:{port}")
+        wanted = f"itchsnap: socket failed\n  127.0.0.1:{port}: Address already in use (os error 98)\n".encode()
+        yield from differs("taken", done, (3, b"", wanted))
+        yield from differs("usage", ended_in("/", program, *words, "host:x")[0], 2)
+    done = ended_in("/", program, "status", f"127.0.0.1:{port}")
+    yield from differs("nobody", done, (3, b"", f"itchsnap: socket failed\n  127.0.0.1:{port}: Connection refused (os error 111)\n".encode()))
+    with Feed(sends(b"hello")) as other:
+        yield from differs("no HTTP", ended_in("/", program, "status", f"127.0.0.1:{other.port}")[0], 3)
+
+
+def entries(lines, form):
+    """The entries of a log: the time, the level, the event and the fields of each line."""
+    if form == "json":
+        return [(it.pop("time"), it.pop("level"), it.pop("event"), it) for it in map(json.loads, lines)]
+    found = []
+    for line in lines:
+        moment, level, event, rest = (*line.rstrip("\n").split(" ", 3), "")[:4]
+        pairs = re.findall(r'(\w+)=(?:"((?:[^"\\]|\\.)*)"|(\S+))', rest)
+        found.append((moment, level, event, {key: text if text or not number else json.loads(number) for key, text, number in pairs}))
+    return found
+
+
+def lines_of_a_log(program):
+    """Each has its time and its level: of a feed that is lost, and of clients that are served and rejected. Nothing is on standard output."""
+    day, wanted = day_of(20)
+    closing = threading.Event()
+
+    def closes(peer, login):
+        plays(day, wait=closing)(peer, login)
+
+    for form in ("text", "json"):
+        closing.clear()
+        with Feed(closes, sends(b"\0\x02JS")) as feed, watched_log(program, feed.port, form) as server:
+            waits_for(lambda: any("feed_accepted" in line for line in server.lines))
+            yield from differs("client", fetch(program, server.port), (0, wanted, b""))
+            with connect(server.port) as peer:
+                peer.sendall(LOGIN.replace(b"secret", b'no"no\\'))
+                received(peer)
+            waits_for(lambda: sum("client_ended" in line for line in server.lines) == 2)
+            closing.set()
+            waits_for(lambda: any("rejected S" in line for line in server.lines))
+            got, output = entries(server.lines, form), b"".join(server.output)
+        yield from log_differs(form, got, output, len(split(day)) + 1)
+
+
+@contextlib.contextmanager
+def watched_log(program, feed, form):
+    words = "live", "--feed", f"127.0.0.1:{feed}", "--port", "0", *WORDS, "--status", "0", "--log", form
+    with Running(program, *words, listens=False) as server:
+        line = waits_for(lambda: next((it for it in server.lines if "listening" in it), None))
+        server.port = int(re.search(r":(\d+)\"", line.split("127.0.0.1", 1)[1])[1])
+        yield server
+
+
+def log_differs(form, got, output, next_number):
+    names = [(level, event) for _, level, event, _ in got]
+    wanted = [("info", "status"), ("info", "listening"), ("info", "feed_accepted"), ("info", "client_connected"), ("info", "client_logged_in"),
+              ("info", "client_first_byte"), ("info", "client_ended"), ("info", "client_connected"), ("warn", "client_ended"), ("warn", "feed_lost"),
+              ("warn", "feed_lost")]
+    yield from differs(f"{form}: events", (names, output), (wanted, b""))
+    if any(not re.fullmatch(r"\d{4}-\d\d-\d\dT\d\d:\d\d:\d\d\.\d{3}Z", it[0]) for it in got) or sorted(it[0] for it in got) != [it[0] for it in got]:
+        yield f"{form}: times: {[it[0] for it in got]}"
+    by_event = [fields for _, _, _, fields in got]
+    yield from differs(f"{form}: accepted", by_event[2]["next"], 1)
+    served, rejected, closed, refused = by_event[6], by_event[8], by_event[9], by_event[10]
+    yield from differs(f"{form}: served", [served[it] for it in ("number", "address", "user", "reason", "next")],
+                       [1, "127.0.0.1", "user", "answered", next_number])
+    yield from differs(f"{form}: rejected", [rejected[it] for it in ("number", "user", "reason", "code", "bytes")], [2, "user", "rejected", "A", 4])
+    yield from differs(f"{form}: lost", [closed["next"], closed["cause"], refused["cause"], refused["code"]],
+                       [next_number, "closed by the server", "rejected S", "S"])
+    if not (served["bytes"] > 0 and served["seconds"] >= 0):
+        yield f"{form}: served: {served}"
+
+
+RUNS = [
+    each_page_of_the_status,
+    metrics_that_prometheus_takes,
+    what_prometheus_scrapes,
+    what_a_browser_shows,
+    requests_that_are_refused,
+    connections_that_say_nothing,
+    a_scraper_that_reads_nothing,
+    the_state_of_a_feed,
+    a_status_port_that_cannot_be_had,
+    lines_of_a_log,
+]
