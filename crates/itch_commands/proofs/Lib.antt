@@ -36,7 +36,6 @@ pub mod LocateLists
 pub mod StockNames
 pub mod UnfilteredLines
 pub mod PointReadings
-pub mod PassedBytes
 pub mod WrittenLocates
 pub mod TalliedDays
 pub mod InfoTexts

@@ -1,8 +1,6 @@
 pub mod Statuses
 pub mod Readings
 pub mod Points
-pub mod PointFiles
-pub mod Fingerprints
 pub mod Files
 pub mod Outputs
 pub mod Canons
@@ -16,7 +14,6 @@ pub mod FirstDifferences
 pub mod Forms
 pub mod Books
 pub mod FeedParts
-pub mod Marks
 pub mod Joining
 pub mod Joiners
 pub mod Commands

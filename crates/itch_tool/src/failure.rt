@@ -3,7 +3,7 @@ ghost use Rattle.std.specs.Prelude.{◌≡◌};
 ghost use Rattle.itch_tool.specs.Endings.{failure_status};
 
 use itch_commands::ToolFault;
-use itch_commands::snap::Unfit;
+use itch_checkpoints::Unfit;
 use itchsnap_live::{LoginsFault, SessionFault};
 use std::alloc::{AllocError, Global};
 use std::io::{self, ErrorKind};

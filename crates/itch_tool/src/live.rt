@@ -43,6 +43,7 @@ where
         record: words.record,
         snapshots: words.snapshots,
         stay: words.stay,
+        ready: words.ready,
         status: words.status,
         log: words.log,
     };

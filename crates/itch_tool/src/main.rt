@@ -12,7 +12,6 @@ mod explaining;
 mod failure;
 mod feed;
 mod final_status;
-mod lines;
 mod live;
 mod locate_list;
 mod names;

@@ -9,6 +9,7 @@ pub mod Outputs
 pub mod Paces
 pub mod Patience
 pub mod Questions
+pub mod Readiness
 pub mod Recordings
 pub mod Rooms
 pub mod Routes

@@ -66,8 +66,9 @@ pub(crate) struct FeedSide<'a> {
     glimpse_session: Option<Alpha<10>>,
     connection: Option<Connection>,
     again_at: u64,
-    // Whether a login was accepted in this connection, and in any.
+    // Whether a login was accepted in this connection, when one was, and whether one was in any.
     is_accepted: bool,
+    accepted_ms: u64,
     was_accepted: bool,
     // Whether it was said that the server is lost, and what more was said since of each server.
     is_down: bool,
@@ -102,6 +103,7 @@ impl<'a> FeedSide<'a> {
             connection: None,
             again_at: 0,
             is_accepted: false,
+            accepted_ms: 0,
             was_accepted: false,
             is_down: false,
             troubles: [None; MOST_FEEDS],
@@ -419,6 +421,7 @@ impl<'a> FeedSide<'a> {
             None => FeedLine::GlimpseAccepted,
         };
         self.is_accepted = true;
+        self.accepted_ms = now_ms;
         self.was_accepted = true;
         self.is_down = false;
         self.forget_troubles();

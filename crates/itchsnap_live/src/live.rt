@@ -11,11 +11,13 @@ use crate::feed_side::{FeedSide, SHARE};
 use crate::log::Log;
 use crate::log::form::LogForm;
 use crate::logins::Logins;
-use crate::opened::{follower_of, listen, named_desk, open_folder, open_record, open_status};
+use crate::opened::{Begun, follower_of, listen, named_desk, open_folder, open_record, open_status};
 use crate::places::Place;
 use crate::question::{agreed, ask_session, asks_session};
+use crate::ready::{Ready, is_caught_up};
 use crate::reception::Reception;
 use crate::record::{Record, RecordLoss, RecordWords};
+use crate::replay::Replay;
 use crate::room::SnapshotRoom;
 use crate::route::Servers;
 use crate::saving::{Saver, SnapshotWords};
@@ -72,6 +74,8 @@ pub struct Serving<'a> {
     pub snapshots: Option<SnapshotWords<'a>>,
     /// Whether it serves on once the feed has ended.
     pub stay: bool,
+    /// From when on it sends snapshots.
+    pub ready: Ready,
     /// Where its status is asked for, if it is.
     pub status: Option<Place<'a>>,
     pub log: LogForm,
@@ -137,11 +141,28 @@ where
 {
     let mut log = Log::new(rt, serving.log)?;
     let saver = open_folder(rt, serving)?;
-    let (record, joiner) = open_record(&mut log, serving, joiner)?;
+    let Begun {
+        record,
+        joiner,
+        replay,
+    } = open_record(&mut log, serving, saver.as_ref(), joiner)?;
     let follower = follower_of(rt.alloc(), serving, &accounts.own, &record, joiner)?;
     let Accounts { users, own } = accounts;
     let start = Start::new(rt, log, servers, own, serving.glimpse_session, FEED)?;
-    Server::new(rt, serving, users, start, follower, record, saver)
+    let files = OwnFiles {
+        record,
+        replay,
+        saver,
+    };
+    Server::new(rt, serving, users, start, follower, files)
+}
+
+// What a server keeps in files, and what of it is still to be replayed.
+#[derive(Drop)]
+struct OwnFiles<'a> {
+    record: Record<'a>,
+    replay: Option<Replay>,
+    saver: Option<Saver<'a>>,
 }
 
 // A desk, and its sockets.
@@ -158,11 +179,16 @@ struct Server<'r, 'a, R: Clock, B: OrderBook> {
     clients: Clients,
     budget: Budget,
     record: Record<'a>,
+    // What is still to be replayed of it, before the feed is followed.
+    replay: Option<Replay>,
+    // The latest timestamp of the messages that it has.
+    latest: Option<u64>,
     saver: Option<Saver<'a>>,
     spare: Spare,
     status: Option<StatusPort>,
     tally: Tally,
-    // Whether the feed has ended its session, and whether it was asked which one that is.
+    // Whether all that the feed had has come once, whether it has ended its session, and whether it was asked which one that is.
+    has_caught_up: bool,
     has_ended: bool,
     has_asked: bool,
 }
@@ -178,11 +204,10 @@ where
         users: Logins<'a>,
         start: Start<'r, 'a, R>,
         follower: Follower<B>,
-        record: Record<'a>,
-        saver: Option<Saver<'a>>,
+        files: OwnFiles<'a>,
     ) -> Result<Server<'r, 'a, R, B>, LiveFault> {
         let mut start = start;
-        open_status(serving, &record, &mut start)?;
+        open_status(serving, &files.record, &mut start)?;
         let callers = listen(rt, &mut start, serving.address, LISTENER)?;
         let desk = named_desk(rt.alloc(), serving, follower, &mut start)?;
         Server::open(
@@ -192,8 +217,7 @@ where
             start,
             desk,
             callers,
-            record,
-            saver,
+            files,
         )
     }
 
@@ -205,8 +229,7 @@ where
         start: Start<'r, 'a, R>,
         desk: Desk<B>,
         callers: Callers,
-        record: Record<'a>,
-        saver: Option<Saver<'a>>,
+        files: OwnFiles<'a>,
     ) -> Result<Server<'r, 'a, R, B>, LiveFault> {
         let places = serving.clients;
         let session = desk.follower().session().unwrap_or(current_session());
@@ -224,6 +247,11 @@ where
             figures: _,
         } = start;
         let tally = Tally::new(desk.follower().next());
+        let OwnFiles {
+            record,
+            replay,
+            saver,
+        } = files;
         Ok(Server {
             serving,
             users,
@@ -236,10 +264,13 @@ where
             clients,
             budget: Budget::new(),
             record,
+            replay,
+            latest: None,
             saver,
             spare,
             status,
             tally,
+            has_caught_up: false,
             has_ended: false,
             has_asked: false,
         })
@@ -282,8 +313,12 @@ where
         let now_ms = self.turns.wait(most_ms)?;
         self.log.look_at_clock();
         self.note();
-        self.follow(now_ms)?;
-        self.tally.see(self.desk.follower().next(), now_ms);
+        if self.replay.is_some() {
+            self.replay(now_ms)?;
+        } else {
+            self.follow(now_ms)?;
+            self.tally.see(self.desk.follower().next(), now_ms);
+        }
         self.serve(now_ms)?;
         self.watch(now_ms)?;
         self.write_lines(now_ms, out);
@@ -293,7 +328,8 @@ where
 
     // How long there is nothing to do unless something is ready.
     fn patience_ms(&self) -> u64 {
-        if self.feed.is_busy()
+        if self.replay.is_some()
+            || self.feed.is_busy()
             || self.clients.is_busy(&self.desk)
             || self.reception.is_busy()
             || self.is_asked()
@@ -339,7 +375,15 @@ where
             Err(error) => self.lose_record(RecordLoss::System(error)),
         };
         done?;
+        self.catch_up(now_ms);
         flushed
+    }
+
+    // Takes note of whether all that the feed had has come.
+    fn catch_up(&mut self, now_ms: u64) {
+        let (state, _cause) = self.feed.state();
+        let for_ms = self.feed.accepted_for_ms(now_ms);
+        self.has_caught_up |= is_caught_up(state, for_ms, self.feed.is_busy());
     }
 
     // Does what the feed has sent until nothing more has come, but for no longer than its share of the time.
@@ -387,7 +431,10 @@ where
     // Does what a step asks for, and says whether that may have taken long.
     fn act(&mut self, step: &Step, now_ms: u64) -> Result<bool, LiveFault> {
         match *step {
-            Step::Taken(next) => return self.save(next, now_ms),
+            Step::Taken(next) => {
+                self.latest = self.latest.max(self.feed.market_ns());
+                return self.save(next, self.record.length(), now_ms);
+            }
             Step::Accepted(_) => self.begin_record()?,
             Step::Ended => self.has_ended = self.feed.is_over(),
             Step::Rejected(code) => self.question(code)?,
@@ -443,9 +490,15 @@ where
         Ok(())
     }
 
+    // Whether clients are sent snapshots yet.
+    fn is_ready(&self) -> bool {
+        let may_be_early = matches!(self.serving.ready, Ready::First);
+        (may_be_early || self.has_caught_up) && self.desk.follower().market().is_some()
+    }
+
     // Answers all who wait, as often as the time allows.
     fn answer(&mut self, now_ms: u64) -> Result<(), LiveFault> {
-        if !self.clients.somebody_waits(&self.desk) || self.desk.follower().market().is_none() {
+        if !self.is_ready() || !self.clients.somebody_waits(&self.desk) {
             return Ok(());
         }
         let idle = !self.feed.is_busy() && !self.clients.is_telling(&self.desk);

@@ -6,7 +6,8 @@ use crate::live::Serving;
 use crate::log::Log;
 use crate::logins::Logins;
 use crate::record::Record;
-use crate::resuming::at_the_first;
+use crate::replay::Replay;
+use crate::resuming::{Replayed, at_the_first, newest};
 use crate::saving::Saver;
 use crate::session_fault::SessionFault;
 use crate::sessions::{Listening, current_session};
@@ -14,6 +15,7 @@ use crate::start::Start;
 use crate::status::StatusPort;
 use crate::turns::called;
 use itch_book::OrderBook;
+use itch_day::Mark;
 use itch_join::Joiner;
 use itch_live::{Desk, Follower, Sessions};
 use std::alloc::{AllocError, Global};
@@ -22,7 +24,7 @@ use std::net::{Net, SocketAddr};
 use std::rt::{Clock, Files};
 
 /// Opens the folder of snapshots, if there is to be one.
-pub(crate) fn open_folder<'a, R: Files<File = File>>(
+pub(crate) fn open_folder<'a, R: Files<File = File> + AllocGlobal>(
     rt: &R,
     serving: &Serving<'a>,
 ) -> Result<Option<Saver<'a>>, LiveFault> {
@@ -32,19 +34,67 @@ pub(crate) fn open_folder<'a, R: Files<File = File>>(
     }
 }
 
-/// Opens the record, if there is to be one, and brings the joiner to its end.
-pub(crate) fn open_record<'a, R: Files<File = File> + Clock + Eprint + AllocGlobal, B: OrderBook>(
+/// What a live server begins with: the record, the market that it has so far, and what is still to be replayed.
+#[derive(Drop)]
+pub(crate) struct Begun<'a, B: OrderBook> {
+    pub record: Record<'a>,
+    pub joiner: Joiner<B>,
+    pub replay: Option<Replay>,
+}
+
+/// Opens the record, if there is to be one. It is replayed from the newest snapshot on that fits it; the folder lists no later ones.
+pub(crate) fn open_record<'a, R, B>(
     log: &mut Log<'_, R>,
     serving: &Serving<'a>,
+    saver: Option<&Saver<'a>>,
     joiner: Joiner<B>,
-) -> Result<(Record<'a>, Joiner<B>), LiveFault> {
+) -> Result<Begun<'a, B>, LiveFault>
+where
+    R: Files<File = File> + Clock + Eprint + AllocGlobal,
+    B: OrderBook<Alloc = Global>,
+{
+    let rt = log.runtime();
     let mut joiner = joiner;
-    if !serving.from_snapshot {
-        at_the_first(&mut joiner)?;
+    let mut mark = Mark::new();
+    let record = match serving.record {
+        Some(words) => Record::open(rt, words, serving.session)?,
+        None => Record::none(),
+    };
+    match newest_of(log, serving, &record)? {
+        Some(resumed) => (joiner, mark) = resumed,
+        None if serving.from_snapshot => {}
+        None => at_the_first(&mut joiner)?,
     }
-    match serving.record {
-        Some(words) => Record::open(log, words, serving.session, joiner),
-        None => Ok((Record::none(), joiner)),
+    if let Some(saver) = saver {
+        saver.forget_after(rt, mark.count)?;
+    }
+    let replay = record.replay(rt, mark)?;
+    Ok(Begun {
+        record,
+        joiner,
+        replay,
+    })
+}
+
+// The market of the newest snapshot that fits the record.
+fn newest_of<R, B>(
+    log: &mut Log<'_, R>,
+    serving: &Serving<'_>,
+    record: &Record<'_>,
+) -> Result<Option<(Joiner<B>, Mark)>, LiveFault>
+where
+    R: Files<File = File> + Clock + Eprint + AllocGlobal,
+    B: OrderBook<Alloc = Global>,
+{
+    match (serving.snapshots, record.path()) {
+        (Some(words), Some(path)) if record.length() > 0 => {
+            let replayed = Replayed {
+                path,
+                length: record.length(),
+            };
+            newest(log, words.folder, replayed)
+        }
+        _ => Ok(None),
     }
 }
 

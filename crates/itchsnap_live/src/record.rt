@@ -6,16 +6,15 @@ use crate::log::entry::{Event, Level, write_shown};
 use crate::log::form::LogForm;
 use crate::log::lines::Dropped;
 use crate::recording::Recording;
-use crate::resuming::replay_record;
+use crate::replay::Replay;
 use crate::session_fault::SessionFault;
 use crate::session_file::{read_session, write_session};
 use crate::sessions::PIECE;
 use crate::step::record_fault;
 use crate::watch::{Change, Seen, change_of};
-use itch_book::OrderBook;
 use itch_codec::Alpha;
 use itch_frame::tally::Failures;
-use itch_join::Joiner;
+use itch_day::Mark;
 use itch_status::Recorded;
 use std::fmt::{self, Display, Formatter};
 use std::fs::{self, File, OpenOptions, TryLockError};
@@ -76,32 +75,20 @@ impl<'a> Record<'a> {
         }
     }
 
-    /// Opens a record to append to, for this process alone, replays what it has, and drops what is not a whole message at its end. It has
-    /// to be of this session, if one is named. A record that is refused stays as it is.
-    pub(crate) fn open<R: Files<File = File> + Clock + Eprint + AllocGlobal, B: OrderBook>(
-        log: &mut Log<'_, R>,
+    /// Opens a record to append to, for this process alone. It has to be of this session, if one is named.
+    pub(crate) fn open<R: Files<File = File> + AllocGlobal>(
+        rt: &R,
         words: RecordWords<'a>,
         named: Option<Alpha<10>>,
-        joiner: Joiner<B>,
-    ) -> Result<(Record<'a>, Joiner<B>), LiveFault> {
-        let (rt, path) = (log.runtime(), words.path);
-        let file = open_alone(rt, path)?;
-        let mut opened = seen(&file)?;
+    ) -> Result<Record<'a>, LiveFault> {
+        let file = open_alone(rt, words.path)?;
+        let opened = seen(&file)?;
         let beside = if opened.length == 0 {
             None
         } else {
-            read_session(rt, path)?
+            read_session(rt, words.path)?
         };
         let session = session_of(opened.length, beside, named)?;
-        let (joiner, whole) = replay_record(rt.alloc(), open_again(rt, path)?, joiner)?;
-        if whole.offset < opened.length {
-            cut(&file, whole.offset)?;
-            log.say(&Dropped {
-                bytes: opened.length - whole.offset,
-                messages: whole.count,
-            });
-            opened.length = whole.offset;
-        }
         let Ok(file) = BufWriter::with_capacity(rt.alloc(), PIECE, file) else {
             return Err(LiveFault::Session(SessionFault::OutOfMemory));
         };
@@ -118,7 +105,60 @@ impl<'a> Record<'a> {
             synced: 0,
             watched_ms: 0,
         });
-        Ok((Record { recording, kept }, joiner))
+        Ok(Record { recording, kept })
+    }
+
+    /// A replay of the messages that it has after those of a mark.
+    pub(crate) fn replay<R: Files<File = File> + AllocGlobal>(
+        &self,
+        rt: &R,
+        mark: Mark,
+    ) -> Result<Option<Replay>, LiveFault> {
+        match &self.kept {
+            Some(kept) if kept.opened.length > 0 => {
+                let file = open_again(rt, kept.words.path)?;
+                Ok(Some(Replay::after(rt.alloc(), file, mark)?))
+            }
+            _ => Ok(None),
+        }
+    }
+
+    /// Drops what follows the whole messages, all of which were replayed. A record that is refused stays as it is.
+    pub(crate) fn cut<R: Eprint>(
+        &mut self,
+        log: &mut Log<'_, R>,
+        whole: Mark,
+    ) -> Result<(), LiveFault> {
+        let Recording::File { file, .. } = &self.recording else {
+            return Ok(());
+        };
+        if let Some(kept) = &mut self.kept
+            && whole.offset < kept.opened.length
+        {
+            cut(file.get_ref(), whole.offset)?;
+            log.say(&Dropped {
+                bytes: kept.opened.length - whole.offset,
+                messages: whole.count,
+            });
+            kept.opened.length = whole.offset;
+        }
+        Ok(())
+    }
+
+    /// Where it is, if there is one.
+    pub(crate) fn path(&self) -> Option<&'a str> {
+        match &self.kept {
+            Some(kept) => Some(kept.words.path),
+            None => None,
+        }
+    }
+
+    /// How many bytes it has.
+    pub(crate) fn length(&self) -> u64 {
+        match &self.kept {
+            Some(kept) => kept.opened.length.saturating_add(self.recording.added()),
+            None => 0,
+        }
     }
 
     /// The session of the messages that it has, if it has any.
@@ -219,7 +259,7 @@ impl<'a> Record<'a> {
         let kept = self.kept.as_ref()?;
         let added = self.recording.added();
         Some(Recorded {
-            length: kept.opened.length.saturating_add(added),
+            length: self.length(),
             unsynced: added.saturating_sub(kept.synced),
         })
     }

@@ -11,8 +11,11 @@ use crate::log::form::LogForm;
 use crate::recording::Recording;
 use crate::session_fault::SessionFault;
 use crate::sessions::{PIECE, Sending, write_closed};
+use crate::snapshot_folder::{clean, keep_lines, list, remove};
 use itch_book::OrderBook;
+use itch_checkpoints::fingerprint_before;
 use itch_codec::{GREATEST_SEQ, Seq};
+use itch_day::Mark;
 use itch_market::Market;
 use itch_snapshot::snapshot_len;
 use std::fmt::{self, Display, Formatter};
@@ -23,11 +26,20 @@ use std::rt::Files;
 /// Snapshots that cannot be written are reported this often.
 const REPORT_MS: u64 = 60_000;
 
-/// A folder for snapshots, and after how many messages each is written.
+/// A folder for snapshots, after how many messages each is written, and how many are kept if not all are.
 #[derive(Clone, Copy, Debug, PartialEq, Eq)]
 pub struct SnapshotWords<'a> {
     pub folder: &'a str,
     pub every: u64,
+    pub keep: Option<u64>,
+}
+
+/// Which part of a record a snapshot is of: the messages before this offset, with this latest timestamp.
+#[derive(Clone, Copy)]
+pub(crate) struct RecordPart<'a> {
+    pub path: &'a str,
+    pub offset: u64,
+    pub latest: Option<u64>,
 }
 
 /// A folder that snapshots are written to, by this process alone.
@@ -36,6 +48,8 @@ pub(crate) struct Saver<'a> {
     words: SnapshotWords<'a>,
     // It holds the lock.
     _folder: File,
+    // How many messages each snapshot of the folder has, the oldest one first.
+    files: Vec<u64>,
     // How many messages the last one has, if one was written.
     saved: Option<u64>,
     // How many were not written, also since that was said last, and when it was.
@@ -97,8 +111,8 @@ impl Event for Missed<'_> {
 }
 
 impl<'a> Saver<'a> {
-    /// Looks at the folder, and locks it.
-    pub(crate) fn open<R: Files<File = File>>(
+    /// Looks at the folder, locks it, and removes what was not written whole.
+    pub(crate) fn open<R: Files<File = File> + AllocGlobal>(
         rt: &R,
         words: SnapshotWords<'a>,
     ) -> Result<Saver<'a>, LiveFault> {
@@ -111,14 +125,36 @@ impl<'a> Saver<'a> {
             Err(TryLockError::WouldBlock) => return Err(LiveFault::InUse(Owned::Snapshots)),
             Err(TryLockError::Error(error)) => return Err(LiveFault::Session(folder_fault(error))),
         }
+        let files = match clean(rt, words.folder) {
+            Ok(files) => files,
+            Err(error) => return Err(LiveFault::Session(folder_fault(error))),
+        };
         Ok(Saver {
             words,
             _folder: folder,
+            files,
             saved: None,
             all_missed: 0,
             missed: 0,
             reported_ms: None,
         })
+    }
+
+    /// The index lists no snapshots but those with at most so many messages.
+    pub(crate) fn forget_after<R: Files<File = File> + AllocGlobal>(
+        &self,
+        rt: &R,
+        messages: u64,
+    ) -> Result<(), LiveFault> {
+        match keep_lines(rt, self.words.folder, |count| count <= messages) {
+            Ok(()) => Ok(()),
+            Err(error) => Err(LiveFault::Session(folder_fault(error))),
+        }
+    }
+
+    /// After how many messages each snapshot is written.
+    pub(crate) fn every(&self) -> u64 {
+        self.words.every
     }
 
     /// How many messages the last snapshot has, if one was written, and how many were not written.
@@ -131,8 +167,8 @@ impl<'a> Saver<'a> {
         is_wanted(self.words.every, next)
     }
 
-    /// Writes the snapshot of the market before this number. One that cannot be written is reported, and no more: the error is that of the
-    /// record, which has to have each message that the snapshot has.
+    /// Writes the snapshot of the market before this number, and lists it as that of a part of the record, if there is one. One that
+    /// cannot be written is reported, and no more: the error is that of the record, which has to have each message that the snapshot has.
     pub(crate) fn save<R: Files<File = File> + Eprint + AllocGlobal, B: OrderBook>(
         &mut self,
         log: &mut Log<'_, R>,
@@ -140,11 +176,55 @@ impl<'a> Saver<'a> {
         next: u64,
         now_ms: u64,
         recording: &mut Recording<File>,
+        part: Option<RecordPart<'_>>,
     ) -> io::Result<()> {
-        match save(log.runtime(), self.words.folder, market, next, recording) {
-            Ok(()) => self.saved = Some(next.saturating_sub(1)),
+        let rt = log.runtime();
+        let written = match save(rt, self.words.folder, market, next, recording) {
+            Ok(()) => self.enter(rt, next.saturating_sub(1), part),
             Err(Unsaved::Record(error)) => return Err(error),
-            Err(Unsaved::Snapshot(fault)) => self.miss(log, &fault, next, now_ms),
+            Err(Unsaved::Snapshot(fault)) => Err(fault),
+        };
+        match written {
+            Ok(()) => self.saved = Some(next.saturating_sub(1)),
+            Err(fault) => self.miss(log, &fault, next, now_ms),
+        }
+        Ok(())
+    }
+
+    // Lists the snapshot of so many messages, and removes the oldest ones where not all are kept.
+    fn enter<R: Files<File = File> + AllocGlobal>(
+        &mut self,
+        rt: &R,
+        messages: u64,
+        part: Option<RecordPart<'_>>,
+    ) -> Result<(), SessionFault> {
+        let entered = match part {
+            Some(part) => list_part(rt, self.words.folder, messages, part),
+            None => Ok(()),
+        };
+        if let Err(error) = entered {
+            return Err(folder_fault(error));
+        }
+        self.files.retain(|count| *count != messages);
+        if self.files.push(messages).is_err() {
+            return Err(SessionFault::OutOfMemory);
+        }
+        match self.remove_oldest(rt) {
+            Ok(()) => Ok(()),
+            Err(error) => Err(folder_fault(error)),
+        }
+    }
+
+    // Removes the oldest snapshots until no more are left than are kept.
+    fn remove_oldest<R: Files<File = File> + AllocGlobal>(&mut self, rt: &R) -> io::Result<()> {
+        let Some(keep) = self.words.keep else {
+            return Ok(());
+        };
+        let keep = usize::try_from(keep).unwrap_or(usize::MAX);
+        while self.files.len() > keep {
+            let oldest = self.files.remove(0);
+            keep_lines(rt, self.words.folder, |count| count != oldest)?;
+            remove(rt, self.words.folder, oldest)?;
         }
         Ok(())
     }
@@ -182,6 +262,23 @@ pub(crate) fn is_wanted(every: u64, next: u64) -> bool
 {
     let messages = next.saturating_sub(1);
     messages > 0 && every > 0 && messages % every == 0
+}
+
+// Lists the snapshot of the part of a record with so many messages.
+fn list_part<R: Files<File = File> + AllocGlobal>(
+    rt: &R,
+    folder: &str,
+    messages: u64,
+    part: RecordPart<'_>,
+) -> io::Result<()> {
+    let mut record = fs::open(rt, part.path)?;
+    let fingerprint = fingerprint_before(rt.alloc(), &mut record, part.offset)?;
+    let mark = Mark {
+        count: messages,
+        offset: part.offset,
+        latest: part.latest,
+    };
+    list(rt, folder, mark, fingerprint)
 }
 
 // Opens a folder: a file is none.

@@ -370,6 +370,16 @@ pub const COMMANDS: [Entry; 16] = [
                 value: Value::Range("N", 1, MOST_COUNTED),
                 help: "Write a snapshot after every N messages",
             },
+            Argument::Optional {
+                long: "keep",
+                value: Value::Range("N", 1, MOST_COUNTED),
+                help: "Keep the last N snapshots in the folder [default: all]",
+            },
+            Argument::Optional {
+                long: "ready",
+                value: Value::Text("WHEN"),
+                help: "Serve clients from the first market on, or once it is caught-up [default: first]",
+            },
             Argument::Flag {
                 long: "stay",
                 help: "Continue to serve after the feed has ended its session",

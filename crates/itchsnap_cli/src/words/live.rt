@@ -10,7 +10,7 @@ use crate::words::size::read_size;
 use clap::{ArgMatches, Error};
 use itch_codec::Alpha;
 use itchsnap_live::{
-    Feeds, FollowForm, LogForm, Pace, Place, RecordWords, SnapshotWords, SyncTime,
+    Feeds, FollowForm, LogForm, Pace, Place, Ready, RecordWords, SnapshotWords, SyncTime,
 };
 use std::alloc::Global;
 use std::net::SocketAddr;
@@ -43,6 +43,8 @@ pub struct LiveWords<'a> {
     pub snapshots: Option<SnapshotWords<'a>>,
     /// Whether it serves on once the feed has ended.
     pub stay: bool,
+    /// From when on it sends snapshots.
+    pub ready: Ready,
     /// Where its status is asked for, if it is.
     pub status: Option<Place<'a>>,
     pub log: LogForm,
@@ -106,6 +108,7 @@ pub fn read_live<'a>(
         record,
         snapshots: read_snapshots(alloc, options)?,
         stay: options.get_flag("stay"),
+        ready: read_ready(alloc, options)?,
         status: read_status(alloc, options, "status")?,
         log: read_log(alloc, options)?,
     })
@@ -174,6 +177,14 @@ fn read_sync<'a>(alloc: Global, options: &ArgMatches<'a>) -> Result<Option<SyncT
     }
 }
 
+fn read_ready<'a>(alloc: Global, options: &ArgMatches<'a>) -> Result<Ready, Error> {
+    match options.get_str("ready") {
+        None | Some("first") => Ok(Ready::First),
+        Some("caught-up") => Ok(Ready::CaughtUp),
+        Some(_) => Err(usage_fault(alloc, "--ready takes first or caught-up")?),
+    }
+}
+
 fn read_log<'a>(alloc: Global, options: &ArgMatches<'a>) -> Result<LogForm, Error> {
     match options.get_str("log") {
         None => Ok(LogForm::Plain),
@@ -225,9 +236,15 @@ fn read_snapshots<'a>(
     options: &ArgMatches<'a>,
 ) -> Result<Option<SnapshotWords<'a>>, Error> {
     let every = read_counted(alloc, options, "every")?;
+    let keep = read_counted(alloc, options, "keep")?;
     match (options.get_str("snapshots"), every) {
+        (None, None) if keep.is_some() => Err(usage_fault(alloc, "--keep goes with --snapshots")?),
         (None, None) => Ok(None),
-        (Some(folder), Some(every)) => Ok(Some(SnapshotWords { folder, every })),
+        (Some(folder), Some(every)) => Ok(Some(SnapshotWords {
+            folder,
+            every,
+            keep,
+        })),
         _ => Err(usage_fault(alloc, "--snapshots and --every go together")?),
     }
 }

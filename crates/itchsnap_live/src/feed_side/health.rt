@@ -19,6 +19,11 @@ impl FeedSide<'_> {
         (FeedState::Connecting, self.cause)
     }
 
+    /// How long ago the login was accepted that was accepted last.
+    pub(crate) fn accepted_for_ms(&self, now_ms: u64) -> u64 {
+        now_ms.saturating_sub(self.accepted_ms)
+    }
+
     /// The place of that server, from 1.
     pub(crate) fn server_number(&self) -> u64 {
         (self.server() as u64).saturating_add(1)

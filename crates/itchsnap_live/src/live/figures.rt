@@ -49,7 +49,7 @@ where
             session: self.desk.follower().session(),
             server: self.feed.server_number(),
             losses: self.feed.losses(),
-            next: self.tally.next,
+            next: self.desk.follower().next(),
             messages: self.tally.messages,
             minute: self.tally.minute_at(now_ms),
             market_ns: self.feed.market_ns(),

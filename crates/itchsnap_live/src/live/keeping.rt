@@ -1,9 +1,12 @@
 //! The files of a live server.
 
-use super::Server;
+use super::{READING_MS, Server};
 use crate::fault::LiveFault;
 use crate::record::RecordLoss;
+use crate::replay::next_stop;
+use crate::saving::RecordPart;
 use itch_book::OrderBook;
+use itch_status::Tally;
 use std::alloc::Global;
 use std::fs::File;
 use std::net::Net;
@@ -35,8 +38,43 @@ where
         }
     }
 
-    // Writes the snapshot after a message, where one is asked for, and says whether it is. The record has each message that the snapshot has.
-    pub(super) fn save(&mut self, next: u64, now_ms: u64) -> Result<bool, LiveFault> {
+    // Replays the record for the time of one turn.
+    pub(super) fn replay(&mut self, now_ms: u64) -> Result<(), LiveFault> {
+        let until_ms = now_ms.saturating_add(READING_MS);
+        for _part in 0..u64::MAX {
+            if !self.replay_part(now_ms)? || self.turns.now()? >= until_ms {
+                break;
+            }
+        }
+        Ok(())
+    }
+
+    // Replays a part of the record, and says whether more may follow. The snapshots that are due are written.
+    fn replay_part(&mut self, now_ms: u64) -> Result<bool, LiveFault> {
+        let Some(mut replay) = self.replay.take() else {
+            return Ok(false);
+        };
+        let every = match &self.saver {
+            Some(saver) => saver.every(),
+            None => 0,
+        };
+        let most = next_stop(every, replay.mark().count);
+        let is_more = replay.read_to(self.desk.follower_mut(), most)?;
+        let mark = replay.mark();
+        self.latest = mark.latest;
+        if is_more {
+            self.replay = Some(replay);
+            self.save(mark.count.saturating_add(1), mark.offset, now_ms)?;
+        } else {
+            self.record.cut(&mut self.log, mark)?;
+            self.tally = Tally::new(self.desk.follower().next());
+        }
+        Ok(is_more)
+    }
+
+    // Writes the snapshot after a message, where one is asked for, and says whether it is. The record has each message that the snapshot has: they
+    // end at this offset.
+    pub(super) fn save(&mut self, next: u64, offset: u64, now_ms: u64) -> Result<bool, LiveFault> {
         if !self.saver.as_ref().is_some_and(|saver| saver.wants(next)) {
             return Ok(false);
         }
@@ -44,10 +82,19 @@ where
             self.lose_record(RecordLoss::System(error))?;
         }
         self.spare.release();
+        let latest = self.latest;
+        let part = match self.record.path() {
+            Some(path) => Some(RecordPart {
+                path,
+                offset,
+                latest,
+            }),
+            None => None,
+        };
         let saved = match (&mut self.saver, self.desk.follower().market()) {
             (Some(saver), Some(market)) => {
                 let recording = &mut self.record.recording;
-                saver.save(&mut self.log, market, next, now_ms, recording)
+                saver.save(&mut self.log, market, next, now_ms, recording, part)
             }
             _ => Ok(()),
         };
