@@ -7,15 +7,15 @@
 mod checkpoint;
 mod fingerprint;
 mod index;
-mod index_line;
 mod latest;
 mod lines;
+mod listing;
 mod passed;
 
 pub use checkpoint::Checkpoint;
 pub use fingerprint::{Fingerprint, Unfit, fingerprint_before, why_unfit};
 pub use index::{IndexReader, nearest};
-pub use index_line::index_line;
 pub use latest::Latest;
 pub use lines::Lines;
+pub use listing::index_line;
 pub use passed::Passed;
