@@ -46,10 +46,7 @@ fn push_number<A: Allocator>(line: &mut Vec<u8, A>, number: u64) -> Result<(), A
     line.extend_from_slice(Buffer::new().format(number).as_bytes())
 }
 
-fn push_or_null<A: Allocator>(
-    line: &mut Vec<u8, A>,
-    number: Option<u64>,
-) -> Result<(), AllocError>
+fn push_or_null<A: Allocator>(line: &mut Vec<u8, A>, number: Option<u64>) -> Result<(), AllocError>
     ensures { OnOk result (line.new.items ≡ line.old.items ++ number_or_null number) }
 {
     match number {

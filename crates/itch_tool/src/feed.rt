@@ -62,7 +62,10 @@ pub fn open_after<'a, R: Files + Input + Eprint + AllocGlobal + Clock>(
     if size < offset {
         return Err(FeedFault::Unfit(Unfit::Beyond));
     }
-    let found = found_in(fingerprint_before(rt.alloc(), &mut file, offset), checkpoint)?;
+    let found = found_in(
+        fingerprint_before(rt.alloc(), &mut file, offset),
+        checkpoint,
+    )?;
     refuse(why_unfit(checkpoint.fingerprint, found))?;
     if let Some(progress) = progress {
         progress.add_file(Some(size - offset));

@@ -11,7 +11,9 @@ use crate::feed_side::{FeedSide, SHARE};
 use crate::log::Log;
 use crate::log::form::LogForm;
 use crate::logins::Logins;
-use crate::opened::{Begun, follower_of, listen, named_desk, open_folder, open_record, open_status};
+use crate::opened::{
+    Begun, follower_of, listen, named_desk, open_folder, open_record, open_status,
+};
 use crate::places::Place;
 use crate::question::{agreed, ask_session, asks_session};
 use crate::ready::{Ready, is_caught_up};
@@ -210,15 +212,7 @@ where
         open_status(serving, &files.record, &mut start)?;
         let callers = listen(rt, &mut start, serving.address, LISTENER)?;
         let desk = named_desk(rt.alloc(), serving, follower, &mut start)?;
-        Server::open(
-            rt.alloc(),
-            serving,
-            users,
-            start,
-            desk,
-            callers,
-            files,
-        )
+        Server::open(rt.alloc(), serving, users, start, desk, callers, files)
     }
 
     // Opens the reception of a desk, and its places.
