@@ -1,4 +1,5 @@
 pub mod Budgets
+pub mod DayFiles
 pub mod Departures
 pub mod FeedLines
 pub mod LiveFaults

@@ -332,6 +332,17 @@ impl Clients {
         }
     }
 
+    /// Cuts off all who are still there.
+    pub(crate) fn cut_off<B: OrderBook>(
+        &mut self,
+        reception: &mut Reception,
+        desk: &mut Desk<B>,
+    ) {
+        for place in 0..self.seats.len() {
+            self.free(place, Departure::CutOff, reception, desk);
+        }
+    }
+
     // How the connection of the client at a place has ended, once it has all that it is told.
     fn served_at(&self, place: usize) -> Option<Departure> {
         match self.seats.get(place) {

@@ -2,6 +2,7 @@
 ghost use Rattle.std.specs.Prelude.{◌≡◌};
 ghost use Rattle.itchsnap_live.specs.LiveFaults.{live_status, record_status};
 
+use crate::day_files::DayPaths;
 use crate::places::Feeds;
 use crate::session_fault::SessionFault;
 use crate::watch::Change;
@@ -46,6 +47,13 @@ pub enum LiveFault {
         snapshot: Alpha<10>,
         feed: Alpha<10>,
     },
+}
+
+/// Why a live server has ended, and where the files of the day were, as far as that was known.
+#[derive(Debug, Drop)]
+pub struct DayFault {
+    pub fault: LiveFault,
+    pub paths: DayPaths,
 }
 
 /// What one process at a time may write to.

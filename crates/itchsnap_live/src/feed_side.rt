@@ -316,6 +316,22 @@ impl<'a> FeedSide<'a> {
         Ok(Some(step))
     }
 
+    /// Closes the connection, and makes another one at this moment.
+    pub(crate) fn pause(&mut self, until_ms: u64) {
+        self.drop_connection(until_ms);
+    }
+
+    /// Begins another day: no login was accepted in its session yet.
+    pub(crate) fn begin_day(&mut self, now_ms: u64) {
+        self.drop_connection(now_ms);
+        self.route.begin();
+        self.was_accepted = false;
+        self.is_down = false;
+        self.forget_troubles();
+        self.cause = None;
+        self.market_ns = None;
+    }
+
     /// Has so many bytes read once more in this turn.
     pub(crate) fn renew(&mut self) {
         self.share = SHARE;

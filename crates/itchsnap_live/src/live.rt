@@ -1,12 +1,15 @@
 //! `live`: a feed that is followed, and the snapshot of its present market for each client that asks.
 
+mod beginning;
+mod days;
 mod figures;
 mod keeping;
 
 use crate::budget::Budget;
 use crate::callers::Callers;
 use crate::clients::Clients;
-use crate::fault::LiveFault;
+use crate::day_files::DayPaths;
+use crate::fault::{DayFault, LiveFault};
 use crate::feed_side::{FeedSide, SHARE};
 use crate::log::Log;
 use crate::log::form::LogForm;
@@ -18,27 +21,27 @@ use crate::places::Place;
 use crate::question::{agreed, ask_session, asks_session};
 use crate::ready::{Ready, is_caught_up};
 use crate::reception::Reception;
-use crate::record::{Record, RecordLoss, RecordWords};
+use crate::record::{Record, RecordLoss, RecordPlace, RecordWords};
 use crate::replay::Replay;
-use crate::room::SnapshotRoom;
 use crate::route::Servers;
 use crate::saving::{Saver, SnapshotWords};
-use crate::sessions::current_session;
+use crate::scout::Scout;
 use crate::spare::Spare;
-use crate::start::Start;
 use crate::status::{STATUS, StatusPort};
 use crate::step::Step;
 use crate::turns::Turns;
 use crate::who::Visit;
 use itch_book::{IndexedBook, OrderBook};
-use itch_codec::{Alpha, Seq};
+use itch_codec::Alpha;
 use itch_frame::CountedWrite;
 use itch_join::Joiner;
-use itch_live::{Desk, Follower};
+use itch_live::Desk;
 use itch_status::Tally;
+use days::Tomorrow;
 use mio::Token;
 use std::alloc::Global;
 use std::fs::File;
+use std::mem::replace;
 use std::net::{Net, SocketAddr};
 use std::rt::{Clock, Files};
 
@@ -48,6 +51,9 @@ const LISTENER: usize = 0;
 const FEED: usize = 1;
 
 const PLACES: usize = 2;
+
+/// That of the connection that looks for the session of the next day: the last number before those of the status port.
+const SCOUT: usize = STATUS - 1;
 
 /// The moment is looked at this often, where no socket is ready.
 const MOMENT_MS: u64 = 100;
@@ -73,6 +79,7 @@ pub struct Serving<'a> {
     /// Whether it begins with a snapshot, and not with the feed's first message.
     pub from_snapshot: bool,
     pub record: Option<RecordWords<'a>>,
+    /// Where snapshots are written: in the folder itself, or in one for each session there if the record has a file for each.
     pub snapshots: Option<SnapshotWords<'a>>,
     /// Whether it serves on once the feed has ended.
     pub stay: bool,
@@ -81,6 +88,21 @@ pub struct Serving<'a> {
     /// Where its status is asked for, if it is.
     pub status: Option<Place<'a>>,
     pub log: LogForm,
+}
+
+impl<'a> Serving<'a> {
+    /// Where it records, if it does.
+    pub(crate) fn place(&self) -> Option<RecordPlace<'a>> {
+        match self.record {
+            Some(words) => Some(words.place),
+            None => None,
+        }
+    }
+
+    /// Whether it has files for each session of its feed.
+    pub(crate) fn has_days(&self) -> bool {
+        matches!(self.place(), Some(RecordPlace::Folder(_)))
+    }
 }
 
 /// Who may log in to a live server, and whom it logs in as itself.
@@ -106,65 +128,25 @@ pub fn serve_live<R, W: CountedWrite>(
     serving: &Serving<'_>,
     accounts: Accounts<'_>,
     out: &mut W,
-) -> Result<bool, LiveFault>
+) -> Result<bool, DayFault>
 where
     R: Net + Clock + Files<File = File> + Eprint + AllocGlobal,
 {
-    let joiner: Joiner<IndexedBook<Global>> = Joiner::new(rt.alloc(), 0);
-    serve(rt, servers, serving, accounts, joiner, out)
-}
-
-// Serves until it is over, with any book.
-fn serve<R, B: OrderBook<Alloc = Global>, W: CountedWrite>(
-    rt: &R,
-    servers: Servers<'_>,
-    serving: &Serving<'_>,
-    accounts: Accounts<'_>,
-    joiner: Joiner<B>,
-    out: &mut W,
-) -> Result<bool, LiveFault>
-where
-    R: Net + Clock + Files<File = File> + Eprint + AllocGlobal,
-{
-    let mut server = opened(rt, servers, serving, accounts, joiner)?;
-    server.run(out)
-}
-
-// Opens what a server works on, and waits until the session of its feed is known.
-fn opened<'r, 'a, R, B: OrderBook<Alloc = Global>>(
-    rt: &'r R,
-    servers: Servers<'a>,
-    serving: &'a Serving<'a>,
-    accounts: Accounts<'a>,
-    joiner: Joiner<B>,
-) -> Result<Server<'r, 'a, R, B>, LiveFault>
-where
-    R: Net + Clock + Files<File = File> + Eprint + AllocGlobal,
-{
-    let mut log = Log::new(rt, serving.log)?;
-    let saver = open_folder(rt, serving)?;
-    let Begun {
-        record,
-        joiner,
-        replay,
-    } = open_record(&mut log, serving, saver.as_ref(), joiner)?;
-    let follower = follower_of(rt.alloc(), serving, &accounts.own, &record, joiner)?;
-    let Accounts { users, own } = accounts;
-    let start = Start::new(rt, log, servers, own, serving.glimpse_session, FEED)?;
-    let files = OwnFiles {
-        record,
-        replay,
-        saver,
+    let mut paths = DayPaths::none();
+    let begun: Result<Server<'_, '_, R, IndexedBook<Global>>, LiveFault> =
+        beginning::opened(rt, servers, serving, accounts, &mut paths);
+    let mut server = match begun {
+        Ok(server) => server,
+        Err(fault) => return Err(DayFault { fault, paths }),
     };
-    Server::new(rt, serving, users, start, follower, files)
-}
-
-// What a server keeps in files, and what of it is still to be replayed.
-#[derive(Drop)]
-struct OwnFiles<'a> {
-    record: Record<'a>,
-    replay: Option<Replay>,
-    saver: Option<Saver<'a>>,
+    server.paths = paths;
+    match server.run(out) {
+        Ok(answer) => Ok(answer),
+        Err(fault) => Err(DayFault {
+            fault,
+            paths: replace(&mut server.paths, DayPaths::none()),
+        }),
+    }
 }
 
 // A desk, and its sockets.
@@ -180,12 +162,17 @@ struct Server<'r, 'a, R: Clock, B: OrderBook> {
     reception: Reception,
     clients: Clients,
     budget: Budget,
-    record: Record<'a>,
+    // Where the record and the snapshots of the day are.
+    paths: DayPaths,
+    record: Record,
     // What is still to be replayed of it, before the feed is followed.
     replay: Option<Replay>,
     // The latest timestamp of the messages that it has.
     latest: Option<u64>,
-    saver: Option<Saver<'a>>,
+    saver: Option<Saver>,
+    // What looks for the session of the next day, and that session, once it is found.
+    scout: Option<Scout<'r, 'a, R, B>>,
+    tomorrow: Option<Tomorrow>,
     spare: Spare,
     status: Option<StatusPort>,
     tally: Tally,
@@ -199,77 +186,6 @@ impl<'r, 'a, R, B: OrderBook<Alloc = Global>> Server<'r, 'a, R, B>
 where
     R: Net + Clock + Files<File = File> + Eprint + AllocGlobal,
 {
-    // Listens on the port, says so, and waits until the session of the feed is known.
-    fn new(
-        rt: &'r R,
-        serving: &'a Serving<'a>,
-        users: Logins<'a>,
-        start: Start<'r, 'a, R>,
-        follower: Follower<B>,
-        files: OwnFiles<'a>,
-    ) -> Result<Server<'r, 'a, R, B>, LiveFault> {
-        let mut start = start;
-        open_status(serving, &files.record, &mut start)?;
-        let callers = listen(rt, &mut start, serving.address, LISTENER)?;
-        let desk = named_desk(rt.alloc(), serving, follower, &mut start)?;
-        Server::open(rt.alloc(), serving, users, start, desk, callers, files)
-    }
-
-    // Opens the reception of a desk, and its places.
-    fn open(
-        alloc: Global,
-        serving: &'a Serving<'a>,
-        users: Logins<'a>,
-        start: Start<'r, 'a, R>,
-        desk: Desk<B>,
-        callers: Callers,
-        files: OwnFiles<'a>,
-    ) -> Result<Server<'r, 'a, R, B>, LiveFault> {
-        let places = serving.clients;
-        let session = desk.follower().session().unwrap_or(current_session());
-        let first_room = PLACES.saturating_add(places);
-        let reception = Reception::new(alloc, session, Seq::new(1).unwrap(), first_room)?;
-        let room = SnapshotRoom::new(serving.snapshot_memory);
-        let clients = Clients::new(alloc, places, serving.clients_per_address, room, PLACES)?;
-        let Start {
-            log,
-            turns,
-            feed,
-            token: _,
-            spare,
-            status,
-            figures: _,
-        } = start;
-        let tally = Tally::new(desk.follower().next());
-        let OwnFiles {
-            record,
-            replay,
-            saver,
-        } = files;
-        Ok(Server {
-            serving,
-            users,
-            log,
-            turns,
-            callers,
-            feed,
-            desk,
-            reception,
-            clients,
-            budget: Budget::new(),
-            record,
-            replay,
-            latest: None,
-            saver,
-            spare,
-            status,
-            tally,
-            has_caught_up: false,
-            has_ended: false,
-            has_asked: false,
-        })
-    }
-
     // Serves until it is over.
     fn run<W: CountedWrite>(&mut self, out: &mut W) -> Result<bool, LiveFault> {
         self.begin()?;
@@ -303,6 +219,7 @@ where
 
     // Waits until something is ready or due, and does it.
     fn turn<W: CountedWrite>(&mut self, out: &mut W) -> Result<(), LiveFault> {
+        self.begin_day_if_due()?;
         let most_ms = self.patience_ms();
         let now_ms = self.turns.wait(most_ms)?;
         self.log.look_at_clock();
@@ -312,6 +229,7 @@ where
         } else {
             self.follow(now_ms)?;
             self.tally.see(self.desk.follower().next(), now_ms);
+            self.look_for_a_day(now_ms);
         }
         self.serve(now_ms)?;
         self.watch(now_ms)?;
@@ -323,6 +241,7 @@ where
     // How long there is nothing to do unless something is ready.
     fn patience_ms(&self) -> u64 {
         if self.replay.is_some()
+            || self.is_scouting()
             || self.feed.is_busy()
             || self.clients.is_busy(&self.desk)
             || self.reception.is_busy()
@@ -344,6 +263,11 @@ where
             match token {
                 LISTENER => self.callers.note(),
                 FEED => self.feed.note(event),
+                SCOUT => {
+                    if let Some(scout) = &mut self.scout {
+                        scout.note(event);
+                    }
+                }
                 _ if token >= STATUS => {
                     if let Some(status) = &mut self.status {
                         status.note(token, event);
@@ -429,8 +353,17 @@ where
                 self.latest = self.latest.max(self.feed.market_ns());
                 return self.save(next, self.record.length(), now_ms);
             }
-            Step::Accepted(_) => self.begin_record()?,
-            Step::Ended => self.has_ended = self.feed.is_over(),
+            Step::Accepted(_) => {
+                self.scout = None;
+                self.begin_record()?;
+            }
+            Step::Ended => {
+                self.has_ended = self.feed.is_over();
+                self.begin_scouting();
+            }
+            Step::Rejected(b'S') | Step::OtherSession(_) if self.serving.has_days() => {
+                self.begin_scouting();
+            }
             Step::Rejected(code) => self.question(code)?,
             _ => {}
         }
@@ -454,7 +387,7 @@ where
 
     // Does what the clients have sent, and sends them what they are told. Once the feed has ended none is accepted, unless it stays.
     fn serve(&mut self, now_ms: u64) -> Result<(), LiveFault> {
-        if !self.is_closed() {
+        if !self.is_closed() && self.tomorrow.is_none() {
             self.reception.accept(
                 self.log.runtime(),
                 &mut self.callers,

@@ -62,6 +62,14 @@ impl<'a, R: Eprint> Log<'a, R> {
         })
     }
 
+    /// Another one, to the same streams.
+    pub(crate) fn another(&self) -> Result<Log<'a, R>, AllocError>
+    where
+        R: Net + Clock + AllocGlobal,
+    {
+        Log::new(self.rt, self.form)
+    }
+
     /// How many lines were lost.
     pub(crate) fn lost(&self) -> u64 {
         self.lost_before.saturating_add(self.lost)

@@ -43,8 +43,8 @@ pub fn is_another(session: &Alpha<10>, named: &Alpha<10>) -> bool
     name_of(session) != name_of(named)
 }
 
-// A session's name without the spaces at both ends.
-fn name_of(session: &Alpha<10>) -> &[u8]
+/// A session's name without the spaces at both ends.
+pub(crate) fn name_of(session: &Alpha<10>) -> &[u8]
     ensures { result.now ≡ session_name session.entry.now }
 {
     after_spaces(session.text().as_bytes())
@@ -89,8 +89,8 @@ where
     start.ask(address, &mut follower, MOST_MS)
 }
 
-// A follower that has no session yet.
-fn nameless_follower<B: OrderBook<Alloc = Global>>(
+/// A follower that has no session yet.
+pub(crate) fn nameless_follower<B: OrderBook<Alloc = Global>>(
     alloc: Global,
     credentials: &Credentials,
     joiner: Joiner<B>,

@@ -266,6 +266,11 @@ impl Reception {
         })
     }
 
+    /// Logins are to this session from now on.
+    pub(crate) fn begin(&mut self, session: Alpha<10>) {
+        self.session = session;
+    }
+
     /// How many connections there have been.
     pub(crate) fn connected(&self) -> u64 {
         self.connected
@@ -387,6 +392,17 @@ impl Reception {
                 self.put(place, Visitor::new(link, address, now_ms));
             }
             Err(_) => self.write_down(who, Departure::Fault),
+        }
+    }
+
+    /// Cuts off those whose login is right: it is to a session that is not served any more.
+    pub(crate) fn cut_off_ready(&mut self) {
+        for place in 0..self.end {
+            if let Some(Some(visitor)) = self.rooms.get(place)
+                && matches!(visitor.stage, Stage::Ready(_))
+            {
+                self.end(place, Departure::CutOff);
+            }
         }
     }
 

@@ -35,11 +35,20 @@ pub enum SyncTime {
     EveryMessage,
 }
 
+/// Where a live server records.
+#[derive(Clone, Copy, Debug, PartialEq, Eq)]
+pub enum RecordPlace<'a> {
+    /// In this day file, of one session.
+    File(&'a str),
+    /// In this folder, which has a day file for each session.
+    Folder(&'a str),
+}
+
 /// The record of a live server.
 #[derive(Clone, Copy, Debug, PartialEq, Eq)]
 pub struct RecordWords<'a> {
-    /// The day file that each message is appended to.
-    pub path: &'a str,
+    /// Where each message is appended to a day file.
+    pub place: RecordPlace<'a>,
     pub sync: SyncTime,
     /// Whether the server goes on without a record that cannot be written.
     pub is_optional: bool,
@@ -47,15 +56,17 @@ pub struct RecordWords<'a> {
 
 /// A record, or none.
 #[derive(Drop)]
-pub(crate) struct Record<'a> {
+pub(crate) struct Record {
     pub(crate) recording: Recording<File>,
-    kept: Option<Kept<'a>>,
+    kept: Option<Kept>,
 }
 
 // The file of a record.
 #[derive(Drop)]
-struct Kept<'a> {
-    words: RecordWords<'a>,
+struct Kept {
+    path: String,
+    sync: SyncTime,
+    is_optional: bool,
     // As it was opened, without what did not belong to it.
     opened: Seen,
     // The session of the messages that it has, where it has any, and whether the file beside it names that.
@@ -66,9 +77,9 @@ struct Kept<'a> {
     watched_ms: u64,
 }
 
-impl<'a> Record<'a> {
+impl Record {
     /// No record.
-    pub(crate) fn none() -> Record<'a> {
+    pub(crate) fn none() -> Record {
         Record {
             recording: Recording::Nowhere(Failures::none()),
             kept: None,
@@ -78,15 +89,16 @@ impl<'a> Record<'a> {
     /// Opens a record to append to, for this process alone. It has to be of this session, if one is named.
     pub(crate) fn open<R: Files<File = File> + AllocGlobal>(
         rt: &R,
-        words: RecordWords<'a>,
+        words: RecordWords<'_>,
+        path: String,
         named: Option<Alpha<10>>,
-    ) -> Result<Record<'a>, LiveFault> {
-        let file = open_alone(rt, words.path)?;
+    ) -> Result<Record, LiveFault> {
+        let file = open_alone(rt, path.as_str())?;
         let opened = seen(&file)?;
         let beside = if opened.length == 0 {
             None
         } else {
-            read_session(rt, words.path)?
+            read_session(rt, path.as_str())?
         };
         let session = session_of(opened.length, beside, named)?;
         let Ok(file) = BufWriter::with_capacity(rt.alloc(), PIECE, file) else {
@@ -98,7 +110,9 @@ impl<'a> Record<'a> {
             added: 0,
         };
         let kept = Some(Kept {
-            words,
+            path,
+            sync: words.sync,
+            is_optional: words.is_optional,
             opened,
             session,
             is_named: beside.is_some(),
@@ -116,7 +130,7 @@ impl<'a> Record<'a> {
     ) -> Result<Option<Replay>, LiveFault> {
         match &self.kept {
             Some(kept) if kept.opened.length > 0 => {
-                let file = open_again(rt, kept.words.path)?;
+                let file = open_again(rt, kept.path.as_str())?;
                 Ok(Some(Replay::after(rt.alloc(), file, mark)?))
             }
             _ => Ok(None),
@@ -146,9 +160,9 @@ impl<'a> Record<'a> {
     }
 
     /// Where it is, if there is one.
-    pub(crate) fn path(&self) -> Option<&'a str> {
+    pub(crate) fn path(&self) -> Option<&str> {
         match &self.kept {
-            Some(kept) => Some(kept.words.path),
+            Some(kept) => Some(kept.path.as_str()),
             None => None,
         }
     }
@@ -169,7 +183,7 @@ impl<'a> Record<'a> {
     /// Whether the server goes on without it where it cannot be written.
     pub(crate) fn is_optional(&self) -> bool {
         match &self.kept {
-            Some(kept) => kept.words.is_optional,
+            Some(kept) => kept.is_optional,
             None => true,
         }
     }
@@ -183,7 +197,7 @@ impl<'a> Record<'a> {
         if let Some(kept) = &mut self.kept
             && !kept.is_named
         {
-            write_session(rt, kept.words.path, &session)?;
+            write_session(rt, kept.path.as_str(), &session)?;
             kept.session = Some(session);
             kept.is_named = true;
         }
@@ -194,7 +208,7 @@ impl<'a> Record<'a> {
     pub(crate) fn flush(&mut self) -> io::Result<()> {
         self.recording.flush()?;
         match &self.kept {
-            Some(kept) if matches!(kept.words.sync, SyncTime::EveryMessage) => self.sync(),
+            Some(kept) if matches!(kept.sync, SyncTime::EveryMessage) => self.sync(),
             _ => Ok(()),
         }
     }
@@ -229,7 +243,7 @@ impl<'a> Record<'a> {
             length: kept.opened.length.saturating_add(added),
             ..kept.opened
         };
-        let found = match fs::metadata(rt, kept.words.path) {
+        let found = match fs::metadata(rt, kept.path.as_str()) {
             Ok(metadata) => Some(Seen::of(&metadata)),
             Err(error) if matches!(error.kind(), ErrorKind::NotFound) => None,
             Err(error) => return Err(RecordLoss::System(error)),
@@ -237,7 +251,7 @@ impl<'a> Record<'a> {
         if let Some(change) = change_of(written, found) {
             return Err(RecordLoss::Changed(change));
         }
-        if matches!(kept.words.sync, SyncTime::EverySecond)
+        if matches!(kept.sync, SyncTime::EverySecond)
             && let Err(error) = self.sync()
         {
             return Err(RecordLoss::System(error));
@@ -249,7 +263,7 @@ impl<'a> Record<'a> {
     pub(crate) fn finish(&mut self) -> io::Result<()> {
         self.recording.flush()?;
         match &self.kept {
-            Some(kept) if matches!(kept.words.sync, SyncTime::Never) => Ok(()),
+            Some(kept) if matches!(kept.sync, SyncTime::Never) => Ok(()),
             _ => self.sync(),
         }
     }

@@ -44,10 +44,12 @@ pub(crate) struct RecordPart<'a> {
 
 /// A folder that snapshots are written to, by this process alone.
 #[derive(Drop)]
-pub(crate) struct Saver<'a> {
-    words: SnapshotWords<'a>,
-    // It holds the lock.
-    _folder: File,
+pub(crate) struct Saver {
+    folder: String,
+    every: u64,
+    keep: Option<u64>,
+    // The open folder, which is locked.
+    _lock: File,
     // How many messages each snapshot of the folder has, the oldest one first.
     files: Vec<u64>,
     // How many messages the last one has, if one was written.
@@ -110,28 +112,31 @@ impl Event for Missed<'_> {
     }
 }
 
-impl<'a> Saver<'a> {
+impl Saver {
     /// Looks at the folder, locks it, and removes what was not written whole.
     pub(crate) fn open<R: Files<File = File> + AllocGlobal>(
         rt: &R,
-        words: SnapshotWords<'a>,
-    ) -> Result<Saver<'a>, LiveFault> {
-        let folder = match open_folder(rt, words.folder) {
-            Ok(folder) => folder,
+        words: SnapshotWords<'_>,
+        folder: String,
+    ) -> Result<Saver, LiveFault> {
+        let open = match open_folder(rt, folder.as_str()) {
+            Ok(open) => open,
             Err(error) => return Err(LiveFault::Session(folder_fault(error))),
         };
-        match folder.try_lock() {
+        match open.try_lock() {
             Ok(()) => {}
             Err(TryLockError::WouldBlock) => return Err(LiveFault::InUse(Owned::Snapshots)),
             Err(TryLockError::Error(error)) => return Err(LiveFault::Session(folder_fault(error))),
         }
-        let files = match clean(rt, words.folder) {
+        let files = match clean(rt, folder.as_str()) {
             Ok(files) => files,
             Err(error) => return Err(LiveFault::Session(folder_fault(error))),
         };
         Ok(Saver {
-            words,
-            _folder: folder,
+            folder,
+            every: words.every,
+            keep: words.keep,
+            _lock: open,
             files,
             saved: None,
             all_missed: 0,
@@ -146,7 +151,7 @@ impl<'a> Saver<'a> {
         rt: &R,
         messages: u64,
     ) -> Result<(), LiveFault> {
-        match keep_lines(rt, self.words.folder, |count| count <= messages) {
+        match keep_lines(rt, self.folder.as_str(), |count| count <= messages) {
             Ok(()) => Ok(()),
             Err(error) => Err(LiveFault::Session(folder_fault(error))),
         }
@@ -154,7 +159,7 @@ impl<'a> Saver<'a> {
 
     /// After how many messages each snapshot is written.
     pub(crate) fn every(&self) -> u64 {
-        self.words.every
+        self.every
     }
 
     /// How many messages the last snapshot has, if one was written, and how many were not written.
@@ -164,7 +169,7 @@ impl<'a> Saver<'a> {
 
     /// Whether a snapshot is wanted of the market before this number.
     pub(crate) fn wants(&self, next: u64) -> bool {
-        is_wanted(self.words.every, next)
+        is_wanted(self.every, next)
     }
 
     /// Writes the snapshot of the market before this number, and lists it as that of a part of the record, if there is one. One that
@@ -179,7 +184,7 @@ impl<'a> Saver<'a> {
         part: Option<RecordPart<'_>>,
     ) -> io::Result<()> {
         let rt = log.runtime();
-        let written = match save(rt, self.words.folder, market, next, recording) {
+        let written = match save(rt, self.folder.as_str(), market, next, recording) {
             Ok(()) => self.enter(rt, next.saturating_sub(1), part),
             Err(Unsaved::Record(error)) => return Err(error),
             Err(Unsaved::Snapshot(fault)) => Err(fault),
@@ -199,7 +204,7 @@ impl<'a> Saver<'a> {
         part: Option<RecordPart<'_>>,
     ) -> Result<(), SessionFault> {
         let entered = match part {
-            Some(part) => list_part(rt, self.words.folder, messages, part),
+            Some(part) => list_part(rt, self.folder.as_str(), messages, part),
             None => Ok(()),
         };
         if let Err(error) = entered {
@@ -217,14 +222,14 @@ impl<'a> Saver<'a> {
 
     // Removes the oldest snapshots until no more are left than are kept.
     fn remove_oldest<R: Files<File = File> + AllocGlobal>(&mut self, rt: &R) -> io::Result<()> {
-        let Some(keep) = self.words.keep else {
+        let Some(keep) = self.keep else {
             return Ok(());
         };
         let keep = usize::try_from(keep).unwrap_or(usize::MAX);
         while self.files.len() > keep {
             let oldest = self.files.remove(0);
-            keep_lines(rt, self.words.folder, |count| count != oldest)?;
-            remove(rt, self.words.folder, oldest)?;
+            keep_lines(rt, self.folder.as_str(), |count| count != oldest)?;
+            remove(rt, self.folder.as_str(), oldest)?;
         }
         Ok(())
     }
@@ -246,7 +251,7 @@ impl<'a> Saver<'a> {
         if is_due {
             log.say(&Missed {
                 count: self.missed,
-                folder: self.words.folder,
+                folder: self.folder.as_str(),
                 messages: next.saturating_sub(1),
                 fault,
             });

@@ -356,6 +356,11 @@ pub const COMMANDS: [Entry; 16] = [
                 value: Value::Text("WHEN"),
                 help: "Sync the record to disk: no, second or message [default: second]",
             },
+            Argument::Optional {
+                long: "records",
+                value: Value::Path("DIR"),
+                help: "Record each session of the feed in a day file of its own in a folder",
+            },
             Argument::Flag {
                 long: "record-optional",
                 help: "Continue without the record if it cannot be written",

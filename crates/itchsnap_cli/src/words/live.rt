@@ -10,7 +10,7 @@ use crate::words::size::read_size;
 use clap::{ArgMatches, Error};
 use itch_codec::Alpha;
 use itchsnap_live::{
-    Feeds, FollowForm, LogForm, Pace, Place, Ready, RecordWords, SnapshotWords, SyncTime,
+    Feeds, FollowForm, LogForm, Pace, Place, Ready, RecordPlace, RecordWords, SnapshotWords, SyncTime,
 };
 use std::alloc::Global;
 use std::net::SocketAddr;
@@ -153,18 +153,25 @@ fn read_record<'a>(
 ) -> Result<Option<RecordWords<'a>>, Error> {
     let sync = read_sync(alloc, options)?;
     let is_optional = options.get_flag("record-optional");
-    match options.get_str("record") {
-        Some(path) => Ok(Some(RecordWords {
-            path,
-            sync: sync.unwrap_or(SyncTime::EverySecond),
-            is_optional,
-        })),
-        None if sync.is_some() || is_optional => Err(usage_fault(
-            alloc,
-            "--sync and --record-optional go with --record",
-        )?),
-        None => Ok(None),
-    }
+    let place = match (options.get_str("record"), options.get_str("records")) {
+        (Some(path), None) => RecordPlace::File(path),
+        (None, Some(folder)) => RecordPlace::Folder(folder),
+        (Some(_), Some(_)) => {
+            return Err(usage_fault(alloc, "--record and --records exclude each other")?);
+        }
+        (None, None) if sync.is_some() || is_optional => {
+            return Err(usage_fault(
+                alloc,
+                "--sync and --record-optional go with --record or --records",
+            )?);
+        }
+        (None, None) => return Ok(None),
+    };
+    Ok(Some(RecordWords {
+        place,
+        sync: sync.unwrap_or(SyncTime::EverySecond),
+        is_optional,
+    }))
 }
 
 fn read_sync<'a>(alloc: Global, options: &ArgMatches<'a>) -> Result<Option<SyncTime>, Error> {

@@ -83,16 +83,16 @@ where
         }
         self.spare.release();
         let latest = self.latest;
-        let part = match self.record.path() {
-            Some(path) => Some(RecordPart {
-                path,
-                offset,
-                latest,
-            }),
-            None => None,
-        };
         let saved = match (&mut self.saver, self.desk.follower().market()) {
             (Some(saver), Some(market)) => {
+                let part = match &self.paths.record {
+                    Some(path) if self.record.path().is_some() => Some(RecordPart {
+                        path: path.as_str(),
+                        offset,
+                        latest,
+                    }),
+                    _ => None,
+                };
                 let recording = &mut self.record.recording;
                 saver.save(&mut self.log, market, next, now_ms, recording, part)
             }

@@ -1,0 +1,125 @@
+//! The files of a session of the feed: one day of it.
+ghost use Rattle.std.specs.Prelude.{◌≡◌, ◌+◌, ◌*◌, ◌≤◌, ◌++◌, length};
+ghost use Rattle.std.specs.List.{flat_map};
+ghost use Rattle.arrayvec.specs.ArrayVec.{array_vec_len};
+ghost use Rattle.itchsnap_live.specs.DayFiles.{file_character, file_stem};
+
+use crate::live::Serving;
+use crate::log::entry::{Event, Level, write_text};
+use crate::log::form::LogForm;
+use crate::question::name_of;
+use crate::record::RecordPlace;
+use arrayvec::ArrayVec;
+use itch_codec::Alpha;
+use std::alloc::{AllocError, Global};
+use std::fmt::{self, Display, Formatter};
+use std::fs;
+use std::io::{self, ErrorKind};
+use std::rt::Files;
+use std::str;
+
+/// The paths of a day's record and of its folder of snapshots, where there are any.
+#[derive(Debug, Drop)]
+pub struct DayPaths {
+    pub record: Option<String>,
+    pub snapshots: Option<String>,
+}
+
+impl DayPaths {
+    /// No files.
+    pub(crate) fn none() -> DayPaths {
+        DayPaths {
+            record: None,
+            snapshots: None,
+        }
+    }
+
+    /// Those of a session: where each session has files of its own, these are named after it.
+    pub(crate) fn of(
+        alloc: Global,
+        serving: &Serving<'_>,
+        session: &Alpha<10>,
+    ) -> Result<DayPaths, AllocError> {
+        let stem = stem_of(session);
+        let stem = str::from_utf8(stem.as_slice()).unwrap_or("");
+        let record = match serving.place() {
+            Some(RecordPlace::File(path)) => Some(String::from_str(alloc, path)?),
+            Some(RecordPlace::Folder(folder)) => Some(format!(in alloc; "{folder}/{stem}.itch")?),
+            None => None,
+        };
+        let snapshots = match serving.snapshots {
+            Some(words) if serving.has_days() => {
+                let folder = words.folder;
+                Some(format!(in alloc; "{folder}/{stem}")?)
+            }
+            Some(words) => Some(String::from_str(alloc, words.folder)?),
+            None => None,
+        };
+        Ok(DayPaths { record, snapshots })
+    }
+}
+
+/// Makes a folder, unless it is there.
+pub(crate) fn make_folder<R: Files>(rt: &R, path: &str) -> io::Result<()> {
+    match fs::create_dir(rt, path) {
+        Err(error) if matches!(error.kind(), ErrorKind::AlreadyExists) => Ok(()),
+        made => made,
+    }
+}
+
+/// The name of a session's files, without their endings: its letters, digits, `-` and `_`, and any other byte as % and two hexadecimal
+/// digits. Names of different sessions are different.
+pub fn stem_of(session: &Alpha<10>) -> ArrayVec<u8, 30>
+    ensures { result.items ≡ file_stem session.now }
+{
+    let mut stem = ArrayVec::new();
+    push_name(&mut stem, name_of(session));
+    stem
+}
+
+fn push_name(stem: &mut ArrayVec<u8, 30>, name: &[u8]) {
+    for &byte in name {
+        if byte.is_ascii_alphanumeric() || byte == b'-' || byte == b'_' {
+            let _ = stem.try_push(byte);
+        } else {
+            let _ = stem.try_extend_from_slice(&[b'%', digit(byte / 16), digit(byte % 16)]);
+        }
+    }
+}
+
+fn digit(value: u8) -> u8 {
+    if value < 10 {
+        b'0' + value
+    } else {
+        b'A' - 10 + value % 16
+    }
+}
+
+/// A day begins: its session, and where it is recorded.
+#[derive(Drop)]
+pub(crate) struct DayBegun<'a> {
+    pub session: Alpha<10>,
+    pub record: &'a str,
+}
+
+impl Display for DayBegun<'_> {
+    fn fmt<W: fmt::Write>(&self, f: &mut Formatter<W>) -> fmt::Result {
+        let (session, record) = (self.session.text().trim(), self.record);
+        write!(f, "session: {session}, recorded in {record}")
+    }
+}
+
+impl Event for DayBegun<'_> {
+    fn level(&self) -> Level {
+        Level::Info
+    }
+
+    fn name(&self) -> &'static str {
+        "session_begun"
+    }
+
+    fn write_fields<W: fmt::Write>(&self, f: &mut Formatter<W>, form: LogForm) -> fmt::Result {
+        write_text(f, form, "session", self.session.text().trim())?;
+        write_text(f, form, "record", self.record)
+    }
+}
