@@ -228,7 +228,7 @@ impl<'a> SessionNames<'a> {
     pub fn of_live(words: &LiveWords<'a>) -> Self {
         SessionNames {
             peer: Name::Address(words.address),
-            day_file: words.record.map(|record| record.path),
+            day_file: words.record.map(|record| record.place.path()),
             folder: words.snapshots.map(|snapshots| snapshots.folder),
             output: None,
         }

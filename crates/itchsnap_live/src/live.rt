@@ -14,9 +14,6 @@ use crate::feed_side::{FeedSide, SHARE};
 use crate::log::Log;
 use crate::log::form::LogForm;
 use crate::logins::Logins;
-use crate::opened::{
-    Begun, follower_of, listen, named_desk, open_folder, open_record, open_status,
-};
 use crate::places::Place;
 use crate::question::{agreed, ask_session, asks_session};
 use crate::ready::{Ready, is_caught_up};

@@ -44,6 +44,15 @@ pub enum RecordPlace<'a> {
     Folder(&'a str),
 }
 
+impl<'a> RecordPlace<'a> {
+    /// As it was named: the day file or the folder.
+    pub fn path(self) -> &'a str {
+        match self {
+            RecordPlace::File(path) | RecordPlace::Folder(path) => path,
+        }
+    }
+}
+
 /// The record of a live server.
 #[derive(Clone, Copy, Debug, PartialEq, Eq)]
 pub struct RecordWords<'a> {
