@@ -43,7 +43,7 @@ page_at path =
     else (if bytes_eq path (codes "/status.txt") then Some Lines else None)))))
 
 -- the page that a target names
-abbrev pub page_of : List ℕ → Option Page
+unfoldable pub page_of : List ℕ → Option Page
 page_of target = page_at (path_of target)
 
 -- a page with a body or without one, if there is a page

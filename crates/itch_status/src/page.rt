@@ -20,6 +20,7 @@ pub enum Page {
 }
 
 /// The page that a request's target names, in origin form or in absolute form, whatever query follows its path.
+#[tactic(auto, unfolding(crate::specs::Pages::page_of))]
 pub fn page_of(target: &[u8]) -> Option<Page>
     ensures { result ≡ page_of target.now }
 {
