@@ -1,4 +1,4 @@
-"""The files of `deploy/`, and the page docs/OPERATING.md: what systemd and Prometheus make of them, and that the program has what they name.
+"""The files of `deploy/` under systemd's and Prometheus's own checks, the commands of the unit, and each figure, log line and exit code in docs/OPERATING.md.
 
 RUNS has a function for each run, named for what it shows; it is given the program, and yields what differs.
 """
