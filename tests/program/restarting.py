@@ -15,6 +15,7 @@ from living import (BEAT, ENDED, LOGIN, PATIENCE, SESSION, Feed, acceptance, ans
 COUNT, EVERY = 5_000, 1_000
 DAY, WHOLE = day_of(COUNT)
 BLOCKS = split(DAY)
+ENDING = f"feed: ended at {len(BLOCKS) + 1}\n"
 
 
 def named(folder, count, name="snapshots"):
@@ -69,14 +70,16 @@ def a_restart_begins_with_the_newest_snapshot(program):
         yield from snapshots_differ(program, folder, 1_000, 2_000, 3_000)
         said, asked = runs(program, folder)
         newest = f"record: replayed from {folder}/snapshots/3000.snap on\n"
-        yield from differs("said", said, [newest, "feed: accepted from 3501\n", f"feed: ended at {COUNT + 1}\n"])
+        yield from differs("said", said, [newest, "feed: accepted from 3501\n", ENDING])
         yield from differs("asked", asked, [3_501])
         yield from differs("the record", (folder / "record").read_bytes(), DAY)
         every = range(EVERY, COUNT + 1, EVERY)
         yield from snapshots_differ(program, folder, *every)
         (folder / "made").mkdir()
         ended_in(folder, program, "snap", "record", "--every", str(EVERY), "--to", "made")
-        yield from differs("the index", (folder / "snapshots/index.jsonl").read_text(), (folder / "made/index.jsonl").read_text())
+        # `snap` takes one at the end too.
+        made = (folder / "made/index.jsonl").read_text().splitlines()[:-1]
+        yield from differs("the index", (folder / "snapshots/index.jsonl").read_text().splitlines(), made)
         for point in (999, 1_000, 2_345, COUNT):
             got = ended_in(folder, program, "at", "snapshots", "record", str(point))
             yield from differs(f"at {point}", got, (0, snapshot_after(program, DAY, point), b""))
@@ -173,7 +176,7 @@ def a_folder_without_a_record_has_no_index(program):
     with folder_with() as folder:
         runs(program, folder, until=3_500)
         with Feed(plays(DAY, then=ENDED)) as feed, live(program, feed.port, "--snapshots", folder / "snapshots", "--every", "2500") as server:
-            yield from differs("said", server.ended()[2], ["feed: accepted from 1\n", f"feed: ended at {COUNT + 1}\n"])
+            yield from differs("said", server.ended()[2], ["feed: accepted from 1\n", ENDING])
         yield from differs("index", (folder / "snapshots/index.jsonl").read_text(), "")
 
 
@@ -186,7 +189,7 @@ def missing_snapshots_are_written_during_the_replay(program):
         for name in ("1000.snap.part", "index.jsonl.part", "x.snap.part", "notes.part"):
             (folder / "snapshots" / name).write_bytes(b"\0\x15G")
         said, _ = runs(program, folder)
-        yield from differs("said", said, ["feed: accepted from 3501\n", f"feed: ended at {COUNT + 1}\n"])
+        yield from differs("said", said, ["feed: accepted from 3501\n", ENDING])
         for name in ("x.snap.part", "notes.part"):
             (folder / "snapshots" / name).unlink()
         yield from snapshots_differ(program, folder, *range(EVERY, COUNT + 1, EVERY))

@@ -8,6 +8,7 @@ import json
 import re
 import shutil
 import socket
+import struct
 import subprocess
 import threading
 import time
@@ -202,6 +203,8 @@ def requests_that_are_refused(program):
     many = b"GET / HTTP/1.1\r\n" + b"X: a\r\n" * 65 + b"\r\n"
     just = b"GET /healthz HTTP/1.1\r\nX: " + b"a" * (8192 - 30) + b"\r\n\r\n"
     cases = {"unknown": (b"GET /x HTTP/1.1\r\n\r\n", "404 Not Found"), "path": (b"GET /metrics/ HTTP/1.1\r\n\r\n", "404 Not Found"),
+             "absolute": (b"GET http://a:9100/metrics HTTP/1.1\r\nHost: a:9100\r\n\r\n", "200 OK"), "host": (b"GET HTTP://a HTTP/1.1\r\n\r\n", "200 OK"),
+             "its path": (b"GET http://a/x HTTP/1.1\r\n\r\n", "404 Not Found"), "scheme": (b"GET ftp://a/ HTTP/1.1\r\n\r\n", "404 Not Found"),
              "post": (b"POST /metrics HTTP/1.1\r\nContent-Length: 3\r\n\r\nabc", "405 Method Not Allowed"),
              "delete": (b"DELETE / HTTP/1.1\r\n\r\n", "405 Method Not Allowed"), "get": (b"get / HTTP/1.1\r\n\r\n", "405 Method Not Allowed"),
              "garbage": (b"\x16\x03\x01\x02\x00\x01\x00\x01\xfc\x03\x03", "400 Bad Request"), "version": (b"GET / HTTP/2.0\r\n\r\n", "400 Bad Request"),
@@ -350,6 +353,7 @@ def watched_log(program, feed, form):
     with Running(program, *words, listens=False) as server:
         line = waits_for(lambda: next((it for it in server.lines if "listening" in it), None))
         server.port = int(re.search(r":(\d+)\"", line.split("127.0.0.1", 1)[1])[1])
+        server.status = int(re.search(r":(\d+)\"", server.lines[0])[1])
         yield server
 
 
@@ -373,6 +377,43 @@ def log_differs(form, got, output, next_number):
         yield f"{form}: served: {served}"
 
 
+def resets(day, at):
+    """A script: the first messages, and a reset when the moment has come."""
+    def script(peer, login):
+        plays(day, until=5)(peer, login)
+        at.wait(PATIENCE)
+        peer.setsockopt(socket.SOL_SOCKET, socket.SO_LINGER, struct.pack("ii", 1, 0))
+
+    return script
+
+
+def causes_of_a_lost_feed(program):
+    """A log says each of them when it changes, and once; without --log the loss alone is said, and what the server answers."""
+    day, _ = day_of(20)
+    rejects = sends(b"\0\x02JS")
+    causes = ["reset", "rejected S", "in another session", "closed by the server", "refused"]
+    plain = ["feed: accepted from 1\n", "feed: lost at 6\n", "feed: rejected S\n", "feed: in session DAY2, not in ITCHSNAP\n", "feed: accepted from 6\n"]
+    for form in ("json", "plain"):
+        moment = threading.Event()
+        with contextlib.ExitStack() as held:
+            with Feed(resets(day, moment), rejects, rejects, plays(day, session=b"DAY2"), sends(b"")) as feed:
+                server = held.enter_context(watched_log(program, feed.port, form) if form == "json" else watched(program, feed.port))
+                waits_for(lambda: figures(server)["next_message"] == 6)
+                moment.set()
+                waits_for(lambda: figures(server)["feed_cause"] == "closed by the server")
+            waits_for(lambda: figures(server)["feed_cause"] == "refused")
+            losses = figures(server)["feed_losses_total"]
+            waits_for(lambda: figures(server)["feed_losses_total"] > losses)
+            with Feed(plays(day, wait=threading.Event()), port=feed.port):
+                waits_for(lambda: figures(server)["feed_state"] == "following")
+                lines = server.lines[2:]
+        if form == "plain":
+            yield from differs(form, lines, plain)
+        else:
+            got = [(event, fields.get("cause")) for _, _, event, fields in entries(lines, form)]
+            yield from differs(form, got, [("feed_accepted", None), *(("feed_lost", it) for it in causes), ("feed_accepted", None)])
+
+
 RUNS = [
     each_page_of_the_status,
     metrics_that_prometheus_takes,
@@ -382,6 +423,7 @@ RUNS = [
     connections_that_say_nothing,
     a_scraper_that_reads_nothing,
     the_state_of_a_feed,
+    causes_of_a_lost_feed,
     a_status_port_that_cannot_be_had,
     lines_of_a_log,
 ]

@@ -40,7 +40,10 @@ pub fn nearest<R: BufRead + Drop>(alloc: Global, index: R, point: Limit) -> io::
     let mut reader = IndexReader::new(alloc, index);
     let mut nearest = Checkpoint::beginning();
     let mut mark = Mark::new();
-    while let Some(checkpoint) = reader.next()? {
+    for _ in 0..u64::MAX {
+        let Some(checkpoint) = reader.next()? else {
+            break;
+        };
         if let Some(found) = checkpoint.mark(point)
             && found.is_nearer(&mark, point)
         {

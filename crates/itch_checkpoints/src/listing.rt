@@ -29,15 +29,23 @@ pub fn index_line<A: Allocator>(
 fn push_mark<A: Allocator>(line: &mut Vec<u8, A>, mark: Mark) -> Result<(), AllocError>
     ensures { OnOk result (line.new.items ≡ line.old.items ++ mark_part mark) }
 {
-    line.extend_from_slice(b"{\"messages\":")?;
-    push_number(line, mark.count)?;
-    line.extend_from_slice(b",\"offset\":")?;
-    push_number(line, mark.offset)?;
+    push_field(line, b"{\"messages\":", mark.count)?;
+    push_field(line, b",\"offset\":", mark.offset)?;
     line.extend_from_slice(b",\"timestamp\":")?;
     push_or_null(line, mark.latest)?;
-    line.extend_from_slice(b",\"file\":\"")?;
-    push_number(line, mark.count)?;
+    push_field(line, b",\"file\":\"", mark.count)?;
     line.extend_from_slice(b".snap\"")
+}
+
+fn push_field<A: Allocator>(
+    line: &mut Vec<u8, A>,
+    name: &[u8],
+    number: u64,
+) -> Result<(), AllocError>
+    ensures { OnOk result (line.new.items ≡ line.old.items ++ name.now ++ decimal number) }
+{
+    line.extend_from_slice(name)?;
+    push_number(line, number)
 }
 
 fn push_number<A: Allocator>(line: &mut Vec<u8, A>, number: u64) -> Result<(), AllocError>

@@ -1,5 +1,6 @@
 -- The pages of the status port, and the request that each is for.
-use Rattle.std.specs.Prelude.{ℕ, ◌==◌, Bool, true, false, List, [], ◌∷◌, Option, None, Some, bytes_eq, codes, if◌then◌else◌}
+use Rattle.std.specs.Prelude.{ℕ, ◌==◌, ◌||◌, ◌&&◌, nat_le, Bool, true, false, List, [], ◌∷◌, length, take, drop, Option, None, Some, bytes_eq, codes, if◌then◌else◌}
+use Rattle.std.specs.Str.{str_eq_ignore_ascii_case}
 use Rattle.httparse.specs.Grammar.{RequestHead}
 use Rattle.itch_status.specs.declared.page.Page.{Page}
 use Rattle.itch_status.specs.declared.page.Page.TheVariants.{People, Metrics, Health, Ready, Status, Lines}
@@ -13,6 +14,24 @@ abbrev pub before_query : List ℕ → List ℕ
 before_query [] = []
 before_query (byte ∷ bytes) = if byte == 63 then [] else byte ∷ before_query bytes
 
+-- whether a target is in absolute form, as `http://host:8080/metrics`: it begins with the scheme, in letters of either case
+abbrev pub is_absolute : List ℕ → Bool
+is_absolute target = nat_le 7 (length target) && str_eq_ignore_ascii_case (take 7 target) (codes "http://")
+
+-- what follows a host and its port: it begins with the `/` of the path, or with the `?` of the query
+abbrev pub after_host : List ℕ → List ℕ
+after_host [] = []
+after_host (byte ∷ bytes) = if byte == 47 || byte == 63 then byte ∷ bytes else after_host bytes
+
+-- an empty path is `/`
+abbrev pub or_root : List ℕ → List ℕ
+or_root [] = codes "/"
+or_root (byte ∷ bytes) = byte ∷ bytes
+
+-- the path of a target in either form
+abbrev pub path_of : List ℕ → List ℕ
+path_of target = if is_absolute target then or_root (before_query (after_host (drop 7 target))) else before_query target
+
 -- the page of a path
 abbrev pub page_at : List ℕ → Option Page
 page_at path =
@@ -24,8 +43,8 @@ page_at path =
     else (if bytes_eq path (codes "/status.txt") then Some Lines else None)))))
 
 -- the page that a target names
-abbrev pub page_of : List ℕ → Option Page
-page_of target = page_at (before_query target)
+unfoldable pub page_of : List ℕ → Option Page
+page_of target = page_at (path_of target)
 
 -- a page with a body or without one, if there is a page
 abbrev pub page_answer : Bool → Option Page → Answer

@@ -1,6 +1,6 @@
 //! The pages of the status port.
-ghost use Rattle.std.specs.Prelude.{◌≡◌};
-ghost use Rattle.itch_status.specs.Pages.{before_query, page_of};
+ghost use Rattle.std.specs.Prelude.{◌≡◌, ◌≤◌, IsTrue, length};
+ghost use Rattle.itch_status.specs.Pages.{after_host, before_query, is_absolute, or_root, page_of, path_of};
 
 /// A page.
 #[derive(Clone, Copy, Debug, PartialEq, Eq)]
@@ -19,11 +19,12 @@ pub enum Page {
     Lines,
 }
 
-/// The page that a request's target names, whatever query follows its path.
+/// The page that a request's target names, in origin form or in absolute form, whatever query follows its path.
+#[tactic(auto, unfolding(crate::specs::Pages::page_of))]
 pub fn page_of(target: &[u8]) -> Option<Page>
     ensures { result ≡ page_of target.now }
 {
-    let path = before_query(target);
+    let path = path_of(target);
     if path == b"/".as_slice() {
         Some(Page::People)
     } else if path == b"/metrics".as_slice() {
@@ -39,6 +40,46 @@ pub fn page_of(target: &[u8]) -> Option<Page>
     } else {
         None
     }
+}
+
+// The path of a target.
+fn path_of(target: &[u8]) -> &[u8]
+    ensures { result.now ≡ path_of target.now }
+{
+    if is_absolute(target) {
+        or_root(before_query(after_host(&target[SCHEME.len()..])))
+    } else {
+        before_query(target)
+    }
+}
+
+const SCHEME: &[u8; 7] = b"http://";
+
+// Whether a target begins with the scheme and a host.
+fn is_absolute(target: &[u8]) -> bool
+    ensures absolute { result ≡ is_absolute target.now }
+    ensures long { IsTrue result → 7 ≤ length target.now }
+{
+    target.len() >= SCHEME.len() && target[..SCHEME.len()].eq_ignore_ascii_case(SCHEME)
+}
+
+// What follows a host.
+fn after_host(target: &[u8]) -> &[u8]
+    ensures { result.now ≡ after_host target.now }
+{
+    for (at, &byte) in target.iter().enumerate() {
+        if byte == b'/' || byte == b'?' {
+            return &target[at..];
+        }
+    }
+    b""
+}
+
+// A path, or that of the page for people where it is empty.
+fn or_root(path: &[u8]) -> &[u8]
+    ensures { result.now ≡ or_root path.now }
+{
+    if path.is_empty() { b"/" } else { path }
 }
 
 // The part of a target before its query.

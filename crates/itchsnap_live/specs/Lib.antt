@@ -5,6 +5,7 @@ pub mod FeedLines
 pub mod LiveFaults
 pub mod LoginFiles
 pub mod Logins
+pub mod Losses
 pub mod Openings
 pub mod Outputs
 pub mod Paces

@@ -157,14 +157,14 @@ impl Clients {
         } = arrival;
         let mut link = link;
         let Ok(Some(place)) = desk.admit(config, now_ms) else {
-            return reception.write_down(link.who(), Departure::Fault);
+            return reception.write_down(&link.who(), Departure::Fault);
         };
         if link
             .move_to(registry, place.saturating_add(self.first_token))
             .is_err()
         {
             desk.leave(place);
-            return reception.write_down(link.who(), Departure::Fault);
+            return reception.write_down(&link.who(), Departure::Fault);
         }
         hand_on(desk, place, words.as_slice(), now_ms);
         self.set(place, Some(ClientSide::new(link)));
@@ -306,7 +306,7 @@ impl Clients {
                 let had_none = client.has_none();
                 let sent = client.tell(desk, place, now_ms);
                 if had_none && !client.has_none() {
-                    reception.happens(client.who(), Happening::FirstByte);
+                    reception.happens(&client.who(), Happening::FirstByte);
                 }
                 self.sent = self.sent.saturating_add(sent);
             }
@@ -386,7 +386,7 @@ impl Clients {
         desk: &mut Desk<B>,
     ) {
         if let Some(Some(client)) = self.seats.get(place) {
-            reception.write_down(client.who(), departure);
+            reception.write_down(&client.who(), departure);
         }
         self.set(place, None);
         self.seated.set(place, None);

@@ -1,4 +1,6 @@
 //! What has become of the feed, in a line.
+ghost use Rattle.std.specs.Prelude.{◌≡◌};
+ghost use Rattle.itchsnap_live.specs.Losses.{trouble_cause};
 
 use crate::cause::cause_of_code;
 use crate::log::entry::{Event, Level, write_letter, write_number, write_text};
@@ -166,17 +168,22 @@ pub(crate) enum Trouble {
     Gap { next: u64, begins: u64 },
     /// Memory was refused for the message of this number.
     NoMemory(u64),
+    /// The connection ended, or was not made, for this cause, which entries of a log have.
+    Cut(Cause),
 }
 
 impl Trouble {
     /// The same as a cause of the status.
-    pub(crate) fn cause(&self) -> Cause {
+    pub(crate) fn cause(&self) -> Cause
+        ensures { result ≡ trouble_cause self.now }
+    {
         match self {
             Trouble::GlimpseUnknown | Trouble::Unknown => Cause::NotFound,
             Trouble::GlimpseRejected(code) | Trouble::Rejected(code) => cause_of_code(*code),
             Trouble::OtherSession(..) => Cause::OtherSession,
             Trouble::Gap { .. } => Cause::Gap,
             Trouble::NoMemory(_) => Cause::NoMemory,
+            Trouble::Cut(cause) => *cause,
         }
     }
 
@@ -201,7 +208,7 @@ impl Event for Trouble {
     fn write_fields<W: fmt::Write>(&self, f: &mut Formatter<W>, form: LogForm) -> fmt::Result {
         write_text(f, form, "cause", self.cause().words())?;
         match self {
-            Trouble::GlimpseUnknown | Trouble::Unknown => Ok(()),
+            Trouble::GlimpseUnknown | Trouble::Unknown | Trouble::Cut(_) => Ok(()),
             Trouble::GlimpseRejected(code) | Trouble::Rejected(code) => {
                 write_letter(f, form, "code", *code)
             }
@@ -242,6 +249,10 @@ impl Display for Trouble {
                 )
             }
             Trouble::NoMemory(next) => write!(f, "feed: out of memory at {next}"),
+            Trouble::Cut(cause) => {
+                let words = cause.words();
+                write!(f, "feed: {words}")
+            }
         }
     }
 }

@@ -211,7 +211,7 @@ impl<'a> FeedSide<'a> {
         }
     }
 
-    // Drops the connection for a reason that is known to the status alone.
+    // Drops the connection for a cause that the status has, and an entry of the log.
     fn break_off<R: Eprint, B: OrderBook>(
         &mut self,
         log: &mut Log<'_, R>,
@@ -220,11 +220,16 @@ impl<'a> FeedSide<'a> {
         now_ms: u64,
     ) {
         self.cause = Some(cause);
-        self.lose(log, follower, None, now_ms);
+        let why = if log.has_causes() {
+            Some(Trouble::Cut(cause))
+        } else {
+            None
+        };
+        self.lose(log, follower, why, now_ms);
     }
 
-    // Drops the connection, to make another one. It is said once that the server is lost, until it accepts a login; what more is known is
-    // said where it changes.
+    // Drops the connection, to make another one. It is said once that the server is lost, until it accepts a login; what more is known of a
+    // server is said where it changes.
     fn lose<R: Eprint, B: OrderBook>(
         &mut self,
         log: &mut Log<'_, R>,
@@ -248,9 +253,13 @@ impl<'a> FeedSide<'a> {
             return;
         }
         match (why, next) {
+            (None | Some(Trouble::Cut(_)), Some(next)) => {
+                log.say(&self.loss(FeedLine::Lost(next), lost));
+            }
+            (None | Some(Trouble::Cut(_)), None) => {
+                log.say(&self.loss(FeedLine::GlimpseLost, lost));
+            }
             (Some(line), _) => log.say(&Named { line, name }),
-            (None, Some(next)) => log.say(&self.loss(FeedLine::Lost(next), lost)),
-            (None, None) => log.say(&self.loss(FeedLine::GlimpseLost, lost)),
         }
         if let Some(trouble) = self.troubles.get_mut(server) {
             *trouble = why;
@@ -412,10 +421,10 @@ impl<'a> FeedSide<'a> {
             Step::Ended => self.end(log, follower, now_ms),
             Step::Rejected(code) => self.reject(log, follower, code, now_ms)?,
             Step::OtherSession(named) => self.refuse(log, follower, named, now_ms)?,
-            Step::NoMemory => {
-                let line = follower.next().map(Trouble::NoMemory);
-                self.lose(log, follower, line, now_ms);
-            }
+            Step::NoMemory => match follower.next() {
+                Some(next) => self.lose(log, follower, Some(Trouble::NoMemory(next)), now_ms),
+                None => self.break_off(log, follower, Cause::NoMemory, now_ms),
+            },
             Step::Lost => self.break_off(log, follower, Cause::Broken, now_ms),
         }
         Ok(())

@@ -75,6 +75,11 @@ impl<'a, R: Eprint> Log<'a, R> {
         self.lost_before.saturating_add(self.lost)
     }
 
+    /// Whether its lines have the cause of a loss.
+    pub(crate) fn has_causes(&self) -> bool {
+        !matches!(self.form, LogForm::Plain)
+    }
+
     /// What it writes with.
     pub(crate) fn runtime(&self) -> &'a R {
         self.rt

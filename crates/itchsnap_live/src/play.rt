@@ -209,7 +209,7 @@ where
             let who = arrival.link.who();
             match self.seat_one(arrival, place, now_ms) {
                 Ok(client) => self.set(place, Some(client)),
-                Err(_) => self.reception.write_down(who, Departure::Fault),
+                Err(_) => self.reception.write_down(&who, Departure::Fault),
             }
         }
     }
@@ -262,7 +262,7 @@ where
         for place in 0..self.clients.len() {
             if let Some((who, departure)) = self.departure(place) {
                 self.set(place, None);
-                self.reception.write_down(who, departure);
+                self.reception.write_down(&who, departure);
             }
         }
     }

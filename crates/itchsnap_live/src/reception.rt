@@ -385,13 +385,13 @@ impl Reception {
         self.connected = self.connected.saturating_add(1);
         let token = place.saturating_add(self.first_token);
         let who = Who::new(self.connected, address, now_ms);
-        self.happens(who, Happening::Connected);
+        self.happens(&who, Happening::Connected);
         match Socket::register(registry, stream, token, true) {
             Ok(socket) => {
                 let link = Link::new(socket, who);
                 self.put(place, Visitor::new(link, address, now_ms));
             }
-            Err(_) => self.write_down(who, Departure::Fault),
+            Err(_) => self.write_down(&who, Departure::Fault),
         }
     }
 
@@ -426,18 +426,18 @@ impl Reception {
     // Closes a connection, which has ended so.
     fn end(&mut self, place: usize, departure: Departure) {
         if let Some(visitor) = self.take(place) {
-            self.write_down(visitor.link.who(), departure);
+            self.write_down(&visitor.link.who(), departure);
         }
     }
 
     /// Takes note of how a connection has ended, for its line.
-    pub(crate) fn write_down(&mut self, who: Who, departure: Departure) {
+    pub(crate) fn write_down(&mut self, who: &Who, departure: Departure) {
         self.happens(who, Happening::Ended(departure));
     }
 
     /// Takes note of what has become of a connection.
-    pub(crate) fn happens(&mut self, who: Who, happening: Happening) {
-        let _ = self.happened.push((who, happening));
+    pub(crate) fn happens(&mut self, who: &Who, happening: Happening) {
+        let _ = self.happened.push((*who, happening));
     }
 
     /// Takes note of a connection whose client is told no more: it is closed once the client closes it.
@@ -451,14 +451,14 @@ impl Reception {
     ) {
         let who = link.who();
         let Some(place) = self.free_room() else {
-            return self.write_down(who, departure);
+            return self.write_down(&who, departure);
         };
         let mut link = link;
         if link
             .move_to(registry, place.saturating_add(self.first_token))
             .is_err()
         {
-            return self.write_down(who, departure);
+            return self.write_down(&who, departure);
         }
         let mut visitor = Visitor::new(link, address, now_ms);
         visitor.stage = Stage::Over(departure);
@@ -491,7 +491,7 @@ impl Reception {
         let has_logged_in = was_opening && matches!(visitor.stage, Stage::Ready(_));
         let departure = visitor.departure(now_ms);
         if has_logged_in {
-            self.happens(who, Happening::LoggedIn);
+            self.happens(&who, Happening::LoggedIn);
         }
         if let Some(departure) = departure {
             self.end(place, departure);

@@ -69,6 +69,38 @@ struct Missed<'a> {
     fault: &'a SessionFault,
 }
 
+// What is said of an old snapshot that cannot be removed.
+#[derive(Drop)]
+struct Unremoved<'a> {
+    folder: &'a str,
+    error: io::Error,
+}
+
+impl Display for Unremoved<'_> {
+    fn fmt<W: fmt::Write>(&self, f: &mut Formatter<W>) -> fmt::Result {
+        let Unremoved { folder, error } = self;
+        write!(
+            f,
+            "snapshots: cannot remove an old one in {folder}: {error}"
+        )
+    }
+}
+
+impl Event for Unremoved<'_> {
+    fn level(&self) -> Level {
+        Level::Warn
+    }
+
+    fn name(&self) -> &'static str {
+        "snapshot_not_removed"
+    }
+
+    fn write_fields<W: fmt::Write>(&self, f: &mut Formatter<W>, form: LogForm) -> fmt::Result {
+        write_text(f, form, "folder", self.folder)?;
+        write_shown(f, form, "why", &self.error)
+    }
+}
+
 impl Display for Missed<'_> {
     fn fmt<W: fmt::Write>(&self, f: &mut Formatter<W>) -> fmt::Result {
         let Missed {
@@ -190,13 +222,21 @@ impl Saver {
             Err(Unsaved::Snapshot(fault)) => Err(fault),
         };
         match written {
-            Ok(()) => self.saved = Some(next.saturating_sub(1)),
+            Ok(()) => {
+                self.saved = Some(next.saturating_sub(1));
+                if let Err(error) = self.remove_oldest(rt) {
+                    log.say(&Unremoved {
+                        folder: self.folder.as_str(),
+                        error,
+                    });
+                }
+            }
             Err(fault) => self.miss(log, &fault, next, now_ms),
         }
         Ok(())
     }
 
-    // Lists the snapshot of so many messages, and removes the oldest ones where not all are kept.
+    // Lists the snapshot of so many messages.
     fn enter<R: Files<File = File> + AllocGlobal>(
         &mut self,
         rt: &R,
@@ -208,16 +248,15 @@ impl Saver {
             None => Ok(()),
         };
         if let Err(error) = entered {
+            // A snapshot that the index does not list would be of no use.
+            let _ = remove(rt, self.folder.as_str(), messages);
             return Err(folder_fault(error));
         }
         self.files.retain(|count| *count != messages);
         if self.files.push(messages).is_err() {
             return Err(SessionFault::OutOfMemory);
         }
-        match self.remove_oldest(rt) {
-            Ok(()) => Ok(()),
-            Err(error) => Err(folder_fault(error)),
-        }
+        Ok(())
     }
 
     // Removes the oldest snapshots until no more are left than are kept.
@@ -226,7 +265,7 @@ impl Saver {
             return Ok(());
         };
         let keep = usize::try_from(keep).unwrap_or(usize::MAX);
-        while self.files.len() > keep {
+        for _ in keep..self.files.len() {
             let oldest = self.files.remove(0);
             keep_lines(rt, self.folder.as_str(), |count| count != oldest)?;
             remove(rt, self.folder.as_str(), oldest)?;

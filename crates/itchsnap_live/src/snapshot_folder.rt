@@ -107,7 +107,15 @@ pub(crate) fn list<R: Files<File = File> + AllocGlobal>(
     let mut how = OpenOptions::new();
     how.append(true).create(true);
     let mut file = how.open(rt, path.as_str())?;
-    file.write_all(&line)
+    let length = file.metadata()?.len();
+    match file.write_all(&line) {
+        Ok(()) => Ok(()),
+        Err(error) => {
+            // A line that was not written whole would spoil the next one.
+            let _ = file.set_len(length);
+            Err(error)
+        }
+    }
 }
 
 /// Keeps those lines of the index that are of snapshots with so many messages, all of whose locates they have. The index gets its name once it
@@ -127,7 +135,10 @@ pub(crate) fn keep_lines<R: Files<File = File> + AllocGlobal, K: Fn(u64) -> bool
     };
     let mut lines = IndexReader::new(alloc, BufReader::new(alloc, index)?);
     let mut out = BufWriter::new(alloc, fs::create(rt, beside.as_str())?)?;
-    while let Some(checkpoint) = lines.next()? {
+    for _ in 0..u64::MAX {
+        let Some(checkpoint) = lines.next()? else {
+            break;
+        };
         if keeps(checkpoint.count)
             && let Some((mark, fingerprint)) = whole(&checkpoint)
         {

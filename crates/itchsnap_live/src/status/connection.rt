@@ -1,4 +1,5 @@
 //! A connection to the status port: one request, and the answer to it.
+ghost use Rattle.std.specs.Prelude.{◌≡◌, ◌-◌, nat_le};
 
 use crate::link::Link;
 use itch_status::{Answer, LONGEST, Refusal, answer_to};
@@ -94,7 +95,10 @@ impl Connection {
         }
     }
 
-    fn is_late(&self, now_ms: u64) -> bool {
+    // Whether its five seconds are over.
+    fn is_late(&self, now_ms: u64) -> bool
+        ensures { result ≡ nat_le 5000 (now_ms - self.now.since_ms) }
+    {
         now_ms.saturating_sub(self.since_ms) >= PATIENCE_MS
     }
 

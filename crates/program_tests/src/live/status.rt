@@ -100,10 +100,16 @@ fn a_response_has_its_head(rt: HostRuntime) -> TestResult {
 }
 
 // Requests, and what each is answered.
-const REQUESTS: [(&[u8], Answer); 7] = [
+const REQUESTS: [(&[u8], Answer); 10] = [
     (b"", Answer::More),
     (b"GET /metrics HTTP/1.1\r\nHost: a\r\n", Answer::More),
     (b"GET /metrics?a=b HTTP/1.1\r\nHost: a\r\n\r\nrest", PAGE),
+    (b"GET http://a:80/metrics?a=b HTTP/1.1\r\n\r\n", PAGE),
+    (b"GET HTTP://[::1]/metrics HTTP/1.1\r\n\r\n", PAGE),
+    (
+        b"GET ftp://a/metrics HTTP/1.1\r\n\r\n",
+        Answer::Refused(Refusal::NotFound),
+    ),
     (
         b"PUT /metrics HTTP/1.1\r\n\r\n",
         Answer::Refused(Refusal::MethodNotAllowed),
@@ -130,6 +136,7 @@ fn requests_are_answered(rt: HostRuntime) {
         same_in(&rt, place, answer_to(request), *answer);
     }
     same(&rt, page_of(b"/readyz"), Some(Page::Ready));
+    same(&rt, page_of(b"http://a?b=/metrics"), Some(Page::People));
 }
 
 #[test]
