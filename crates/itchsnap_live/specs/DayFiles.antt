@@ -15,6 +15,10 @@ digit value = if nat_lt value 10 then 48 + value else 55 + value
 abbrev pub file_character : ℕ → List ℕ
 file_character byte = if is_plain byte then byte ∷ [] else 37 ∷ digit (byte / 16) ∷ digit (byte % 16) ∷ []
 
--- the name of a session's files, without their endings
+-- the name of a session's files, without their endings; a blank session is one space
+abbrev pub stem_of_name : List ℕ → List ℕ
+stem_of_name [] = file_character 32
+stem_of_name (byte ∷ rest) = flat_map file_character (byte ∷ rest)
+
 abbrev pub file_stem : List ℕ → List ℕ
-file_stem session = flat_map file_character (session_name session)
+file_stem session = stem_of_name (session_name session)

@@ -1,17 +1,14 @@
 //! The files of a session of the feed: one day of it.
-ghost use Rattle.std.specs.Prelude.{◌≡◌, ◌+◌, ◌*◌, ◌≤◌, ◌++◌, length};
-ghost use Rattle.std.specs.List.{flat_map};
-ghost use Rattle.arrayvec.specs.ArrayVec.{array_vec_len};
-ghost use Rattle.itchsnap_live.specs.DayFiles.{file_character, file_stem};
+ghost use Rattle.std.specs.Prelude.{◌≡◌, ◌<◌, ◌++◌, IfOk, OnOk};
+ghost use Rattle.itchsnap_live.specs.DayFiles.{digit, file_character, file_stem, is_plain};
 
 use crate::live::Serving;
 use crate::log::entry::{Event, Level, write_text};
 use crate::log::form::LogForm;
 use crate::question::name_of;
 use crate::record::RecordPlace;
-use arrayvec::ArrayVec;
 use itch_codec::Alpha;
-use std::alloc::{AllocError, Global};
+use std::alloc::{AllocError, Allocator, Global};
 use std::fmt::{self, Display, Formatter};
 use std::fs;
 use std::io::{self, ErrorKind};
@@ -40,8 +37,8 @@ impl DayPaths {
         serving: &Serving<'_>,
         session: &Alpha<10>,
     ) -> Result<DayPaths, AllocError> {
-        let stem = stem_of(session);
-        let stem = str::from_utf8(stem.as_slice()).unwrap_or("");
+        let stem = stem_of(alloc, session)?;
+        let stem = str::from_utf8(&stem).unwrap_or("");
         let record = match serving.place() {
             Some(RecordPlace::File(path)) => Some(String::from_str(alloc, path)?),
             Some(RecordPlace::Folder(folder)) => Some(format!(in alloc; "{folder}/{stem}.itch")?),
@@ -68,31 +65,44 @@ pub(crate) fn make_folder<R: Files>(rt: &R, path: &str) -> io::Result<()> {
 }
 
 /// The name of a session's files, without their endings: its letters, digits, `-` and `_`, and any other byte as % and two hexadecimal
-/// digits. Names of different sessions are different.
-pub fn stem_of(session: &Alpha<10>) -> ArrayVec<u8, 30>
-    ensures { result.items ≡ file_stem session.now }
+/// digits. A blank session is one space.
+pub fn stem_of<A: Allocator>(alloc: A, session: &Alpha<10>) -> Result<Vec<u8, A>, AllocError>
+    ensures { IfOk result (λ stem. stem.items ≡ file_stem session.now) }
 {
-    let mut stem = ArrayVec::new();
-    push_name(&mut stem, name_of(session));
-    stem
-}
-
-fn push_name(stem: &mut ArrayVec<u8, 30>, name: &[u8]) {
+    let mut stem = Vec::new(alloc);
+    let name = name_of(session);
+    if name.is_empty() {
+        push_character(&mut stem, b' ')?;
+    }
     for &byte in name {
-        if byte.is_ascii_alphanumeric() || byte == b'-' || byte == b'_' {
-            let _ = stem.try_push(byte);
-        } else {
-            let _ = stem.try_extend_from_slice(&[b'%', digit(byte / 16), digit(byte % 16)]);
-        }
+        push_character(&mut stem, byte)?;
     }
+    Ok(stem)
 }
 
-fn digit(value: u8) -> u8 {
-    if value < 10 {
-        b'0' + value
-    } else {
-        b'A' - 10 + value % 16
+fn push_character<A: Allocator>(stem: &mut Vec<u8, A>, byte: u8) -> Result<(), AllocError>
+    ensures { OnOk result (stem.new.items ≡ stem.old.items ++ file_character byte) }
+{
+    if is_plain(byte) {
+        stem.push(byte)?;
+        return Ok(());
     }
+    stem.extend_from_slice(&[b'%', digit(byte / 16), digit(byte % 16)])?;
+    Ok(())
+}
+
+// A letter, a digit, - or _.
+fn is_plain(byte: u8) -> bool
+    ensures { result ≡ is_plain byte }
+{
+    matches!(byte, b'0'..=b'9' | b'A'..=b'Z' | b'a'..=b'z' | b'-' | b'_')
+}
+
+fn digit(value: u8) -> u8
+    requires { value < 16 }
+    ensures { result ≡ digit value }
+{
+    if value < 10 { 48 + value } else { 55 + value }
 }
 
 /// A day begins: its session, and where it is recorded.
