@@ -3,6 +3,8 @@
 RUNS has a function for each run, named for what it shows; it is given the program, and yields what differs.
 """
 import contextlib
+import itertools
+import os
 import re
 import shlex
 import shutil
@@ -29,6 +31,8 @@ SOURCES = TOP / "crates"
 EXPOSURE = 20
 # A snapshot is written after each so many messages.
 EVERY = 50
+# Each service has an address of its own on this machine, and the ports of the file of variables.
+NETWORKS = itertools.count(64)
 
 
 def tool(name, what):
@@ -84,11 +88,10 @@ class Service:
         (folder / "etc").mkdir()
         (folder / "etc/a.feed").write_text("secret\n")
         (folder / "etc/a.users").write_text("user:secret\n")
-        with contextlib.ExitStack() as held:
-            self.port, self.status = (held.enter_context(socket.create_server(("127.0.0.1", 0))).getsockname()[1] for _ in range(2))
-        own = {"FEEDS": f"--feed 127.0.0.1:9 --feed 127.0.0.1:{feed}", "FEED_USER": "user", "PORT": str(self.port),
-               "STATUS": f"127.0.0.1:{self.status}", "EVERY": str(EVERY)}
         self.variables = dict(line.split("=", 1) for line in shlex.split(VARIABLES.read_text(), comments=True))
+        self.address, self.port = f"127.{next(NETWORKS)}.{os.getpid() // 256 % 256}.{os.getpid() % 256}", self.variables["PORT"]
+        own = {"FEEDS": f"--feed 127.0.0.1:9 --feed 127.0.0.1:{feed}", "FEED_USER": "user", "BIND": self.address, "EVERY": str(EVERY),
+               "STATUS": self.variables["STATUS"].replace("127.0.0.1", self.address)}
         self.unknown = own.keys() - self.variables.keys()
         self.variables |= own
 
@@ -115,6 +118,10 @@ class Service:
         """What the unit does before it is active: the status and the output of that."""
         return says(*self.command("ExecStartPost"), env=self.environment())
 
+    def fetch(self):
+        """What a client gets: the status and both outputs."""
+        return fetch(self.folder / "bin/itchsnap", self.port, "--host", self.address)
+
     def files(self):
         """The files that the server keeps, by their names, and the modes of all files and folders."""
         below = [*(self.folder / "state").rglob("*")]
@@ -133,7 +140,7 @@ def the_unit_serves_a_feed(program):
                 status, said = service.waited()
                 yield from differs(f"{attempt}: active", (status, said.splitlines()[:2]), (0, ["ready yes", "feed_state following"]))
                 waits_for(lambda: f"next_message {count + 1}\n" in service.waited()[1])
-                yield from differs(f"{attempt}: client", fetch(program, service.port), (0, wanted, b""))
+                yield from differs(f"{attempt}: client", service.fetch(), (0, wanted, b""))
                 server.process.send_signal(signal.SIGTERM)
                 yield from differs(f"{attempt}: stopped", server.ended()[0], -signal.SIGTERM)
             files, modes = service.files()
@@ -156,7 +163,7 @@ def statuses_after_which_the_unit_is_started_again(program):
             service = Service(program, folder, feed.port)
             service.variables["OPTIONS"] += f" {option}"
             if wanted == 3:
-                held.enter_context(socket.create_server(("127.0.0.1", service.port)))
+                held.enter_context(socket.create_server((service.address, int(service.port))))
             with service.start() as server:
                 status = server.ended()[0]
                 yield from differs(name, (status, status in prevented), (wanted, wanted in (1, 2)))
@@ -174,7 +181,10 @@ def system_calls(analyze, names):
 def the_unit_allows_each_system_call(program):
     """Those of a server with a record, snapshots, a status port and a client, of the shell that starts it, and of `status`."""
     analyze, strace = (tool(it, "the system calls that the unit allows") for it in ("systemd-analyze", "strace"))
-    if not analyze or not strace or says(strace, "-o", "/dev/null", "true")[0]:
+    if not analyze or not strace:
+        return
+    if says(strace, "-o", "/dev/null", "true")[0]:
+        print("skipped: the system calls that the unit allows: strace may trace nothing here")
         return
     allowed = set()
     for filter in setting("SystemCallFilter"):
@@ -187,7 +197,7 @@ def the_unit_allows_each_system_call(program):
         traced = Running(strace, "-D", "-f", "-qq", "-o", folder / "calls", *service.command("ExecStart"), listens=False, **service.environment())
         with traced as server:
             waits_for(lambda: any("feed_ended" in line for line in server.lines))
-            fetch(program, service.port)
+            yield from differs("client", service.fetch()[0], 0)
             asked = says(strace, "-f", "-qq", "-o", folder / "more", *service.command("ExecStartPost"), env=service.environment())
             yield from differs("status", asked[0], 0)
             waits_for(lambda: "record_unsynced_bytes 0\n" in service.waited()[1])
