@@ -16,7 +16,7 @@ from pathlib import Path
 
 from common import differs, ended_in, split
 from living import ENDED, PATIENCE, Feed, Running, day_of, fetch, folder_with, plays, sends, snapshot_after
-from scraping import page, samples_of, waits_for, watched
+from scraping import asked_of, page, prometheus, samples_of, waits_for, watched
 
 TOP = Path(__file__).resolve().parents[2]
 DEPLOY = TOP / "deploy"
@@ -217,6 +217,31 @@ def what_prometheus_says_of_the_rules(program):
         yield from differs(" ".join(map(str, words)), (status, said if status else ""), (0, ""))
 
 
+def a_lost_feed_raises_an_alert(program):
+    """Prometheus has the rules and scrapes a server: it computes the lag, and knows of the loss and its cause. Times are a second in place of 15."""
+    if not (found := tool("prometheus", "the alert of a lost feed")):
+        return
+    day, _ = day_of(20)
+    closing = threading.Event()
+
+    def closes(peer, login):
+        plays(day)(peer, login)
+        closing.wait(PATIENCE)
+
+    with folder_with() as folder, Feed(closes, sends(b"\0\x02JS")) as feed, watched(program, feed.port) as server:
+        (folder / RULES.name).write_bytes(RULES.read_bytes())
+        config = CONFIGURATION.read_text().replace("15s", "1s").replace("127.0.0.1:5180", f"127.0.0.1:{server.status}")
+        (folder / "config").write_text(f"global: {{evaluation_interval: 1s}}\n{config}")
+        with prometheus(found, folder) as port:
+            lag = waits_for(lambda: asked_of(port, "itchsnap:lag_seconds"))
+            yield from differs("lag", bool(lag) and -60 <= float(lag[0]["value"][1]) < 3540, True)
+            yield from differs("before", asked_of(port, "ALERTS"), [])
+            closing.set()
+            alert = waits_for(lambda: asked_of(port, 'ALERTS{alertname="ItchsnapFeedLost", alertstate="pending"}'))
+            yield from differs("alert", bool(alert) and alert[0]["metric"]["severity"], "critical")
+            yield from differs("cause", bool(waits_for(lambda: asked_of(port, 'itchsnap_feed_cause{cause="rejected S"}'))), True)
+
+
 def alerts():
     return re.findall(r"^      - alert: (\w+)$", RULES.read_text(), re.M)
 
@@ -306,6 +331,7 @@ RUNS = [
     statuses_after_which_the_unit_is_started_again,
     the_unit_allows_each_system_call,
     what_prometheus_says_of_the_rules,
+    a_lost_feed_raises_an_alert,
     each_figure_that_is_named_is_served,
     the_page_has_each_line_of_the_log,
     the_page_has_each_alert,
