@@ -50,8 +50,8 @@ def says(*words, **more):
 
 
 def setting(name):
-    """The values of a setting of the unit, in order."""
-    return re.findall(rf"^{name}=(.*)$", UNIT.read_text(), re.M)
+    """The values of a setting of the unit, in order. A line that ends with a reverse solidus goes on in the next one."""
+    return re.findall(rf"^{name}=(.*)$", re.sub(r"\\\n *", "", UNIT.read_text()), re.M)
 
 
 def what_systemd_says_of_the_unit(program):
@@ -275,16 +275,17 @@ def quoted(text):
     return re.findall(r"`([^`]+)`", text)
 
 
-def strings_of(file, pattern):
-    """The texts in a part of a source, which begins with a pattern."""
-    return {text for body in re.findall(rf"{pattern}.*?\n    }}|{pattern}.*?\n}}", (SOURCES / file).read_text(), re.S) for text in re.findall(r'"([^"]*)"', body)}
+def texts_of(file, function):
+    """The texts in the functions of a source whose first lines begin so."""
+    bodies = re.findall(rf"^( *){re.escape(function)}(.*?)^\1}}", (SOURCES / file).read_text(), re.M | re.S)
+    return {text for _, body in bodies for text in re.findall(r'"([^"]*)"', body)}
 
 
 def events():
     """The events that a log may have."""
     folder = SOURCES / "itchsnap_live/src"
     files = [it.relative_to(SOURCES) for it in folder.rglob("*.rt") if re.search(r"^impl(?:<.*>)? Event for", it.read_text(), re.M)]
-    return {event for file in files for event in strings_of(file, r"fn name\(&self\) -> &'static str \{")}
+    return {event for file in files for event in texts_of(file, "fn name(&self)")}
 
 
 def the_page_has_each_line_of_the_log(program):
@@ -292,9 +293,9 @@ def the_page_has_each_line_of_the_log(program):
     listed = {it for row in rows("Log lines") for it in quoted(row[0])}
     yield from differs("events", listed, events())
     causes = {it for row in rows("A lost feed") for it in quoted(row[0])}
-    yield from differs("causes", causes, strings_of("itch_status/src/cause.rt", r"pub fn words\(self\)"))
+    yield from differs("causes", causes, texts_of("itch_status/src/cause.rt", "pub fn words(self)"))
     reasons = {it for row in rows("Clients") for it in quoted(row[0])}
-    yield from differs("reasons", reasons, strings_of("itchsnap_live/src/who.rt", r"fn reason_of\(") - {"played"})
+    yield from differs("reasons", reasons, texts_of("itchsnap_live/src/who.rt", "fn reason_of(") - {"played"})
     yield from differs("events in OUTPUT", {it for it in events() if f"`{it}`" not in OUTPUT.read_text()}, set())
 
 
