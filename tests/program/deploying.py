@@ -247,7 +247,7 @@ def alerts():
 
 
 def each_figure_that_is_named_is_served(program):
-    """Those of the rules, of their cases and of the page; and the states of a feed."""
+    """Those of the rules, of their cases and of the page, and the states of a feed; and those that OUTPUT specifies are all that there are."""
     day, _ = day_of(20)
     with Feed(plays(day, wait=threading.Event())) as feed, watched(program, feed.port) as server:
         text = page(server, "/metrics")[2].decode()
@@ -256,6 +256,8 @@ def each_figure_that_is_named_is_served(program):
     for file in RULES, CASES, OPERATING:
         named = re.findall(r"\bitchsnap_\w+", file.read_text())
         yield from differs(f"{file.name}: figures", sorted({*named} - served), [])
+    specified = {f"itchsnap_{it}" for row in rows("Status", OUTPUT) for it in quoted(row[0])}
+    yield from differs("figures in OUTPUT", specified ^ served, {"itchsnap_build_info"})
     yield from differs("figures in the rules", len({*re.findall(r"\bitchsnap_\w+", RULES.read_text())}) > 8, True)
     asked = {f'itchsnap_feed_state{{state="{it}"}}' for it in re.findall(r'state="(\w+)"', RULES.read_text())}
     yield from differs("states", asked - states, set())
@@ -263,9 +265,9 @@ def each_figure_that_is_named_is_served(program):
     yield from differs("figures of others", foreign, {"up", "node_filesystem_avail_bytes"})
 
 
-def rows(title):
-    """The rows of the table below a title of the page, each a list of its cells."""
-    below = OPERATING.read_text().split(f"# {title}\n", 1)[1]
+def rows(title, file=OPERATING):
+    """The rows of the first table below a title of a page, each a list of its cells."""
+    below = file.read_text().split(f"# {title}\n", 1)[1]
     table = re.search(r"(?:^\|.*\n)+", below, re.M)[0]
     return [[cell.strip() for cell in line.strip("|").split("|")] for line in table.splitlines()[2:]]
 
