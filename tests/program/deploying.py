@@ -3,6 +3,8 @@
 RUNS has a function for each run, named for what it shows; it is given the program, and yields what differs.
 """
 import contextlib
+import itertools
+import os
 import re
 import shlex
 import shutil
@@ -14,7 +16,7 @@ from pathlib import Path
 
 from common import differs, ended_in, split
 from living import ENDED, PATIENCE, Feed, Running, day_of, fetch, folder_with, plays, sends, snapshot_after
-from scraping import page, samples_of, waits_for, watched
+from scraping import asked_of, page, prometheus, samples_of, waits_for, watched
 
 TOP = Path(__file__).resolve().parents[2]
 DEPLOY = TOP / "deploy"
@@ -29,6 +31,8 @@ SOURCES = TOP / "crates"
 EXPOSURE = 20
 # A snapshot is written after each so many messages.
 EVERY = 50
+# Each service has an address of its own on this machine, and the ports of the file of variables.
+NETWORKS = itertools.count(64)
 
 
 def tool(name, what):
@@ -46,8 +50,8 @@ def says(*words, **more):
 
 
 def setting(name):
-    """The values of a setting of the unit, in order."""
-    return re.findall(rf"^{name}=(.*)$", UNIT.read_text(), re.M)
+    """The values of a setting of the unit, in order. A line that ends with a reverse solidus goes on in the next one."""
+    return re.findall(rf"^{name}=(.*)$", re.sub(r"\\\n *", "", UNIT.read_text()), re.M)
 
 
 def what_systemd_says_of_the_unit(program):
@@ -81,14 +85,15 @@ class Service:
         self.folder = folder
         (folder / "bin").mkdir()
         (folder / "bin/itchsnap").symlink_to(program)
+        for made in "state", "state/itchsnap", "state/itchsnap/a":
+            (folder / made).mkdir(mode=0o700)
         (folder / "etc").mkdir()
         (folder / "etc/a.feed").write_text("secret\n")
         (folder / "etc/a.users").write_text("user:secret\n")
-        with contextlib.ExitStack() as held:
-            self.port, self.status = (held.enter_context(socket.create_server(("127.0.0.1", 0))).getsockname()[1] for _ in range(2))
-        own = {"FEEDS": f"--feed 127.0.0.1:9 --feed 127.0.0.1:{feed}", "FEED_USER": "user", "PORT": str(self.port),
-               "STATUS": f"127.0.0.1:{self.status}", "EVERY": str(EVERY)}
         self.variables = dict(line.split("=", 1) for line in shlex.split(VARIABLES.read_text(), comments=True))
+        self.address, self.port = f"127.{next(NETWORKS)}.{os.getpid() // 256 % 256}.{os.getpid() % 256}", self.variables["PORT"]
+        own = {"FEEDS": f"--feed 127.0.0.1:9 --feed 127.0.0.1:{feed}", "FEED_USER": "user", "BIND": self.address, "EVERY": str(EVERY),
+               "STATUS": self.variables["STATUS"].replace("127.0.0.1", self.address)}
         self.unknown = own.keys() - self.variables.keys()
         self.variables |= own
 
@@ -115,6 +120,10 @@ class Service:
         """What the unit does before it is active: the status and the output of that."""
         return says(*self.command("ExecStartPost"), env=self.environment())
 
+    def fetch(self):
+        """What a client gets: the status and both outputs."""
+        return fetch(self.folder / "bin/itchsnap", self.port, "--host", self.address)
+
     def files(self):
         """The files that the server keeps, by their names, and the modes of all files and folders."""
         below = [*(self.folder / "state").rglob("*")]
@@ -133,11 +142,11 @@ def the_unit_serves_a_feed(program):
                 status, said = service.waited()
                 yield from differs(f"{attempt}: active", (status, said.splitlines()[:2]), (0, ["ready yes", "feed_state following"]))
                 waits_for(lambda: f"next_message {count + 1}\n" in service.waited()[1])
-                yield from differs(f"{attempt}: client", fetch(program, service.port), (0, wanted, b""))
+                yield from differs(f"{attempt}: client", service.fetch(), (0, wanted, b""))
                 server.process.send_signal(signal.SIGTERM)
                 yield from differs(f"{attempt}: stopped", server.ended()[0], -signal.SIGTERM)
             files, modes = service.files()
-            yield from differs(f"{attempt}: the record", files["day.itch"].read_bytes() == day, True)
+            yield from differs(f"{attempt}: the record", files["ITCHSNAP.itch"].read_bytes() == day, True)
             yield from differs(f"{attempt}: modes", modes, {(True, 0o700), (False, 0o600)})
         for messages in range(EVERY, count + 1, EVERY):
             yield from differs(f"snapshot {messages}", files[f"{messages}.snap"].read_bytes() == snapshot_after(program, day, messages), True)
@@ -156,7 +165,7 @@ def statuses_after_which_the_unit_is_started_again(program):
             service = Service(program, folder, feed.port)
             service.variables["OPTIONS"] += f" {option}"
             if wanted == 3:
-                held.enter_context(socket.create_server(("127.0.0.1", service.port)))
+                held.enter_context(socket.create_server((service.address, int(service.port))))
             with service.start() as server:
                 status = server.ended()[0]
                 yield from differs(name, (status, status in prevented), (wanted, wanted in (1, 2)))
@@ -174,7 +183,10 @@ def system_calls(analyze, names):
 def the_unit_allows_each_system_call(program):
     """Those of a server with a record, snapshots, a status port and a client, of the shell that starts it, and of `status`."""
     analyze, strace = (tool(it, "the system calls that the unit allows") for it in ("systemd-analyze", "strace"))
-    if not analyze or not strace or says(strace, "-o", "/dev/null", "true")[0]:
+    if not analyze or not strace:
+        return
+    if says(strace, "-o", "/dev/null", "true")[0]:
+        print("skipped: the system calls that the unit allows: strace may trace nothing here")
         return
     allowed = set()
     for filter in setting("SystemCallFilter"):
@@ -187,7 +199,7 @@ def the_unit_allows_each_system_call(program):
         traced = Running(strace, "-D", "-f", "-qq", "-o", folder / "calls", *service.command("ExecStart"), listens=False, **service.environment())
         with traced as server:
             waits_for(lambda: any("feed_ended" in line for line in server.lines))
-            fetch(program, service.port)
+            yield from differs("client", service.fetch()[0], 0)
             asked = says(strace, "-f", "-qq", "-o", folder / "more", *service.command("ExecStartPost"), env=service.environment())
             yield from differs("status", asked[0], 0)
             waits_for(lambda: "record_unsynced_bytes 0\n" in service.waited()[1])
@@ -207,12 +219,37 @@ def what_prometheus_says_of_the_rules(program):
         yield from differs(" ".join(map(str, words)), (status, said if status else ""), (0, ""))
 
 
+def a_lost_feed_raises_an_alert(program):
+    """Prometheus has the rules and scrapes a server: it computes the lag, and knows of the loss and its cause. Times are a second in place of 15."""
+    if not (found := tool("prometheus", "the alert of a lost feed")):
+        return
+    day, _ = day_of(20)
+    closing = threading.Event()
+
+    def closes(peer, login):
+        plays(day)(peer, login)
+        closing.wait(PATIENCE)
+
+    with folder_with() as folder, Feed(closes, sends(b"\0\x02JS")) as feed, watched(program, feed.port) as server:
+        (folder / RULES.name).write_bytes(RULES.read_bytes())
+        config = CONFIGURATION.read_text().replace("15s", "1s").replace("127.0.0.1:5180", f"127.0.0.1:{server.status}")
+        (folder / "config").write_text(f"global: {{evaluation_interval: 1s}}\n{config}")
+        with prometheus(found, folder) as port:
+            lag = waits_for(lambda: asked_of(port, "itchsnap:lag_seconds"))
+            yield from differs("lag", bool(lag) and -60 <= float(lag[0]["value"][1]) < 3540, True)
+            yield from differs("before", asked_of(port, "ALERTS"), [])
+            closing.set()
+            alert = waits_for(lambda: asked_of(port, 'ALERTS{alertname="ItchsnapFeedLost", alertstate="pending"}'))
+            yield from differs("alert", bool(alert) and alert[0]["metric"]["severity"], "critical")
+            yield from differs("cause", bool(waits_for(lambda: asked_of(port, 'itchsnap_feed_cause{cause="rejected S"}'))), True)
+
+
 def alerts():
     return re.findall(r"^      - alert: (\w+)$", RULES.read_text(), re.M)
 
 
 def each_figure_that_is_named_is_served(program):
-    """Those of the rules, of their cases and of the page; and the states of a feed."""
+    """Those of the rules, of their cases and of the page, and the states of a feed; and those that OUTPUT specifies are all that there are."""
     day, _ = day_of(20)
     with Feed(plays(day, wait=threading.Event())) as feed, watched(program, feed.port) as server:
         text = page(server, "/metrics")[2].decode()
@@ -221,6 +258,8 @@ def each_figure_that_is_named_is_served(program):
     for file in RULES, CASES, OPERATING:
         named = re.findall(r"\bitchsnap_\w+", file.read_text())
         yield from differs(f"{file.name}: figures", sorted({*named} - served), [])
+    specified = {f"itchsnap_{it}" for row in rows("Status", OUTPUT) for it in quoted(row[0])}
+    yield from differs("figures in OUTPUT", specified ^ served, {"itchsnap_build_info"})
     yield from differs("figures in the rules", len({*re.findall(r"\bitchsnap_\w+", RULES.read_text())}) > 8, True)
     asked = {f'itchsnap_feed_state{{state="{it}"}}' for it in re.findall(r'state="(\w+)"', RULES.read_text())}
     yield from differs("states", asked - states, set())
@@ -228,9 +267,9 @@ def each_figure_that_is_named_is_served(program):
     yield from differs("figures of others", foreign, {"up", "node_filesystem_avail_bytes"})
 
 
-def rows(title):
-    """The rows of the table below a title of the page, each a list of its cells."""
-    below = OPERATING.read_text().split(f"# {title}\n", 1)[1]
+def rows(title, file=OPERATING):
+    """The rows of the first table below a title of a page, each a list of its cells."""
+    below = file.read_text().split(f"# {title}\n", 1)[1]
     table = re.search(r"(?:^\|.*\n)+", below, re.M)[0]
     return [[cell.strip() for cell in line.strip("|").split("|")] for line in table.splitlines()[2:]]
 
@@ -240,16 +279,17 @@ def quoted(text):
     return re.findall(r"`([^`]+)`", text)
 
 
-def strings_of(file, pattern):
-    """The texts in a part of a source, which begins with a pattern."""
-    return {text for body in re.findall(rf"{pattern}.*?\n    }}|{pattern}.*?\n}}", (SOURCES / file).read_text(), re.S) for text in re.findall(r'"([^"]*)"', body)}
+def texts_of(file, function):
+    """The texts in the functions of a source whose first lines begin so."""
+    bodies = re.findall(rf"^( *){re.escape(function)}(.*?)^\1}}", (SOURCES / file).read_text(), re.M | re.S)
+    return {text for _, body in bodies for text in re.findall(r'"([^"]*)"', body)}
 
 
 def events():
     """The events that a log may have."""
     folder = SOURCES / "itchsnap_live/src"
     files = [it.relative_to(SOURCES) for it in folder.rglob("*.rt") if re.search(r"^impl(?:<.*>)? Event for", it.read_text(), re.M)]
-    return {event for file in files for event in strings_of(file, r"fn name\(&self\) -> &'static str \{")}
+    return {event for file in files for event in texts_of(file, "fn name(&self)")}
 
 
 def the_page_has_each_line_of_the_log(program):
@@ -257,9 +297,9 @@ def the_page_has_each_line_of_the_log(program):
     listed = {it for row in rows("Log lines") for it in quoted(row[0])}
     yield from differs("events", listed, events())
     causes = {it for row in rows("A lost feed") for it in quoted(row[0])}
-    yield from differs("causes", causes, strings_of("itch_status/src/cause.rt", r"pub fn words\(self\)"))
+    yield from differs("causes", causes, texts_of("itch_status/src/cause.rt", "pub fn words(self)"))
     reasons = {it for row in rows("Clients") for it in quoted(row[0])}
-    yield from differs("reasons", reasons, strings_of("itchsnap_live/src/who.rt", r"fn reason_of\(") - {"played"})
+    yield from differs("reasons", reasons, texts_of("itchsnap_live/src/who.rt", "fn reason_of(") - {"played"})
     yield from differs("events in OUTPUT", {it for it in events() if f"`{it}`" not in OUTPUT.read_text()}, set())
 
 
@@ -296,6 +336,7 @@ RUNS = [
     statuses_after_which_the_unit_is_started_again,
     the_unit_allows_each_system_call,
     what_prometheus_says_of_the_rules,
+    a_lost_feed_raises_an_alert,
     each_figure_that_is_named_is_served,
     the_page_has_each_line_of_the_log,
     the_page_has_each_alert,

@@ -11,7 +11,7 @@ from living import (BEAT, ENDED, LOGIN, PATIENCE, Feed, acceptance, answer, day_
                     without_first_beats)
 
 REJECTED = b"\0\x02JS"
-COUNT, EVERY = 3_000, 1_000
+COUNT, EVERY, MOST = 3_000, 1_000, 10_000
 DAYS = [day_of(COUNT, symbols=symbols)[0] for symbols in (20, 7, 11)]
 SESSIONS = [b"DAY1", b"DAY2", b"DAY3"]
 
@@ -20,7 +20,7 @@ class Season:
     """A server of a feed that has one session after another. It rejects a login for any other session than the present one."""
 
     def __init__(self, sessions=SESSIONS):
-        self.sessions, self.present, self.until, self.has_ended = sessions, 0, COUNT, False
+        self.sessions, self.present, self.until, self.has_ended = sessions, 0, MOST, False
         self.changed = threading.Condition()
         self.peers = []
 
@@ -36,7 +36,7 @@ class Season:
             sent = max(self.until, number_in(login) - 1)
             while self.present == number and not self.has_ended:
                 self.changed.wait(0.5)
-                if self.until > sent:
+                if self.until > sent and self.present == number:
                     peer.sendall(b"".join(map(packet, blocks[sent:self.until])))
                     sent = self.until
                 peer.sendall(BEAT)
@@ -53,12 +53,16 @@ class Season:
         """The night begins."""
         self.change(has_ended=True)
 
-    def next_day(self, until=COUNT):
+    def next_day(self, until=MOST):
         self.change(present=self.present + 1, has_ended=False, until=until)
 
 
 def session_path(folder, session):
     return folder / "records" / f"{session.decode()}.itch"
+
+
+def whole(program, day):
+    return snapshot_after(program, day, len(split(day)))
 
 
 def grows_to(path, size):
@@ -92,10 +96,10 @@ def three_days_follow_each_other(program):
         for number, session in enumerate(SESSIONS):
             server.said(f"session: {session.decode()}, recorded in {session_path(folder, session)}\n")
             grows_to(session_path(folder, session), len(DAYS[number]))
-            wanted = answer(snapshot_after(program, DAYS[number], COUNT), session)
+            wanted = answer(whole(program, DAYS[number]), session)
             yield from differs((session, "day"), without_first_beats(told(server.port, LOGIN)), wanted)
             season.end()
-            server.said(f"feed: ended at {COUNT + 1}\n")
+            server.said(f"feed: ended at {len(split(DAYS[number])) + 1}\n")
             yield from differs((session, "night"), without_first_beats(told(server.port, LOGIN)), wanted)
             if number + 1 < len(SESSIONS):
                 season.next_day()
@@ -121,7 +125,7 @@ def a_restart_goes_on_with_the_record_of_the_session(program):
             server.said("feed: accepted from 1501")
             newest = f"record: replayed from {folder}/snapshots/DAY2/1000.snap on\n"
             yield from differs("said", [it for it in server.lines if it.startswith("record: ")], [newest])
-            season.change(until=COUNT)
+            season.change(until=MOST)
             grows_to(session_path(folder, SESSIONS[1]), len(DAYS[1]))
             yield from differs("asked", [(session_in(it).strip(), number_in(it)) for it in feed.logins], [(b"", 1), (b"DAY2", 1_501)])
             time.sleep(0.2)
@@ -153,7 +157,7 @@ def names_of_files_are_those_of_sessions(program):
             yield from differs(name, path.read_bytes() if path.exists() else None, DAYS[number])
             if number < 2:
                 season.end()
-                server.said(f"feed: ended at {COUNT + 1}\n")
+                server.said(f"feed: ended at {len(split(DAYS[number])) + 1}\n")
                 season.next_day()
 
 
@@ -164,7 +168,7 @@ def a_record_of_a_session_is_for_one_process(program):
         grows_to(session_path(folder, SESSIONS[0]), len(DAYS[0]))
         with live(program, feed.port, "--records", folder / "records", "--stay") as second:
             status, _, lines = second.ended()
-            wanted = [f"itchsnap: cannot open\n", f"  {session_path(folder, SESSIONS[0])}: another process uses it\n"]
+            wanted = ["itchsnap: cannot open\n", f"  {session_path(folder, SESSIONS[0])}: another process uses it\n"]
             yield from differs("the second", (status, lines[-2:]), (3, wanted))
 
 

@@ -154,22 +154,28 @@ def what_prometheus_scrapes(program):
         print("skipped: what Prometheus scrapes: no prometheus here")
         return
     day, _ = day_of(20)
-    with folder_with() as folder, Feed(plays(day, wait=threading.Event())) as feed, watched(program, feed.port) as server, \
-            socket.create_server(("127.0.0.1", 0)) as free:
-        port = free.getsockname()[1]
-        free.close()
+    with folder_with() as folder, Feed(plays(day, wait=threading.Event())) as feed, watched(program, feed.port) as server:
         target = f'{{"targets": ["127.0.0.1:{server.status}"]}}'
         (folder / "config").write_text(f'{{"scrape_configs": [{{"job_name": "live", "scrape_interval": "1s", "static_configs": [{target}]}}]}}')
-        words = f"--config.file={folder}/config", f"--storage.tsdb.path={folder}/data", f"--web.listen-address=127.0.0.1:{port}"
-        scraper = subprocess.Popen([tool, *words], stdout=subprocess.DEVNULL, stderr=subprocess.DEVNULL)
-        try:
+        with prometheus(tool, folder) as port:
             found = waits_for(lambda: asked_of(port, "itchsnap_next_message == 41"))
             yield from differs("next message", bool(found), True)
             lag = asked_of(port, "itchsnap_silence_seconds")
             yield from differs("lag", bool(lag) and 0 <= float(lag[0]["value"][1]) < PATIENCE, True)
-        finally:
-            scraper.terminate()
-            scraper.wait()
+
+
+@contextlib.contextmanager
+def prometheus(tool, folder):
+    """The port of a Prometheus whose configuration is the file `config` of this folder."""
+    with socket.create_server(("127.0.0.1", 0)) as free:
+        port = free.getsockname()[1]
+    words = f"--config.file={folder}/config", f"--storage.tsdb.path={folder}/data", f"--web.listen-address=127.0.0.1:{port}"
+    scraper = subprocess.Popen([tool, *words], stdout=subprocess.DEVNULL, stderr=subprocess.DEVNULL)
+    try:
+        yield port
+    finally:
+        scraper.terminate()
+        scraper.wait()
 
 
 def asked_of(port, query):

@@ -34,7 +34,8 @@ fn push_mark<A: Allocator>(line: &mut Vec<u8, A>, mark: Mark) -> Result<(), Allo
     line.extend_from_slice(b",\"timestamp\":")?;
     push_or_null(line, mark.latest)?;
     push_field(line, b",\"file\":\"", mark.count)?;
-    line.extend_from_slice(b".snap\"")
+    line.extend_from_slice(b".snap\"")?;
+    Ok(())
 }
 
 fn push_field<A: Allocator>(

@@ -1,5 +1,5 @@
 -- A record that one process after another appends to.
-use Rattle.std.proofs.Common.{◌≡◌, ℕ, ◌+◌, ◌-◌, ◌<◌, ◌≤◌, min, List, ◌++◌, take, drop, Option, None, Some, sym, ap, subst, ◌∙◌, arith}
+use Rattle.std.proofs.Common.{◌≡◌, ℕ, ◌+◌, ◌-◌, ◌<◌, ◌≤◌, List, ◌++◌, take, drop, Option, None, Some, sym, ap, subst, ◌∙◌, arith}
 use Rattle.std.specs.List.{AllByRecursion}
 use Rattle.std.specs.Io.KnownBytes.{Appends}
 use Rattle.std.proofs.lemmas.List.{take-append-drop, take-take, drop-take}
@@ -18,9 +18,8 @@ use Rattle.itch_live.proofs.Recorded.{all_recorded}
 -- the first messages, and those after them
 take_on : (feed : List (List ℕ)) (n m : ℕ) → take n feed ++ take m (drop n feed) ≡ take (n + m) feed
 take_on feed n m =
-    let least : min n (n + m) ≡ n = omega arith in
-    let rest : (n + m) - n ≡ m = omega arith in
-    ap (λ xs. xs ++ take m (drop n feed)) (ap (λ k. take k feed) (sym least) ∙ sym (take-take n (n + m) feed))
+    let less : n ≤ n + m = omega arith in
+    ap (λ xs. xs ++ take m (drop n feed)) (sym (take-take n (n + m) feed less))
     ∙ ap (λ xs. take n (take (n + m) feed) ++ xs) (sym (drop-take n m feed)) ∙ take-append-drop n (take (n + m) feed)
 
 both : (feed : List (List ℕ)) (first next : ℕ) → 0 < first → first ≤ next → blocks (take (first - 1) feed) ++ blocks (between first next feed) ≡ blocks (take (next - 1) feed)
