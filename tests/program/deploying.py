@@ -150,7 +150,8 @@ def the_unit_serves_a_feed(program):
             yield from differs(f"{attempt}: modes", modes, {(True, 0o700), (False, 0o600)})
         for messages in range(EVERY, count + 1, EVERY):
             yield from differs(f"snapshot {messages}", files[f"{messages}.snap"].read_bytes() == snapshot_after(program, day, messages), True)
-        yield from differs("asked again for", feed.asked(), [1, count + 1])
+        # Each time first for the session that the feed is in.
+        yield from differs("asked for", feed.asked(), [1, 1, 1, count + 1])
 
 
 def statuses_after_which_the_unit_is_started_again(program):
@@ -195,7 +196,6 @@ def the_unit_allows_each_system_call(program):
     day, _ = day_of(200)
     with folder_with() as folder, Feed(plays(day, then=ENDED)) as feed:
         service = Service(program, folder, feed.port)
-        service.variables["OPTIONS"] += " --stay"
         traced = Running(strace, "-D", "-f", "-qq", "-o", folder / "calls", *service.command("ExecStart"), listens=False, **service.environment())
         with traced as server:
             waits_for(lambda: any("feed_ended" in line for line in server.lines))
