@@ -187,6 +187,11 @@ impl Trouble {
         }
     }
 
+    /// Whether no more is known than how the connection ended.
+    pub(crate) fn is_a_cut(&self) -> bool {
+        matches!(self, Trouble::Cut(_))
+    }
+
     /// Whether a line about it names the server, also where there is only one.
     pub(crate) fn is_of_a_name(&self) -> bool {
         matches!(self, Trouble::GlimpseUnknown | Trouble::Unknown)

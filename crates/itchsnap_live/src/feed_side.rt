@@ -238,12 +238,14 @@ impl<'a> FeedSide<'a> {
         now_ms: u64,
     ) {
         self.losses = self.losses.saturating_add(1);
-        if let Some(why) = &why {
-            self.cause = Some(why.cause());
-        }
         let next = follower.next();
         let server = self.route.server();
-        let name = self.name(next.is_some(), why.is_some_and(|it| it.is_of_a_name()));
+        let mut is_of_a_name = false;
+        if let Some(why) = &why {
+            self.cause = Some(why.cause());
+            is_of_a_name = why.is_of_a_name();
+        }
+        let name = self.name(next.is_some(), is_of_a_name);
         let lost = self.route.name(next.is_some());
         let wait = self.route.lose(next.is_some(), now_ms);
         self.drop_connection(now_ms.saturating_add(wait));
@@ -252,14 +254,9 @@ impl<'a> FeedSide<'a> {
         if is_known {
             return;
         }
-        match (why, next) {
-            (None | Some(Trouble::Cut(_)), Some(next)) => {
-                log.say(&self.loss(FeedLine::Lost(next), lost));
-            }
-            (None | Some(Trouble::Cut(_)), None) => {
-                log.say(&self.loss(FeedLine::GlimpseLost, lost));
-            }
-            (Some(line), _) => log.say(&Named { line, name }),
+        match &why {
+            Some(line) if !line.is_a_cut() => log.say(&Named { line: *line, name }),
+            _ => log.say(&self.loss(next, lost)),
         }
         if let Some(trouble) = self.troubles.get_mut(server) {
             *trouble = why;

@@ -39,8 +39,12 @@ impl FeedSide<'_> {
         self.market_ns
     }
 
-    /// What is said of the loss of the server with this name.
-    pub(super) fn loss<'a>(&self, line: FeedLine, name: Option<&'a str>) -> Loss<'a> {
+    /// What is said of the loss of the server with this name, where the feed's next message has this number.
+    pub(super) fn loss<'a>(&self, next: Option<u64>, name: Option<&'a str>) -> Loss<'a> {
+        let line = match next {
+            Some(next) => FeedLine::Lost(next),
+            None => FeedLine::GlimpseLost,
+        };
         Loss {
             line,
             cause: self.cause,
