@@ -4,6 +4,7 @@ pub mod ReadParts
 pub mod Outputs
 pub mod Expectations
 pub mod ShownLines
+pub mod ShownRanges
 pub mod ListedLines
 pub mod OrdersLeft
 pub mod ListedHeads

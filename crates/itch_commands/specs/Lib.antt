@@ -10,6 +10,7 @@ pub mod Causes
 pub mod Changes
 pub mod Choices
 pub mod Showing
+pub mod Starts
 pub mod Sought
 pub mod Comparing
 pub mod FirstDifferences

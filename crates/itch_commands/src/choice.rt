@@ -8,15 +8,18 @@ ghost use Rattle.itch_commands.specs.Stocks.{names_of};
 use crate::fault::ToolFault;
 use crate::filters::Filters;
 use crate::sought::SoughtStocks;
+use crate::start::Start;
 use itch_codec::Message;
 use itch_market::LocateSet;
 use std::alloc::Allocator;
 use std::marker::Model;
 
-/// Which messages are shown: those that all that is given chooses. An order is followed through its replacements, and stocks are
+/// Which messages are shown: those that all that is given chooses, from the first one of a range on. An order is followed through its replacements, and stocks are
 /// looked up in the Stock Directory messages up to the message.
 #[derive(Drop)]
 pub struct Choice<'a, A: Allocator> {
+    // Where the range begins among the messages that come.
+    start: Start,
     only: Option<&'a LocateSet<A>>,
     stocks: Option<SoughtStocks<'a, A>>,
     types: Option<&'a str>,
@@ -31,7 +34,7 @@ impl<'a, A: Allocator> Model for Choice<'a, A> {
 
     ghost Value = { Chosen };
 
-    ghost view = { λ c. record { only = option_copied c.only; stocks = c.stocks; types = option_map (λ types. types.now) c.types; reference = c.reference } };
+    ghost view = { λ c. record { start = c.start; only = option_copied c.only; stocks = c.stocks; types = option_map (λ types. types.now) c.types; reference = c.reference } };
 }
 
 impl<'a, A: Allocator> Choice<'a, A> {
@@ -40,6 +43,7 @@ impl<'a, A: Allocator> Choice<'a, A> {
         ensures { result ≡ everything }
     {
         Choice {
+            start: Start::first(),
             only: None,
             stocks: None,
             types: None,
@@ -62,6 +66,7 @@ impl<'a, A: Allocator> Choice<'a, A> {
         ensures { MatchResult result (λ choice. choice ≡ chosen_by (option_copied only.entry) filters.entry) (λ fault. (fault ≡ ToolFault.OutOfMemory) × IsSome filters.entry.stocks) }
     {
         Ok(Choice {
+            start: filters.start,
             only,
             stocks: look_for(alloc, filters.stocks)?,
             types: filters.types,
@@ -73,16 +78,18 @@ impl<'a, A: Allocator> Choice<'a, A> {
     pub fn is_chosen(&self, message: &Message<'_>) -> bool
         ensures { result ≡ is_chosen self.now message.now }
     {
-        is_located(self.only, message)
+        self.start.is_begun(message.time())
+            && is_located(self.only, message)
             && is_sought(self.stocks.as_ref(), message)
             && is_typed(self.types, message)
             && is_about(self.reference, message)
     }
 
-    /// Passes a message, after which the order that is followed may have another reference number, and a locate another stock.
+    /// Passes a message, after which a range may begin, the order that is followed may have another reference number, and a locate another stock.
     pub fn follow(&mut self, message: &Message<'_>)
         ensures { self.new ≡ chosen_after self.old message.now }
     {
+        self.start = self.start.after(message.time());
         if let Some(stocks) = &mut self.stocks {
             stocks.pass(message);
         }

@@ -2,8 +2,8 @@
 
 use crate::words::argument::{Argument, Value};
 use crate::words::arguments::{
-    AFTER, BIND, FEED, FEED_FILE, FEED_SESSION, FILE, GLIMPSE_SESSION, JSON, MOST_COUNTED,
-    ONE_USER, ONLY, OUTPUT, PASSWORD, PASSWORD_FILE, PORT, PROGRESS, RECORDED, SESSION, STOCK,
+    AFTER, BIND, FEED, FEED_FILE, FEED_SESSION, FILE, FROM, GLIMPSE_SESSION, JSON, MOST_COUNTED,
+    ONE_USER, ONLY, OUTPUT, PASSWORD, PASSWORD_FILE, PORT, PROGRESS, RECORDED, SESSION, SINCE, STOCK,
     UNTIL, USER, USERS,
 };
 use clap::error::ErrorKind;
@@ -169,6 +169,8 @@ pub const COMMANDS: [Entry; 15] = [
         about: "Print the messages of a file, one per line",
         takes: &[
             FILE,
+            FROM,
+            SINCE,
             AFTER,
             UNTIL,
             RECORDED,

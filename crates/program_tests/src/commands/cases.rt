@@ -9,7 +9,7 @@ use itch_commands::show::show;
 use itch_commands::snap::snap;
 use itch_commands::{
     Book, BookForm, Command, FeedPart, FileKind, Filters, Limit, OrderForm, PairCommand, Selection,
-    ShowForm, ToolFault, perform, perform_pair, read_locates,
+    ShowForm, Start, ToolFault, perform, perform_pair, read_locates,
 };
 use itch_frame::BlockReader;
 use library_tests::doubles::{FuseWriter, PieceReader};
@@ -133,11 +133,18 @@ fn joined_of_stocks(alloc: Global, (snapshot, feed): Files<'_>, out: &mut FuseWr
     perform_pair::<_, _, _, _, Book<Global>, _>(alloc, command, None, &mut snapshot, &mut feed, out)
 }
 
+// The first message.
+const FIRST: Start = Start {
+    before: 0,
+    since: None,
+};
+
 // The messages of order 1, of some locates, stocks and types, with names.
 const SHOW_CHOSEN: Command<'static> = Command::Show {
     kind: WHOLE,
     form: ShowForm::Named,
     filters: Filters {
+        start: FIRST,
         only: Some("1-3"),
         stocks: Some("AAPL"),
         types: Some("FU"),
@@ -150,6 +157,7 @@ const SHOW_SNAPSHOT: Command<'static> = Command::Show {
     kind: FileKind::Snapshot,
     form: ShowForm::Json,
     filters: Filters {
+        start: FIRST,
         only: None,
         stocks: None,
         types: Some("AG"),
@@ -162,6 +170,7 @@ const SHOW_ORDERS: Command<'static> = Command::ShowOrders {
     limit: WHOLE_DAY,
     form: OrderForm::Csv,
     filters: Filters {
+        start: FIRST,
         only: None,
         stocks: Some("AAPL"),
         types: None,
