@@ -1,5 +1,5 @@
-"""Ranges of days, `--from` and `--since` beside `--after` and `--until`, over random days whose timestamps go back and forth: what the options
-select is written here again, from the tables of TotalView-ITCH 5.0.
+"""Ranges of days, `--from` and `--since` beside `--after` and `--until`, and `cut`, over random days whose timestamps go back and forth: what the
+options select is written here again, from the tables of TotalView-ITCH 5.0.
 
 RUNS has a function for each run, named for what it shows; it is given the program, and yields what differs.
 """
@@ -15,6 +15,7 @@ WAYS = 6
 
 
 def blocks_of(payloads):
+    """The day file of these payloads."""
     return b"".join(len(it).to_bytes(2, "big") + it for it in payloads)
 
 
@@ -119,9 +120,78 @@ def messages_before_a_range_are_passed(program):
         yield from differs(str(words), ended(program, "show", "day.itch", *words, day=day), (0, wanted, b""))
 
 
+class Selection:
+    """Some locates, stocks and types, and the words for them."""
+
+    def __init__(self, rng, payloads):
+        self.words, self.locates, self.stocks, self.types = [], None, None, None
+        stocks = sorted({it[11:19].decode().rstrip() for it in payloads if it[:1] == b"R"})
+        if rng.random() < 0.4:
+            self.locates = rng.sample((0, 1, 2, 7, 9, 65535), rng.randint(1, 4))
+            self.words += ["--only", ",".join(map(str, self.locates))]
+        if stocks and rng.random() < 0.5:
+            self.stocks = rng.sample(stocks, rng.randint(1, len(stocks)))
+            self.words += ["--stock", ",".join(self.stocks)]
+        if rng.random() < 0.3:
+            self.types = "".join(rng.sample("SRHYhLAFECXDUPQBINGVW", rng.randint(4, 16)))
+            self.words += ["--types", self.types]
+
+    def kept(self, payloads):
+        """The numbers of the messages that are kept. Those about no stock are, and so are those that are not decoded."""
+        named = {}
+        for number, it in enumerate(payloads, 1):
+            kind, locate = chr(it[0]), int.from_bytes(it[1:3], "big")
+            if kind == "R":
+                named[locate] = it[11:19].decode().rstrip()
+            about = kind in FIELDS and kind not in "SG"
+            if (not about or (self.locates is None or locate in self.locates) and (self.stocks is None or named.get(locate) in self.stocks)) \
+                    and (self.types is None or kind in self.types):
+                yield number
+
+
+def cut_writes_the_blocks_of_the_messages_that_it_keeps(program):
+    for seed in range(DAYS):
+        payloads, some = ranges(seed)
+        rng = random.Random(-seed)
+        for it in some:
+            selection = Selection(rng, payloads)
+            wanted = blocks_of(payloads[number - 1] for number in selection.kept(payloads) if number in it.numbers)
+            # (a stock that comes after the part is not known in it)
+            listed = {it[11:19].decode().rstrip() for it in payloads[:it.numbers.stop - 1] if it[:1] == b"R"}
+            status = int(not set(selection.stocks or ()) <= listed)
+            found = ended(program, "cut", "day.itch", *it.words, *selection.words, day=blocks_of(payloads))
+            yield from differs(f"seed {seed}: cut {it.words} {selection.words}", found[:2], (status, wanted))
+            yield from differs(f"seed {seed}: error", b"unknown stock" in found[2], bool(status))
+
+
+def what_is_cut_until_a_time_and_since_then_is_the_day(program):
+    for seed in range(DAYS):
+        payloads, rng = RandomDay(seed).payloads, random.Random(seed)
+        day, time = blocks_of(payloads), str(rng.choice([time_of(it) or 0 for it in payloads] or [0]))
+        parts = [ended(program, "cut", "day.itch", *words, day=day) for words in (("--until", time), ("--since", time))]
+        yield from differs(f"seed {seed}: {time}", (parts[0][1] + parts[1][1], *(it[0] for it in parts)), (day, 0, 0))
+
+
+def a_day_that_is_cut_to_locates_leaves_their_market(program):
+    """It follows the order rules, and its snapshot is that of the day, cut down, but for the number in End of Snapshot."""
+    for seed in range(DAYS):
+        payloads, rng = RandomDay(seed).payloads, random.Random(seed)
+        day = blocks_of(payloads)
+        stocks = sorted({it[11:19].decode().rstrip() for it in payloads if it[:1] == b"R"})
+        options = [("--only", "0"), ("--only", "1,2"), ("--only", "7-65535"), *(("--stock", it) for it in stocks)]
+        for words in options:
+            _, part, _ = ended(program, "cut", "day.itch", *words, day=day)
+            yield from differs(f"seed {seed}: check of {words}", ended(program, "check", "day.itch", day=part)[0], 0)
+            whole, found = (ended(program, "snap", "day.itch", *more, day=data) for more, data in ((words, day), ((), part)))
+            yield from differs(f"seed {seed}: snap of {words}", (found[0], found[1][:-23]), (0, whole[1][:-23]))
+
+
 RUNS = [
     show_of_a_range_has_the_lines_of_its_messages,
     orders_of_a_range_are_those_of_the_complete_day,
     what_comes_until_a_time_and_what_comes_since_then_are_all,
     messages_before_a_range_are_passed,
+    cut_writes_the_blocks_of_the_messages_that_it_keeps,
+    what_is_cut_until_a_time_and_since_then_is_the_day,
+    a_day_that_is_cut_to_locates_leaves_their_market,
 ]

@@ -5,6 +5,9 @@ pub mod Outputs
 pub mod Expectations
 pub mod ShownLines
 pub mod ShownRanges
+pub mod CutBlocks
+pub mod CutSkips
+pub mod CutDays
 pub mod ListedLines
 pub mod OrdersLeft
 pub mod ListedHeads

@@ -47,13 +47,13 @@ lines_of_range form chosen number (x ∷ xs) =
     by_test (is_begun chosen.start (time_of x))
     (λ begun.
     subst P (sym (ap (λ b. if b then [] else x ∷ others) begun))
-        (ap (λ (c : Chosen). line ++ chosen_lines form c (number + 1) xs) (sym (ap (after_with chosen x) (begun_after chosen.start (time_of x) begun)))
-        ∙ ap (λ l. l ++ rest) (sym (ap (line_if form chosen number x) begun))))
+    (ap (λ (c : Chosen). line ++ chosen_lines form c (number + 1) xs) (sym (ap (after_with chosen x) (begun_after chosen.start (time_of x) begun)))
+    ∙ ap (λ l. l ++ rest) (sym (ap (line_if form chosen number x) begun))))
     (λ ahead.
     subst P (sym (ap (λ b. if b then [] else x ∷ others) ahead))
-        (ap (λ t. line ++ t) (lines_of_range form (chosen_after chosen x) (number + 1) xs)
-        ∙ sym (append_assoc line (chosen_lines form (of_all (chosen_after chosen x)) (number + 1) others) rest)
-        ∙ ap (λ l. (line ++ chosen_lines form (of_all (chosen_after chosen x)) (number + 1) others) ++ (l ++ rest)) (sym (ap (line_if form chosen number x) ahead))))
+    (ap (λ t. line ++ t) (lines_of_range form (chosen_after chosen x) (number + 1) xs)
+    ∙ sym (append_assoc line (chosen_lines form (of_all (chosen_after chosen x)) (number + 1) others) rest)
+    ∙ ap (λ l. (line ++ chosen_lines form (of_all (chosen_after chosen x)) (number + 1) others) ++ (l ++ rest)) (sym (ap (line_if form chosen number x) ahead))))
 
 pub range_from : (before : ℕ) (xs : List Message) → before_range (from before None) xs ≡ take before xs
 unfolding before_range
@@ -61,8 +61,10 @@ range_from zero [] = refl
 range_from (suc n) [] = refl
 range_from zero (x ∷ xs) = refl
 range_from (suc n) (x ∷ xs) =
+    let ahead : (suc n == 0) ≡ false = grind (arith, nat_tests) in
     let one_less : suc n - 1 ≡ n = omega arith in
-    ap (λ k. x ∷ before_range (from k None) xs) one_less ∙ ap (λ ys. x ∷ ys) (range_from n xs)
+    ap (λ b. if b && true then [] else x ∷ before_range (from (suc n - 1) None) xs) ahead ∙ ap (λ k. x ∷ before_range (from k None) xs) one_less
+    ∙ ap (λ ys. x ∷ ys) (range_from n xs)
 
 pub range_since : (since : ℕ) (xs : List Message) → before_range (from 0 (Some since)) xs ≡ before_time since xs
 unfolding before_range before_time

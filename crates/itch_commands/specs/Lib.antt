@@ -29,5 +29,6 @@ pub mod Expectations
 pub mod OrderForms
 pub mod OrdersBehind
 pub mod ListedOrders
+pub mod Cuts
 pub mod Tallies
 pub mod Infos

@@ -2,9 +2,11 @@
 ghost use Rattle.std.specs.Prelude.{◌≡◌, IsSome, MatchResult, option_map};
 ghost use Rattle.std.specs.Option.{option_copied};
 ghost use Rattle.itch_commands.specs.Choices.{everything, chosen_by, is_located, is_typed, is_about, is_chosen, renamed, chosen_after};
+ghost use Rattle.itch_commands.specs.Cuts.{Skips, has_stock, is_in, is_kept, is_of_stocks, stock_of};
 ghost use Rattle.itch_commands.specs.Sought.{are_found, is_sought, sought};
 ghost use Rattle.itch_commands.specs.Stocks.{names_of};
 
+use crate::cut::order_at;
 use crate::fault::ToolFault;
 use crate::filters::Filters;
 use crate::sought::SoughtStocks;
@@ -83,6 +85,48 @@ impl<'a, A: Allocator> Choice<'a, A> {
             && is_sought(self.stocks.as_ref(), message)
             && is_typed(self.types, message)
             && is_about(self.reference, message)
+    }
+
+    /// Whether a message is kept by `cut`: one about no stock is, whatever stocks are chosen.
+    pub fn keeps(&self, message: &Message<'_>) -> bool
+        ensures { result ≡ is_kept self.now message.now }
+    {
+        self.start.is_begun(message.time())
+            && self.is_of_stocks(message)
+            && is_typed(self.types, message)
+            && is_about(self.reference, message)
+    }
+
+    // Whether a message is of the stocks that are chosen.
+    fn is_of_stocks(&self, message: &Message<'_>) -> bool
+        ensures { result ≡ is_of_stocks self.now message.now (stock_of message.now) }
+    {
+        match stock_of(message) {
+            None => true,
+            Some(_) => is_located(self.only, message) && is_sought(self.stocks.as_ref(), message),
+        }
+    }
+
+    /// Passes the message of a payload and returns true, if that shows at a glance that it is not kept. Otherwise it returns false, and
+    /// nothing changes.
+    #[inline(always)]
+    pub fn skip(&mut self, payload: &[u8]) -> bool
+        ensures { Skips self.old payload.now result self.new }
+    {
+        if self.start.since.is_some() || self.reference.is_some() {
+            return false;
+        }
+        let Some(locate) = order_at(payload) else {
+            return false;
+        };
+        if self.start.before == 0
+            && is_in(self.only, locate)
+            && has_stock(self.stocks.as_ref(), locate)
+        {
+            return false;
+        }
+        self.start = self.start.after(None);
+        true
     }
 
     /// Passes a message, after which a range may begin, the order that is followed may have another reference number, and a locate another stock.
@@ -172,5 +216,40 @@ fn renamed(message: &Message<'_>, reference: u64) -> u64
     match message {
         Message::OrderReplace(replace) if replace.original == reference => replace.reference,
         _ => reference,
+    }
+}
+
+// The locate of the stock that a message is about, if it is about one. Of a message without a header that is not known.
+fn stock_of(message: &Message<'_>) -> Option<u16>
+    ensures { result ≡ stock_of message.now }
+{
+    match message {
+        Message::SystemEvent(_) => None,
+        _ => match message.header() {
+            Some(header) => Some(header.locate),
+            None => None,
+        },
+    }
+}
+
+// Whether a locate is in the set, if there is one.
+#[inline(always)]
+fn is_in<A: Allocator>(only: Option<&LocateSet<A>>, locate: u16) -> bool
+    ensures { result ≡ is_in (option_copied only.entry) locate }
+{
+    match only {
+        None => true,
+        Some(set) => set.contains(locate),
+    }
+}
+
+// Whether a locate has one of the stocks that are looked for, if any are.
+#[inline(always)]
+fn has_stock<A: Allocator>(stocks: Option<&SoughtStocks<'_, A>>, locate: u16) -> bool
+    ensures { result ≡ has_stock (option_copied stocks.entry) locate }
+{
+    match stocks {
+        None => true,
+        Some(stocks) => stocks.has(locate),
     }
 }

@@ -19,6 +19,7 @@ pub mod canon;
 pub mod check;
 mod choice;
 pub mod compare;
+mod cut;
 mod expected;
 mod fault;
 mod feed_part;

@@ -43,7 +43,7 @@ pub(crate) fn columns(row: &str) -> Result<(&str, &str), Fail> {
 }
 
 // Words after the program's name, and the request that they are.
-const REQUESTS: [&str; 45] = [
+const REQUESTS: [&str; 49] = [
     "snap => One { file: None, command: Snap { limit: Limit { after: None, until: None }, selection: All } }",
     "snap day.itch => One { file: Some(\"day.itch\"), command: Snap { limit: Limit { after: None, until: None }, selection: All } }",
     "snap day.itch --after 0 => One { file: Some(\"day.itch\"), command: Snap { limit: Limit { after: Some(0), until: None }, selection: All } }",
@@ -62,6 +62,10 @@ const REQUESTS: [&str; 45] = [
     "show --orders day.itch => One { file: Some(\"day.itch\"), command: ShowOrders { limit: Limit { after: None, until: None }, form: Text, filters: Filters { start: Start { before: 0, since: None }, only: None, stocks: None, types: None, reference: None } } }",
     "show --orders --csv --after 2 --until 7 --stock AAPL => One { file: None, command: ShowOrders { limit: Limit { after: Some(2), until: Some(7) }, form: Csv, filters: Filters { start: Start { before: 0, since: None }, only: None, stocks: Some(\"AAPL\"), types: None, reference: None } } }",
     "show --json --orders --reference 7 => One { file: None, command: ShowOrders { limit: Limit { after: None, until: None }, form: Json, filters: Filters { start: Start { before: 0, since: None }, only: None, stocks: None, types: None, reference: Some(7) } } }",
+    "show --from 3 --since 9:30 --until 9:31 => One { file: None, command: Show { kind: Day(Limit { after: None, until: Some(34260000000000) }), form: Text, filters: Filters { start: Start { before: 2, since: Some(34200000000000) }, only: None, stocks: None, types: None, reference: None } } }",
+    "show --orders --from 001 - => One { file: None, command: ShowOrders { limit: Limit { after: None, until: None }, form: Text, filters: Filters { start: Start { before: 0, since: None }, only: None, stocks: None, types: None, reference: None } } }",
+    "cut day.itch => One { file: Some(\"day.itch\"), command: Cut { limit: Limit { after: None, until: None }, filters: Filters { start: Start { before: 0, since: None }, only: None, stocks: None, types: None, reference: None } } }",
+    "cut --from 2 --after 5 --since 7 --until 9 --only 1-3 --stock AAPL --types AE => One { file: None, command: Cut { limit: Limit { after: Some(5), until: Some(9) }, filters: Filters { start: Start { before: 1, since: Some(7) }, only: Some(\"1-3\"), stocks: Some(\"AAPL\"), types: Some(\"AE\"), reference: None } } }",
     "canon => One { file: None, command: Canon { check: false } }",
     "canon day.itch => One { file: Some(\"day.itch\"), command: Canon { check: false } }",
     "canon --check => One { file: None, command: Canon { check: true } }",
@@ -136,6 +140,7 @@ fn a_snapshot_is_sent_to_a_file(rt: HostRuntime) -> TestResult {
         "canon --output=./- day.snap => ./-",
         "join a.snap day.itch --only 1 --output out.snap => out.snap",
         "fetch --port 1 --user u --pass p --output out.snap => out.snap",
+        "cut day.itch --output part.itch => part.itch",
         "check day.itch => nowhere",
     ] {
         let (line, path) = columns(row)?;
@@ -145,6 +150,7 @@ fn a_snapshot_is_sent_to_a_file(rt: HostRuntime) -> TestResult {
     for line in [
         "snap day.itch",
         "snap --output - day.itch",
+        "cut day.itch --from 2",
         "canon --check --output out.snap",
     ] {
         holds_in(&rt, line, sent_to(rt.alloc(), line)?.is_none());

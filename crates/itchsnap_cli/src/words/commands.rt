@@ -3,8 +3,8 @@
 use crate::words::argument::{Argument, Value};
 use crate::words::arguments::{
     AFTER, BIND, FEED, FEED_FILE, FEED_SESSION, FILE, FROM, GLIMPSE_SESSION, JSON, MOST_COUNTED,
-    ONE_USER, ONLY, OUTPUT, PASSWORD, PASSWORD_FILE, PORT, PROGRESS, RECORDED, SESSION, SINCE, STOCK,
-    UNTIL, USER, USERS,
+    ONE_USER, ONLY, OUTPUT, PASSWORD, PASSWORD_FILE, PORT, PROGRESS, RECORDED, SESSION, SINCE,
+    STOCK, UNTIL, USER, USERS,
 };
 use clap::error::ErrorKind;
 use clap::{Command, Error};
@@ -20,7 +20,7 @@ pub struct Entry {
 }
 
 /// The commands.
-pub const COMMANDS: [Entry; 15] = [
+pub const COMMANDS: [Entry; 16] = [
     Entry {
         name: "snap",
         about: "Write the snapshot of the market that a day file leaves",
@@ -210,6 +210,35 @@ pub const COMMANDS: [Entry; 15] = [
             PROGRESS,
         ],
         example: "Example: itchsnap show day.itch --reference 7",
+    },
+    Entry {
+        name: "cut",
+        about: "Write the messages of a part of a day file, as a day file",
+        takes: &[
+            FILE,
+            FROM,
+            SINCE,
+            AFTER,
+            UNTIL,
+            Argument::Optional {
+                long: "only",
+                value: Value::Text("LIST"),
+                help: "Keep only messages of these locates, such as 1-40,77, and those of no stock",
+            },
+            Argument::Optional {
+                long: "stock",
+                value: Value::Text("LIST"),
+                help: "Keep only messages of these stocks, such as AAPL,MSFT, and those of no stock",
+            },
+            Argument::Optional {
+                long: "types",
+                value: Value::Text("LETTERS"),
+                help: "Keep only messages of these types, such as AEX",
+            },
+            OUTPUT,
+            PROGRESS,
+        ],
+        example: "Example: itchsnap cut day.itch --stock AAPL --since 9:30 > aapl.itch",
     },
     Entry {
         name: "book",

@@ -71,6 +71,10 @@ fn read_command<'a>(
             limit: read_limit(alloc, options)?,
             form: read_form(options),
         }),
+        "cut" => Ok(Command::Cut {
+            limit: read_limit(alloc, options)?,
+            filters: read_filters(alloc, options)?,
+        }),
         "show" if options.get_flag("orders") => read_orders(alloc, options),
         "show" => read_show(alloc, options),
         _ => Err(usage_fault(alloc, "a command is missing")?),

@@ -27,6 +27,7 @@ pub(super) enum Single {
     ShowChosen,
     ShowSnapshot,
     ShowOrders,
+    Cut,
     Book,
     BookLocates,
     SnapStocks,
@@ -178,6 +179,18 @@ const SHOW_ORDERS: Command<'static> = Command::ShowOrders {
     },
 };
 
+// The messages of two types, as they are.
+const CUT_TYPES: Command<'static> = Command::Cut {
+    limit: WHOLE_DAY,
+    filters: Filters {
+        start: FIRST,
+        only: None,
+        stocks: None,
+        types: Some("FU"),
+        reference: None,
+    },
+};
+
 const BOOK_LOCATES: Command<'static> = Command::Book {
     selection: Selection::Locates("1"),
     depth: None,
@@ -222,6 +235,7 @@ pub(super) fn perform_single(
         Single::ShowChosen => performed(alloc, SHOW_CHOSEN, Some("1-3"), reader, out),
         Single::ShowSnapshot => performed(alloc, SHOW_SNAPSHOT, None, reader, out),
         Single::ShowOrders => performed(alloc, SHOW_ORDERS, None, reader, out),
+        Single::Cut => performed(alloc, CUT_TYPES, None, reader, out),
         Single::BookLocates => performed(alloc, BOOK_LOCATES, Some("1"), reader, out),
         Single::SnapStocks => performed(alloc, SNAP_STOCKS, None, reader, out),
         Single::BookStocks => performed(alloc, BOOK_STOCKS, None, reader, out),
@@ -256,6 +270,7 @@ pub(super) fn wanted(alloc: Global, command: Single) -> Result<Vec<u8>, Fail> {
         Single::ShowOrders => Ok(Vec::from_slice(alloc, ORDERS_AS_CSV)?),
         Single::Book => Ok(Vec::from_slice(alloc, b"1 AAPL\nB 150.0000 300 2\n")?),
         Single::BookLocates | Single::BookStocks => Ok(Vec::from_slice(alloc, AS_CSV)?),
+        Single::Cut => file(alloc, "ATTRIBUTED_1 REPLACE_1_BY_3"),
         Single::Snap | Single::SnapStocks | Single::Canon => file(alloc, SNAPSHOT),
     }
 }
