@@ -168,26 +168,23 @@ module _ {W T N : Type 0} (contents : W → Option (List ℕ)) (failures : W →
   )
 
 -- no part fails with an unknown stock
-pub cut_never : {R W : Type 0} (contents : W → Option (List ℕ)) (failures : W → Failures) (remaining : R → Option (List ℕ)) (failed_reads : R → Failures) (limit : Limit) (chosen : Chosen)
-    (old new : Reading R) (out out' : W) → CutsPart contents failures remaining failed_reads limit chosen old new out (Err tool.UnknownStock) out' → ⊥
-cut_never contents failures remaining failed_reads limit chosen old new out out' (payloads, count, mid, why, off, left, is) = by_stop why off.stops is where
-  abbrev Stops : Part ToolFault → Type 0
-  Stops why = StopsAt remaining (HoldsBack contents failures (chosen_past chosen (map message_of payloads))) limit count mid off.last why out'
+module _ {R W : Type 0} (contents : W → Option (List ℕ)) (failures : W → Failures) (remaining : R → Option (List ℕ)) (failed_reads : R → Failures) (limit : Limit) (chosen : Chosen) where
+  ended_never : (wanted : Option ℕ) (count : ℕ) (found : Bool) → Err tool.UnknownStock ≡ ended_show wanted count found → ⊥
+  ended_never None count found is = cc
+  ended_never (Some most) count found is = cc
 
-  abbrev found : Bool
-  found = are_found (Chosen.stocks (chosen_past chosen (map message_of payloads)))
-
-  by_end : (wanted : Option ℕ) → Err tool.UnknownStock ≡ ended_show wanted count found → ⊥
-  by_end None is = cc
-  by_end (Some most) is = cc
-
-  by_stop : (why : Part ToolFault) → Stops why → Err tool.UnknownStock ≡ answer_of limit.after count found why → ⊥
-  by_stop part.Full stops is = cc
-  by_stop part.Late stops is = cc
-  by_stop part.End stops is = by_end limit.after is
-  by_stop (part.Frame why) stops is = cc
-  by_stop part.TooMany stops is = cc
-  by_stop (part.Refused why) (before, (p, next, full, few, early, held)) is =
+  stopped_never : (now : Chosen) (count : ℕ) (found : Bool) (mid : Reading R) (last out : W) (why : Part ToolFault)
+      → StopsAt remaining (HoldsBack contents failures now) limit count mid last why out → Err tool.UnknownStock ≡ answer_of limit.after count found why → ⊥
+  stopped_never now count found mid last out part.Full stops is = cc
+  stopped_never now count found mid last out part.Late stops is = cc
+  stopped_never now count found mid last out part.End stops is = ended_never limit.after count found is
+  stopped_never now count found mid last out (part.Frame why) stops is = cc
+  stopped_never now count found mid last out part.TooMany stops is = cc
+  stopped_never now count found mid last out (part.Refused why) (before, (p, next, full, few, early, held)) is =
       let same : why ≡ tool.UnknownStock = cc in
-      let never = subst (λ w. HoldsBack contents failures (chosen_past chosen (map message_of payloads)) off.last (count + 1) p w out') same held in
+      let never = subst (λ w. HoldsBack contents failures now last (count + 1) p w out) same held in
       never.1
+
+  pub cut_never : (old new : Reading R) (out out' : W) → CutsPart contents failures remaining failed_reads limit chosen old new out (Err tool.UnknownStock) out' → ⊥
+  cut_never old new out out' (payloads, count, mid, why, off, left, is) =
+      stopped_never (chosen_past chosen (map message_of payloads)) count (are_found (Chosen.stocks (chosen_past chosen (map message_of payloads)))) mid off.last out' why off.stops is

@@ -65,13 +65,13 @@ module _ (set : Wanted) where
 
   module _ (x : Message) (xs ys : List Message) (m : Content) (rest : (n : Content) → FollowsFrom n ys → Leads n xs ys) where
     both : (b : Bool) → FollowsFrom m (if b then x ∷ ys else ys) → Leads m (if b then x ∷ xs else xs) (if b then x ∷ ys else ys)
-    both true (none, follows) = let then = rest (effect m x) follows in ((none, then.0), then.1)
+    both true (none, follows) = let later = rest (effect m x) follows in ((none, later.0), later.1)
     both false follows = rest m follows
 
     without : (b : Bool) → effect m x ≡ m → FollowsFrom m (x ∷ ys) → Leads m (if b then x ∷ xs else xs) (x ∷ ys)
     without true same follows = both true follows
     without false same (none, follows) =
-        let then = rest m (subst (λ n. FollowsFrom n ys) same follows) in (then.0, then.1 ∙ sym (ap (λ n. after n ys) same))
+        let later = rest m (subst (λ n. FollowsFrom n ys) same follows) in (later.0, later.1 ∙ sym (ap (λ n. after n ys) same))
 
     one_more : IsAlike x → FollowsFrom m (if takes x then x ∷ ys else ys) → Leads m (if keeps x then x ∷ xs else xs) (if takes x then x ∷ ys else ys)
     one_more (inl same) follows = subst (λ b. Leads m (if b then x ∷ xs else xs) (if takes x then x ∷ ys else ys)) (sym same) (both (takes x) follows)

@@ -6,7 +6,6 @@ pub mod Expectations
 pub mod ShownLines
 pub mod ShownRanges
 pub mod CutBlocks
-pub mod CutSkips
 pub mod CutDays
 pub mod ListedLines
 pub mod OrdersLeft
