@@ -38,35 +38,38 @@ first_block chosen p ps =
     (λ kept. ap (λ b. blocks (if b then p ∷ others else others)) kept ∙ sym (ap (λ b. (if b then block p else []) ++ blocks others) kept))
     (λ left. ap (λ b. blocks (if b then p ∷ others else others)) left ∙ sym (ap (λ b. (if b then block p else []) ++ blocks others) left))
 
-module _ {W T N : Type 0} (contents : W → Option (List ℕ)) (failures : W → Failures) (at : T → W) (name : T → N) (choice : T → Chosen) where
+module _ {W T N M : Type 0} (contents : W → Option (List ℕ)) (failures : W → Failures) (at : T → W) (name : T → N) (choice_name : T → M) (choice : T → Chosen) where
   -- a sink that writes to what it lends
   abbrev pub Cut : T → ℕ → List ℕ → T → Type 0
-  Cut s number payload t = (name t ≡ name s) × CutsMessage contents failures payload (choice s) (at s) (choice t) (at t)
+  Cut s number payload t = (name t ≡ name s) × (choice_name t ≡ choice_name s) × CutsMessage contents failures payload (choice s) (at s) (choice t) (at t)
 
   abbrev pub Held : T → ℕ → List ℕ → ToolFault → T → Type 0
-  Held s number payload why t = (name t ≡ name s) × ((65535 < length payload) ⊎ HoldsBack contents failures (choice s) (at s) number payload why (at t))
+  Held s number payload why t = (name t ≡ name s) × (choice_name t ≡ choice_name s) × ((65535 < length payload) ⊎ HoldsBack contents failures (choice s) (at s) number payload why (at t))
+
+  abbrev pub SameNames : T → T → Type 0
+  SameNames s t = (name t ≡ name s) × (choice_name t ≡ choice_name s)
 
   -- the blocks of the kept ones of these payloads were written
   record AreCut (s : T) (ps : List (List ℕ)) (t : T) : Type 0 where
-    pub named : name t ≡ name s
+    pub named : SameNames s t
     pub clean : AllByRecursion IsClean ps
     pub chosen : choice t ≡ chosen_past (choice s) (map message_of ps)
     pub wrote : Wrote contents failures (blocks (kept_of (choice s) ps)) (at s) (at t)
 
   are_cut : (s t : T) (count : ℕ) (ps : List (List ℕ)) → TakesAll Cut s count ps t → AreCut s ps t
   are_cut s t count [] takes = record {
-    named = ap name takes;
+    named = (ap name takes, ap choice_name takes);
     clean = tt;
     chosen = ap choice takes ∙ past_none (choice s);
     wrote = subst (λ x. Wrote contents failures (blocks (kept_of (choice s) [])) (at s) (at x)) (sym takes)
         (subst (λ bytes. Wrote contents failures bytes (at s) (at s)) (sym (no_blocks (choice s))) (Appends-nil (contents (at s)), refl));
   }
-  are_cut s t count (p ∷ ps) (mid, (named, (clean, (bytes, uncounted), next)), rest) =
+  are_cut s t count (p ∷ ps) (mid, (named, choice_named, (clean, (bytes, uncounted), next)), rest) =
       let later = are_cut mid t (count + 1) ps rest in
       let first : List ℕ = kept_block (choice s) p in
       let others : blocks (kept_of (choice mid) ps) ≡ blocks (kept_of (chosen_after (choice s) (message_of p)) ps) = ap (λ c. blocks (kept_of c ps)) next in
       record {
-        named = later.named ∙ named;
+        named = (later.named.0 ∙ named, later.named.1 ∙ choice_named);
         clean = (clean, later.clean);
         chosen = later.chosen ∙ ap (λ c. chosen_past c (map message_of ps)) next ∙ past_on (choice s) (message_of p) (map message_of ps);
         wrote = (
@@ -111,18 +114,21 @@ module _ {W T N : Type 0} (contents : W → Option (List ℕ)) (failures : W →
     stops_so (part.Frame (Write sent error)) never = absurd never
     stops_so (part.Frame TooLong) never = absurd never
     stops_so part.TooMany (same, before, next) = (ap at same, before, next)
-    stops_so (part.Refused why) (before, (p, next, full, few_before, early, (named, held))) = (before, (p, next, full, few_before, early, held_so p why full held))
+    stops_so (part.Refused why) (before, (p, next, full, few_before, early, (named, choice_named, held))) = (before, (p, next, full, few_before, early, held_so p why full held))
 
-    named_so : (why : Part ToolFault) → Stops why → name t ≡ name s
-    named_so part.Full (same, most) = ap name same ∙ done.named
-    named_so part.Late (same, before, next) = ap name same ∙ done.named
-    named_so part.End (same, before, next) = ap name same ∙ done.named
-    named_so (part.Frame (Truncated held)) (same, before, cut, is_held, some) = ap name same ∙ done.named
-    named_so (part.Frame (Read error)) (same, before, going) = ap name same ∙ done.named
+    still : t ≡ last → SameNames s t
+    still same = (ap name same ∙ done.named.0, ap choice_name same ∙ done.named.1)
+
+    named_so : (why : Part ToolFault) → Stops why → SameNames s t
+    named_so part.Full (same, most) = still same
+    named_so part.Late (same, before, next) = still same
+    named_so part.End (same, before, next) = still same
+    named_so (part.Frame (Truncated held)) (same, before, cut, is_held, some) = still same
+    named_so (part.Frame (Read error)) (same, before, going) = still same
     named_so (part.Frame (Write sent error)) never = absurd never
     named_so (part.Frame TooLong) never = absurd never
-    named_so part.TooMany (same, before, next) = ap name same ∙ done.named
-    named_so (part.Refused why) (before, (p, next, full, few_before, early, (named, held))) = named ∙ done.named
+    named_so part.TooMany (same, before, next) = still same
+    named_so (part.Refused why) (before, (p, next, full, few_before, early, (named, choice_named, held))) = (named ∙ done.named.0, choice_named ∙ done.named.1)
 
     -- what is returned depends on what chooses messages where the part ends
     abbrev answer : Chosen → Part ToolFault → Result Bool ToolFault
@@ -141,7 +147,7 @@ module _ {W T N : Type 0} (contents : W → Option (List ℕ)) (failures : W →
     cuts_off why stops leaves counts = record {
       last = at last;
       off = off;
-      counted = taken.counted;
+      counted = omega (arith, taken.counted);
       wanted = taken.wanted;
       wrote = done.wrote;
       stops = stops_so why stops;
@@ -152,19 +158,19 @@ module _ {W T N : Type 0} (contents : W → Option (List ℕ)) (failures : W →
   -- what reading a part into such a sink writes, returns and leaves
   pub cut_part : {R : Type 0} (remaining : R → Option (List ℕ)) (failed_reads : R → Failures) (limit : Limit) (old new : Reading R) (count : ℕ) (s t : T) (why : Part ToolFault)
       → ReadsPart remaining failed_reads Cut Held limit old new 0 count s why t → count ≤ 10 ^ 19 - 1
-      → (name t ≡ name s)
+      → SameNames s t
       × CutsPart contents failures remaining failed_reads limit (choice s) old (left_by why new) (at s) (answer_of limit.after count (are_found (Chosen.stocks (choice t))) why) (at t)
   cut_part remaining failed_reads limit old new count s t why reads few = (
     named_so remaining failed_reads limit old new count s reads.last t reads.payloads reads.taken few why reads.stops,
-    (
-      reads.payloads,
-      count,
-      new,
-      why,
-      cuts_off remaining failed_reads limit old new count s reads.last t reads.payloads reads.taken few why reads.stops reads.leaves reads.counts,
-      refl,
-      answers_so remaining failed_reads limit old new count s reads.last t reads.payloads reads.taken few why reads.stops,
-    ),
+    record {
+      payloads = reads.payloads;
+      count = count;
+      mid = new;
+      stop = why;
+      cuts = cuts_off remaining failed_reads limit old new count s reads.last t reads.payloads reads.taken few why reads.stops reads.leaves reads.counts;
+      left = refl;
+      answer = answers_so remaining failed_reads limit old new count s reads.last t reads.payloads reads.taken few why reads.stops;
+    },
   )
 
 -- no part fails with an unknown stock
@@ -186,5 +192,6 @@ module _ {R W : Type 0} (contents : W → Option (List ℕ)) (failures : W → F
       never.1
 
   pub cut_never : (old new : Reading R) (out out' : W) → CutsPart contents failures remaining failed_reads limit chosen old new out (Err tool.UnknownStock) out' → ⊥
-  cut_never old new out out' (payloads, count, mid, why, off, left, is) =
-      stopped_never (chosen_past chosen (map message_of payloads)) count (are_found (Chosen.stocks (chosen_past chosen (map message_of payloads)))) mid off.last out' why off.stops is
+  cut_never old new out out' part =
+      let now : Chosen = chosen_past chosen (map message_of part.payloads) in
+      stopped_never now part.count (are_found (Chosen.stocks now)) part.mid part.cuts.last out' part.stop part.cuts.stops part.answer

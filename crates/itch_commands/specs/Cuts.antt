@@ -112,10 +112,14 @@ module _ {W : Type 0} (contents : W → Option (List ℕ)) (failures : W → Fai
       pub counts : Counts stop (failed_reads old.reader) (failed_reads mid.reader)
 
     -- the same, with what is returned then. The message that stops it is passed
-    abbrev pub CutsPart : Reading R → Reading R → W → Result Bool ToolFault → W → Type 0
-    CutsPart old new out result out' =
-        (payloads : List (List ℕ)) × (count : ℕ) × (mid : Reading R) × (stop : Part ToolFault) × CutsOff old mid count out stop out' payloads
-        × (new ≡ left_by stop mid) × (result ≡ answer_of limit.after count (are_found (Chosen.stocks (chosen_past chosen (map message_of payloads)))) stop)
+    pub record CutsPart (old new : Reading R) (out : W) (result : Result Bool ToolFault) (out' : W) : Type 0 where
+      pub payloads : List (List ℕ)
+      pub count : ℕ
+      pub mid : Reading R
+      pub stop : Part ToolFault
+      pub cuts : CutsOff old mid count out stop out' payloads
+      pub left : new ≡ left_by stop mid
+      pub answer : result ≡ answer_of limit.after count (are_found (Chosen.stocks (chosen_past chosen (map message_of payloads)))) stop
 
     -- the same, and each of the stocks that are looked for was found
     abbrev pub Cuts : Reading R → Reading R → W → Result Bool ToolFault → W → Type 0

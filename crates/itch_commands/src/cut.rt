@@ -58,8 +58,12 @@ fn cut_part<R: CountedRead, B: Allocator, A: Allocator, W: CountedWrite>(
 ) -> Result<bool, ToolFault>
     ensures { CutsPart W.contents W.failures R.remaining R.failures limit choice.entry reader.old reader.new out.old result out.new }
 {
+    let mut choice = choice;
     let mut count = 0;
-    let mut blocks = KeptBlocks { out, choice };
+    let mut blocks = KeptBlocks {
+        out,
+        choice: &mut choice,
+    };
     let stop = read_part(reader, &mut count, &mut blocks, limit);
     pass_stop(reader, &stop);
     answer(stop, limit.after, count, blocks.has_found_all())

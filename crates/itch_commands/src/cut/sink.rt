@@ -15,21 +15,21 @@ use std::alloc::Allocator;
 
 /// Writes the blocks of those messages that are kept.
 #[derive(Drop)]
-pub struct KeptBlocks<'a, 'b, A: Allocator, W: CountedWrite> {
+pub struct KeptBlocks<'a, 'b, 'c, A: Allocator, W: CountedWrite> {
     pub out: &'b mut W,
-    pub choice: Choice<'a, A>,
+    pub choice: &'c mut Choice<'a, A>,
 }
 
-impl<'a, 'b, A: Allocator, W: CountedWrite> KeptBlocks<'a, 'b, A, W> {
+impl<'a, 'b, 'c, A: Allocator, W: CountedWrite> KeptBlocks<'a, 'b, 'c, A, W> {
     /// Whether each of the stocks that are looked for has come.
     pub fn has_found_all(&self) -> bool
-        ensures { result ≡ are_found (Chosen.stocks self.now.choice) }
+        ensures { result ≡ are_found (Chosen.stocks self.now.choice.now) }
     {
         self.choice.has_found_all()
     }
 }
 
-impl<'a, 'b, A: Allocator, W: CountedWrite> Sink for KeptBlocks<'a, 'b, A, W> {
+impl<'a, 'b, 'c, A: Allocator, W: CountedWrite> Sink for KeptBlocks<'a, 'b, 'c, A, W> {
     ghost use Rattle.std.specs.Prelude.{◌≡◌, ◌⊎◌, ◌<◌, length};
     ghost use Rattle.itch_commands.specs.Cuts.{CutsMessage, HoldsBack};
 
@@ -37,10 +37,12 @@ impl<'a, 'b, A: Allocator, W: CountedWrite> Sink for KeptBlocks<'a, 'b, A, W> {
 
     ghost is_ready = { λ _ _. Unit {0} };
 
-    ghost takes = { λ s number payload t. (t.out.ghost_name ≡ s.out.ghost_name) × CutsMessage W.contents W.failures payload s.choice s.out.now t.choice t.out.now };
+    ghost takes = { λ s number payload t. (t.out.ghost_name ≡ s.out.ghost_name) × (t.choice.ghost_name ≡ s.choice.ghost_name)
+        × CutsMessage W.contents W.failures payload s.choice.now s.out.now t.choice.now t.out.now };
 
     ghost refuses = { λ s number payload why t. (t.out.ghost_name ≡ s.out.ghost_name)
-        × ((65535 < length payload) ⊎ HoldsBack W.contents W.failures s.choice s.out.now number payload why t.out.now) };
+        × (t.choice.ghost_name ≡ s.choice.ghost_name)
+        × ((65535 < length payload) ⊎ HoldsBack W.contents W.failures s.choice.now s.out.now number payload why t.out.now) };
 
     #[inline(always)]
     fn take(
