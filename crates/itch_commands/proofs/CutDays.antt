@@ -1,5 +1,5 @@
 -- Messages that are cut to the locates of a set follow the order rules if all of them do, and leave the market of these locates.
-use Rattle.std.proofs.Common.{◌≡◌, ℕ, ◌⊎◌, ◌&&◌, Bool, true, false, not, List, [], ◌∷◌, map, filter, Option, None, Some, inl, inr, refl, sym, ap, subst, ◌∙◌, if◌then◌else◌}
+use Rattle.std.proofs.Common.{◌≡◌, ℕ, ◌⊎◌, ◌&&◌, Bool, true, false, not, List, [], ◌∷◌, map, filter, inl, inr, refl, sym, ap, subst, ◌∙◌, if◌then◌else◌}
 use Rattle.itch_book.proofs.Lists.{by_test}
 use Rattle.itch_codec.specs.Messages.{message_of}
 use Rattle.itch_codec.specs.declared.message.Message.{Message}

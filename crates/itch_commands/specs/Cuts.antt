@@ -1,5 +1,5 @@
 -- What `cut` writes of a day: the blocks of some messages, as they are.
-use Rattle.std.specs.Prelude.{◌≡◌, ◌⊎◌, ℕ, ◌-◌, ◌^◌, ◌<◌, ◌≤◌, ◌&&◌, Bool, true, false, List, [], ◌∷◌, length, map, Option, None, Some, IsSome, option_map, Result, Ok, Err, if◌then◌else◌}
+use Rattle.std.specs.Prelude.{◌≡◌, ◌⊎◌, ℕ, ◌-◌, ◌<◌, ◌&&◌, Bool, true, false, List, [], ◌∷◌, length, map, Option, None, Some, IsSome, option_map, Result, Ok, Err, if◌then◌else◌}
 use Rattle.itch_codec.specs.Headers.{header, time_of}
 use Rattle.itch_codec.specs.Messages.{message_of}
 use Rattle.itch_codec.specs.declared.header.Header.{Header}
