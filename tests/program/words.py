@@ -195,7 +195,7 @@ def completed(program, *typed):
 
 def bash_completes_what_is_typed(program):
     rows = {
-        ("itchsnap", "c"): ["check", "compare", "canon", "completions"],
+        ("itchsnap", "c"): ["check", "compare", "canon", "cut", "completions"],
         ("itchsnap", ""): [*commands(program), "help", "--help", "--version"],
         ("itchsnap", "snap", "--"): ["--after", "--until", "--every", "--to", "--only", "--stock", "--output", "--progress", "--help"],
         ("itchsnap", "fetch", "--host", "h", "--p"): ["--port", "--pass", "--pass-file"],

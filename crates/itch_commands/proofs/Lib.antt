@@ -4,6 +4,9 @@ pub mod ReadParts
 pub mod Outputs
 pub mod Expectations
 pub mod ShownLines
+pub mod ShownRanges
+pub mod CutBlocks
+pub mod CutDays
 pub mod ListedLines
 pub mod OrdersLeft
 pub mod ListedHeads

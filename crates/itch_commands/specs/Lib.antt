@@ -8,6 +8,7 @@ pub mod Causes
 pub mod Changes
 pub mod Choices
 pub mod Showing
+pub mod Starts
 pub mod Sought
 pub mod Comparing
 pub mod FirstDifferences
@@ -25,5 +26,6 @@ pub mod Expectations
 pub mod OrderForms
 pub mod OrdersBehind
 pub mod ListedOrders
+pub mod Cuts
 pub mod Tallies
 pub mod Infos

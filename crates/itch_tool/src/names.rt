@@ -178,6 +178,7 @@ fn words_of(command: &Command<'_>) -> &'static str {
         Command::Check { .. } => "check",
         Command::Info { .. } => "info",
         Command::Show { .. } | Command::ShowOrders { .. } => "show",
+        Command::Cut { .. } => "cut",
         Command::Canon { check: true } => "canon --check",
         Command::Canon { check: false } => "canon",
         Command::Book { .. } => "book ..",

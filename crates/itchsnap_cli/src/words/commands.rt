@@ -2,9 +2,9 @@
 
 use crate::words::argument::{Argument, Value};
 use crate::words::arguments::{
-    AFTER, BIND, FEED, FEED_FILE, FEED_SESSION, FILE, GLIMPSE_SESSION, JSON, MOST_COUNTED,
-    ONE_USER, ONLY, OUTPUT, PASSWORD, PASSWORD_FILE, PORT, PROGRESS, RECORDED, SESSION, STOCK,
-    UNTIL, USER, USERS,
+    AFTER, BIND, FEED, FEED_FILE, FEED_SESSION, FILE, FROM, GLIMPSE_SESSION, JSON, MOST_COUNTED,
+    ONE_USER, ONLY, OUTPUT, PASSWORD, PASSWORD_FILE, PORT, PROGRESS, RECORDED, SESSION, SINCE,
+    STOCK, UNTIL, USER, USERS,
 };
 use clap::error::ErrorKind;
 use clap::{Command, Error};
@@ -169,6 +169,8 @@ pub const COMMANDS: [Entry; 16] = [
         about: "Print the messages of a file, one per line",
         takes: &[
             FILE,
+            FROM,
+            SINCE,
             AFTER,
             UNTIL,
             RECORDED,
@@ -208,6 +210,35 @@ pub const COMMANDS: [Entry; 16] = [
             PROGRESS,
         ],
         example: "Example: itchsnap show day.itch --reference 7",
+    },
+    Entry {
+        name: "cut",
+        about: "Write the messages of a part of a day file, as a day file",
+        takes: &[
+            FILE,
+            FROM,
+            SINCE,
+            AFTER,
+            UNTIL,
+            Argument::Optional {
+                long: "only",
+                value: Value::Text("LIST"),
+                help: "Keep only messages of these locates, such as 1-40,77, and those of no stock",
+            },
+            Argument::Optional {
+                long: "stock",
+                value: Value::Text("LIST"),
+                help: "Keep only messages of these stocks, such as AAPL,MSFT, and those of no stock",
+            },
+            Argument::Optional {
+                long: "types",
+                value: Value::Text("LETTERS"),
+                help: "Keep only messages of these types, such as AEX",
+            },
+            OUTPUT,
+            PROGRESS,
+        ],
+        example: "Example: itchsnap cut day.itch --stock AAPL --since 9:30 > aapl.itch",
     },
     Entry {
         name: "book",

@@ -13,7 +13,7 @@ use crate::words::session::{
 use crate::words::status::{StatusWords, read_status_words};
 use clap::{ArgMatches, Error};
 use itch_codec::{Alpha, Seq};
-use itch_commands::{FileKind, Request};
+use itch_commands::{Command, FileKind, Request};
 use itchsnap_live::FollowForm;
 use std::alloc::Global;
 use std::net::SocketAddr;
@@ -73,7 +73,7 @@ impl<'a> Job<'a> {
     }
 }
 
-// Whether the output is a snapshot or a day file, which are no text.
+// Whether the output is a snapshot or blocks of messages, which are no text.
 fn writes_snapshot(job: &Job<'_>) -> bool
     ensures { result ≡ writes_snapshot job.now }
 {
@@ -141,6 +141,13 @@ fn terminal_fault(job: &Job<'_>) -> &'static str {
         Job::Follow(_) => {
             "messages are not written to a terminal: redirect the output, or give --json"
         }
+        Job::Files {
+            request: Request::One {
+                command: Command::Cut { .. },
+                ..
+            },
+            ..
+        } => "messages are not written to a terminal: redirect the output, or give --output",
         _ => "a snapshot is not written to a terminal: redirect the output, or give --output",
     }
 }
