@@ -16,7 +16,7 @@ kind_cause kind.TimedOut = cause.TimedOut
 kind_cause kind.HostUnreachable = cause.Unreachable
 kind_cause kind.NetworkUnreachable = cause.Unreachable
 kind_cause kind.NetworkDown = cause.Unreachable
-kind_cause other = cause.Failed
+kind_cause _ = cause.Failed
 
 -- the cause that the code of a rejection is: A, 65, or S, 83
 abbrev pub code_cause : ℕ → Cause
