@@ -16,8 +16,8 @@ use itch_market::LocateSet;
 use std::alloc::Allocator;
 use std::marker::Model;
 
-/// Which messages are shown: those that all that is given chooses, from the first one of a range on. An order is followed through its replacements, and stocks are
-/// looked up in the Stock Directory messages up to the message.
+/// Which messages are shown: those that all that is given chooses, from the first one of a range on. An order is followed through its
+/// replacements, and stocks are looked up in the Stock Directory messages up to the message.
 #[derive(Drop)]
 pub struct Choice<'a, A: Allocator> {
     // Where the range begins among the messages that come.
@@ -129,7 +129,8 @@ impl<'a, A: Allocator> Choice<'a, A> {
         true
     }
 
-    /// Passes a message, after which a range may begin, the order that is followed may have another reference number, and a locate another stock.
+    /// Passes a message, after which a range may begin, the order that is followed may have another reference number, and a locate another
+    /// stock.
     pub fn follow(&mut self, message: &Message<'_>)
         ensures { self.new ≡ chosen_after self.old message.now }
     {
