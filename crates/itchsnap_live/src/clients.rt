@@ -333,11 +333,7 @@ impl Clients {
     }
 
     /// Cuts off all who are still there.
-    pub(crate) fn cut_off<B: OrderBook>(
-        &mut self,
-        reception: &mut Reception,
-        desk: &mut Desk<B>,
-    ) {
+    pub(crate) fn cut_off<B: OrderBook>(&mut self, reception: &mut Reception, desk: &mut Desk<B>) {
         for place in 0..self.seats.len() {
             self.free(place, Departure::CutOff, reception, desk);
         }

@@ -10,10 +10,9 @@ use crate::record::RecordPlace;
 use itch_codec::Alpha;
 use std::alloc::{AllocError, Allocator, Global};
 use std::fmt::{self, Display, Formatter};
-use std::fs;
 use std::io::{self, ErrorKind};
 use std::rt::Files;
-use std::str;
+use std::{fs, str};
 
 /// The paths of a day's record and of its folder of snapshots, where there are any.
 #[derive(Debug, Drop)]

@@ -28,13 +28,13 @@ use crate::status::{STATUS, StatusPort};
 use crate::step::Step;
 use crate::turns::Turns;
 use crate::who::Visit;
+use days::Tomorrow;
 use itch_book::{IndexedBook, OrderBook};
 use itch_codec::Alpha;
 use itch_frame::CountedWrite;
 use itch_join::Joiner;
 use itch_live::Desk;
 use itch_status::Tally;
-use days::Tomorrow;
 use mio::Token;
 use std::alloc::Global;
 use std::fs::File;
@@ -130,8 +130,9 @@ where
     R: Net + Clock + Files<File = File> + Eprint + AllocGlobal,
 {
     let mut paths = DayPaths::none();
-    let begun: Result<Server<'_, '_, R, IndexedBook<Global>>, LiveFault> =
-        beginning::opened(rt, servers, serving, accounts, &mut paths);
+    let begun: Result<Server<'_, '_, R, IndexedBook<Global>>, LiveFault> = beginning::opened(
+        rt, servers, serving, accounts, &mut paths,
+    );
     let mut server = match begun {
         Ok(server) => server,
         Err(fault) => return Err(DayFault { fault, paths }),

@@ -92,10 +92,7 @@ fn open_saver<R: Files<File = File> + AllocGlobal>(
     if serving.has_days()
         && let Err(error) = make_folder(rt, folder.as_str())
     {
-        return Err(LiveFault::Session(SessionFault::of_system(
-            error,
-            SessionFault::Folder(error),
-        )));
+        return Err(LiveFault::Session(SessionFault::of_system(error, SessionFault::Folder(error))));
     }
     let folder = String::from_str(rt.alloc(), folder.as_str())?;
     Ok(Some(Saver::open(rt, words, folder)?))

@@ -35,7 +35,11 @@ where
     R: Net + Clock + Files<File = File> + Eprint + AllocGlobal,
 {
     /// One that connects to the servers of a feed, with its login; none where memory is refused. Its socket will have this number.
-    pub(crate) fn of(log: &Log<'r, R>, feed: &FeedSide<'a>, token: usize) -> Option<Scout<'r, 'a, R, B>> {
+    pub(crate) fn of(
+        log: &Log<'r, R>,
+        feed: &FeedSide<'a>,
+        token: usize,
+    ) -> Option<Scout<'r, 'a, R, B>> {
         let alloc = log.runtime().alloc();
         let mut log = log.another().ok()?;
         log.mute();

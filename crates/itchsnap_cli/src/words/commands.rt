@@ -20,7 +20,7 @@ pub struct Entry {
 }
 
 /// The commands.
-pub const COMMANDS: [Entry; 16] = [
+pub const COMMANDS: [Entry; 17] = [
     Entry {
         name: "snap",
         about: "Write the snapshot of the market that a day file leaves",

@@ -122,7 +122,13 @@ where
 /// Free places for clients, with nobody at them.
 pub(super) fn free_places(alloc: Global, serving: &Serving<'_>) -> Result<Clients, AllocError> {
     let room = SnapshotRoom::new(serving.snapshot_memory);
-    Clients::new(alloc, serving.clients, serving.clients_per_address, room, PLACES)
+    Clients::new(
+        alloc,
+        serving.clients,
+        serving.clients_per_address,
+        room,
+        PLACES,
+    )
 }
 
 // A server that begins with this.

@@ -77,8 +77,7 @@ where
         let (_opening, ready) = self.reception.counts();
         let is_over = self.clients.is_empty() && ready == 0;
         if is_over || now_ms.saturating_sub(found_ms) >= EVENING_MS {
-            self.clients
-                .cut_off(&mut self.reception, &mut self.desk);
+            self.clients.cut_off(&mut self.reception, &mut self.desk);
             self.reception.cut_off_ready();
             self.begin_day(session, now_ms)?;
         }
@@ -89,8 +88,12 @@ where
         self.finish()?;
         self.spare.release();
         let alloc = self.log.runtime().alloc();
-        let begun: Begun<B> =
-            open_day(&mut self.log, self.serving, Some(session), &mut self.paths)?;
+        let begun: Begun<B> = open_day(
+            &mut self.log,
+            self.serving,
+            Some(session),
+            &mut self.paths,
+        )?;
         let Begun {
             files,
             joiner,
