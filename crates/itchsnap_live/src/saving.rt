@@ -11,7 +11,7 @@ use crate::log::form::LogForm;
 use crate::recording::Recording;
 use crate::session_fault::SessionFault;
 use crate::sessions::{PIECE, Sending, write_closed};
-use crate::snapshot_folder::{clean, keep_lines, list, remove};
+use crate::snapshot_folder::{KeptLines, clean, keep_lines, list, remove};
 use itch_book::OrderBook;
 use itch_checkpoints::fingerprint_before;
 use itch_codec::{GREATEST_SEQ, Seq};
@@ -183,7 +183,7 @@ impl Saver {
         rt: &R,
         messages: u64,
     ) -> Result<(), LiveFault> {
-        match keep_lines(rt, self.folder.as_str(), |count| count <= messages) {
+        match keep_lines(rt, self.folder.as_str(), KeptLines::UpTo(messages)) {
             Ok(()) => Ok(()),
             Err(error) => Err(LiveFault::Session(folder_fault(error))),
         }
@@ -267,7 +267,7 @@ impl Saver {
         let keep = usize::try_from(keep).unwrap_or(usize::MAX);
         for _ in keep..self.files.len() {
             let oldest = self.files.remove(0);
-            keep_lines(rt, self.folder.as_str(), |count| count != oldest)?;
+            keep_lines(rt, self.folder.as_str(), KeptLines::AllBut(oldest))?;
             remove(rt, self.folder.as_str(), oldest)?;
         }
         Ok(())

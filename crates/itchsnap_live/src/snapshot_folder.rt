@@ -118,12 +118,29 @@ pub(crate) fn list<R: Files<File = File> + AllocGlobal>(
     }
 }
 
-/// Keeps those lines of the index that are of snapshots with so many messages, all of whose locates they have. The index gets its name once it
-/// is on disk.
-pub(crate) fn keep_lines<R: Files<File = File> + AllocGlobal, K: Fn(u64) -> bool>(
+/// Which lines of the index are kept, by how many messages their snapshots have.
+#[derive(Clone, Copy)]
+pub(crate) enum KeptLines {
+    /// Those with at most so many.
+    UpTo(u64),
+    /// All but the one with so many.
+    AllBut(u64),
+}
+
+impl KeptLines {
+    fn has(self, count: u64) -> bool {
+        match self {
+            KeptLines::UpTo(most) => count <= most,
+            KeptLines::AllBut(removed) => count != removed,
+        }
+    }
+}
+
+/// Drops the other lines of the index, and those that are not of a snapshot of all locates. The index gets its name once it is on disk.
+pub(crate) fn keep_lines<R: Files<File = File> + AllocGlobal>(
     rt: &R,
     folder: &str,
-    keeps: K,
+    kept: KeptLines,
 ) -> io::Result<()> {
     let alloc = rt.alloc();
     let path = format!(in alloc; "{folder}/index.jsonl")?;
@@ -139,7 +156,7 @@ pub(crate) fn keep_lines<R: Files<File = File> + AllocGlobal, K: Fn(u64) -> bool
         let Some(checkpoint) = lines.next()? else {
             break;
         };
-        if keeps(checkpoint.count)
+        if kept.has(checkpoint.count)
             && let Some((mark, fingerprint)) = whole(&checkpoint)
         {
             out.write_all(&index_line(alloc, mark, fingerprint, None)?)?;
