@@ -1,5 +1,5 @@
-"""Ranges of days, `--from` and `--since` beside `--after` and `--until`, and `cut`, over random days whose timestamps go back and forth: what the
-options select is written here again, from the tables of TotalView-ITCH 5.0.
+"""Ranges of days, `--from` and `--since` with `--after` and `--until`, and `cut`, over random days whose timestamps go back and forth, against a
+selection of messages written from the tables of TotalView-ITCH 5.0.
 
 RUNS has a function for each run, named for what it shows; it is given the program, and yields what differs.
 """
