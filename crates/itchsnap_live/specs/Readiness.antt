@@ -1,5 +1,5 @@
 -- When clients are served after a start, and where a replay pauses.
-use Rattle.std.specs.Prelude.{ℕ, ◌+◌, ◌-◌, ◌*◌, ◌/◌, ◌^◌, ◌==◌, min, Bool, true, false, not, ◌&&◌, nat_le, if◌then◌else◌}
+use Rattle.std.specs.Prelude.{ℕ, ◌+◌, ◌-◌, ◌%◌, ◌^◌, ◌==◌, min, Bool, true, false, not, ◌&&◌, nat_le, if◌then◌else◌}
 use Rattle.itch_status.specs.declared.state.FeedState.{FeedState}
 use Rattle.itch_status.specs.declared.state.FeedState.TheVariants as state
 
@@ -11,7 +11,7 @@ is_caught_up other accepted_for busy = false
 
 -- the first multiple of a number after another number
 abbrev pub next_multiple : ℕ → ℕ → ℕ
-next_multiple every count = (count / every + 1) * every
+next_multiple every count = (count - count % every) + every
 
 -- A replay that has come to this message pauses after 8,192 others, and where a snapshot is due, if any are written.
 abbrev pub next_stop : ℕ → ℕ → ℕ

@@ -28,7 +28,7 @@ pub fn next_stop(every: u64, count: u64) -> u64
     if every == 0 {
         return part;
     }
-    match (count / every + 1).checked_mul(every) {
+    match (count - count % every).checked_add(every) {
         Some(multiple) => part.min(multiple),
         None => part,
     }
