@@ -185,7 +185,7 @@ fn times_are_read(rt: HostRuntime) -> TestResult {
         let line = format!(in rt.alloc(); "show --until {time} --after 5 day.itch")?;
         let wanted = format!(in rt.alloc();
             "Files {{ request: One {{ file: Some(\"day.itch\"), command: Show {{ kind: Day(Limit {{ after: Some(5), \
-             until: Some({nanoseconds}) }}), form: Text, filters: Filters {{ only: None, stocks: None, types: None, reference: None }} }} }}, \
+             until: Some({nanoseconds}) }}), form: Text, filters: Filters {{ start: Start {{ before: 0, since: None }}, only: None, stocks: None, types: None, reference: None }} }} }}, \
              progress: false, output: None }}"
         )?;
         ask_for(&rt, line.as_str(), wanted.as_str())?;
