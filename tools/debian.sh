@@ -62,7 +62,7 @@ pack_program() {
     begin itchsnap
     lay_program
     gzip -9n "$prefix/share/man/man1/itchsnap.1"
-    prefix=$prefix/share/doc/itchsnap/examples units= lay_units
+    lay_service
     put 644 share/lintian/overrides/itchsnap echo "itchsnap: unstripped-binary-or-object [usr/bin/itchsnap]"
     finish net "libc6 (>= 2.34)" "market snapshots for Nasdaq TotalView-ITCH 5.0
  itchsnap turns a day file of an ITCH feed into the messages that rebuild the

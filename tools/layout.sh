@@ -62,10 +62,13 @@ lay_development() {
     put 644 "$lib/cmake/itchsnap/itchsnap-config-version.cmake" filled "$top/c/itchsnap-config-version.cmake.in"
 }
 
-# The systemd units of deploy/, where there are any, below a folder that may be another than that of systemd.
-lay_units() {
+# The page for operators and the files of deploy/: the unit and its user, which systemd finds below /usr and /usr/local, and the others as examples.
+lay_service() {
     local it
-    for it in "$top"/deploy/*.service; do
-        [ ! -e "$it" ] || put 644 "${units-lib/systemd/system/}${it##*/}" cat "$it"
+    put 644 "lib/systemd/system/itchsnap-live@.service" cat "$top/deploy/itchsnap-live@.service"
+    put 644 lib/sysusers.d/itchsnap.conf cat "$top/deploy/itchsnap.sysusers"
+    put 644 share/doc/itchsnap/OPERATING.md cat "$top/docs/OPERATING.md"
+    for it in itchsnap-live.env itchsnap.rules.yml prometheus.yml; do
+        put 644 "share/doc/itchsnap/examples/$it" cat "$top/deploy/$it"
     done
 }

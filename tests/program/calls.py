@@ -78,10 +78,12 @@ def refused_to_start(server):
 
 
 def unwritten(status, lines, record, kind):
-    """What differs in the ending of a server that could not write the name of its session beside its record, or sync the record or look at it: nothing
-    else ends it."""
+    """What differs in the ending of a server that could not cut its record or write the name of its session beside it, or sync the record or look at it:
+    nothing else ends it."""
     name = re.escape(str(record))
     wanted = rf"cannot open\n  {name}\.session"
+    if kind == "ftruncate":
+        wanted = rf"cannot open\n  {name}"
     if kind in ("sync", "statx"):
         wanted = rf"({wanted}|message \d+: write failed\n  {name})"
     wanted = rf"itchsnap: {wanted}: {re.escape(REASON)}\n"

@@ -220,6 +220,8 @@ def words_that_do_not_go_together_are_refused(program):
     follow_words = ["follow", "--feed", "h:1", "--glimpse", "h:2", *WORDS]
     feed_words = ["feed", "day", "--port", "0", *WORDS]
     rows = [[*live_words, "--record", "r", "--glimpse", "h:2"], [*live_words, "--snapshots", "d"], [*live_words, "--every", "5"],
+            [*live_words, "--record", "r", "--records", "d"], [*live_words, "--records", "d", "--glimpse", "h:2"], [*live_words, "--sync", "no"],
+            [*live_words, "--keep", "3"], [*live_words, "--snapshots", "d", "--every", "5", "--keep", "0"], [*live_words, "--ready", "later"],
             [*live_words, "--clients", "0"], [*live_words, "--clients", "1001"], ["live", *WORDS, "--port", "0"],
             *([*live_words, "--snapshot-memory", size] for size in ("0", "0K", "", "M", "+1", "1.5M", "256MB", "256m", "0x10", "17179869184G")),
             [*live_words, *["--feed", "h:2"] * 8],

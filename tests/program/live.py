@@ -125,7 +125,7 @@ def a_record_that_is_no_day_file_is_refused(program):
         with folder_with(**recorded(kept)) as folder, Feed(plays(day, then=ENDED)) as feed:
             words = "--feed", f"127.0.0.1:{feed.port}", "--port", "0", *WORDS, "--record", "record"
             status, output, error = ended_in(folder, program, "live", *words)
-            lines = error.decode().splitlines()
+            lines = error.decode().splitlines()[1:]
             if (status, output, lines[1:]) != (1, b"", ["  record"]) or not lines[0].startswith(f"itchsnap: record: message {number}: "):
                 yield f"{kept!r}: {status}, {output!r}, {error!r}"
             yield from differs("record", (folder / "record").read_bytes(), kept)

@@ -103,7 +103,7 @@ is_early limit p clean not_late = by_test (is_late limit.until (message_of p)) r
   by_test true late = absurd (not_late (clean, late))
   by_test false early = early
 
-are_early : (limit : Limit) (ps : List (List ℕ)) → AllByRecursion IsClean ps → AllByRecursion (IsNotLate limit) ps → AllByRecursion (IsEarly limit) ps
+pub are_early : (limit : Limit) (ps : List (List ℕ)) → AllByRecursion IsClean ps → AllByRecursion (IsNotLate limit) ps → AllByRecursion (IsEarly limit) ps
 are_early limit [] clean early = tt
 are_early limit (p ∷ ps) clean early = (is_early limit p clean.0 early.0, are_early limit ps clean.1 early.1)
 

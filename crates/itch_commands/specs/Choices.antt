@@ -1,7 +1,7 @@
 -- Which messages `show` shows, and in which form.
 use Rattle.std.specs.Prelude.{ℕ, ◌+◌, ◌==◌, ◌&&◌, Bool, true, false, List, [], ◌∷◌, ◌++◌, Option, Some, None, option_map, if◌then◌else◌}
 use Rattle.std.specs.List.{list_any}
-use Rattle.itch_codec.specs.Headers.{header, kind_of, reference_of}
+use Rattle.itch_codec.specs.Headers.{header, kind_of, reference_of, time_of}
 use Rattle.itch_codec.specs.Json.{json_line}
 use Rattle.itch_codec.specs.Lines.{line_of}
 use Rattle.itch_codec.specs.Named.{named_line}
@@ -12,11 +12,15 @@ use Rattle.itch_market.specs.Wanted.{Wanted, has}
 use Rattle.itch_commands.specs.declared.filters.Filters.{Filters}
 use Rattle.itch_commands.specs.declared.form.ShowForm.{ShowForm}
 use Rattle.itch_commands.specs.declared.form.ShowForm.TheVariants as form
+use Rattle.itch_commands.specs.declared.start.Start.{Start}
+use Rattle.itch_commands.specs.Starts.{first, is_begun, start_after}
 use Rattle.itch_commands.specs.Sought.{Sought, sought, sought_after, is_sought, are_found}
 use Rattle.itch_commands.specs.Stocks.{names_of}
 
--- What chooses a message, where it is given: the locates, the stocks, the types, and the reference number that an order has by now.
+-- What chooses a message, where it is given: where a range begins among the messages to come, the locates, the stocks, the types, and the
+-- reference number that an order has by now.
 pub record Chosen : Type 0 where
+  pub start : Start
   pub only : Option Wanted
   pub stocks : Option Sought
   pub types : Option (List ℕ)
@@ -24,11 +28,16 @@ pub record Chosen : Type 0 where
 
 -- every message
 abbrev pub everything : Chosen
-everything = record { only = None; stocks = None; types = None; reference = None }
+everything = record { start = first; only = None; stocks = None; types = None; reference = None }
+
+-- the same messages without a range, from the first one on
+abbrev pub of_all : Chosen → Chosen
+of_all chosen = record chosen { start = first }
 
 -- what the words ask for, with the set that their list of locates is
 abbrev pub chosen_by : Option Wanted → Filters → Chosen
 chosen_by set filters = record {
+  start = filters.start;
   only = set;
   stocks = option_map (λ names. sought (names_of names.now)) filters.stocks;
   types = option_map (λ types. types.now) filters.types;
@@ -63,7 +72,7 @@ is_about (Some reference) message = is_named reference (reference_of message)
 -- a message is shown if all that is given chooses it
 abbrev pub is_chosen : Chosen → Message → Bool
 is_chosen chosen message =
-    is_located chosen.only message && is_sought chosen.stocks message && is_typed chosen.types message && is_about chosen.reference message
+    is_begun chosen.start (time_of message) && is_located chosen.only message && is_sought chosen.stocks message && is_typed chosen.types message && is_about chosen.reference message
 
 -- the reference number of an order after a message: a replace gives its original order another one
 abbrev pub renamed : Message → ℕ → ℕ
@@ -73,6 +82,7 @@ renamed message reference = reference
 -- what chooses the messages after this one
 abbrev pub chosen_after : Chosen → Message → Chosen
 chosen_after chosen message = record {
+  start = start_after chosen.start (time_of message);
   only = chosen.only;
   stocks = option_map (sought_after message) chosen.stocks;
   types = chosen.types;

@@ -11,11 +11,12 @@ use Rattle.itch_commands.specs.declared.filters.Filters.{Filters}
 use Rattle.itch_commands.specs.declared.request.Request.{Request}
 use Rattle.itch_commands.specs.declared.request.Request.TheVariants.{One, Two, At}
 use Rattle.itch_commands.specs.declared.request.Command.{Command}
-use Rattle.itch_commands.specs.declared.request.Command.TheVariants.{Snap, Check, Info, Show, ShowOrders, Canon, Book}
+use Rattle.itch_commands.specs.declared.request.Command.TheVariants.{Snap, Check, Info, Show, ShowOrders, Cut, Canon, Book}
 use Rattle.itch_commands.specs.declared.request.PairCommand.{PairCommand}
 use Rattle.itch_commands.specs.declared.request.PairCommand.TheVariants.{Compare, CompareFirst, Join}
 use Rattle.itch_commands.specs.Choices.{Chosen, chosen_by}
 use Rattle.itch_commands.specs.Commands.{Snaps, SnapsStocks, Checks, ShowsSnapshot, WritesCanon, ChecksCanon, ListsBooks, ListsStocks, Compares, ComparesFirst, Joins, JoinsStocks}
+use Rattle.itch_commands.specs.Cuts.{CutsFile}
 use Rattle.itch_commands.specs.Infos.{Informs}
 use Rattle.itch_commands.specs.declared.form.BookForm.{BookForm}
 use Rattle.itch_commands.specs.declared.form.ShowForm.{ShowForm}
@@ -41,6 +42,7 @@ list_of_command (Snap limit selection) = list_of selection
 list_of_command (Book selection depth kind form) = list_of selection
 list_of_command (Show kind form filters) = option_map (λ list. list.now) filters.only
 list_of_command (ShowOrders limit form filters) = option_map (λ list. list.now) filters.only
+list_of_command (Cut limit filters) = option_map (λ list. list.now) filters.only
 list_of_command command = None
 
 abbrev pub list_of_pair : PairCommand → Option (List ℕ)
@@ -53,19 +55,20 @@ only_of (One file command) = list_of_command command
 only_of (Two first second command) = list_of_pair command
 only_of (At folder feed point selection) = list_of selection
 
--- the commands whose output is a snapshot, not text
-abbrev pub writes_snapshot : Command → Bool
-writes_snapshot (Snap limit selection) = true
-writes_snapshot (Canon false) = true
-writes_snapshot command = false
+-- the commands whose output is a snapshot or the blocks of messages, not text
+abbrev pub writes_blocks : Command → Bool
+writes_blocks (Snap limit selection) = true
+writes_blocks (Cut limit filters) = true
+writes_blocks (Canon false) = true
+writes_blocks command = false
 
 abbrev pub joins : PairCommand → Bool
 joins (Join part selection) = true
 joins command = false
 
--- the requests whose output is a snapshot, not text
+-- the requests whose output is a snapshot or the blocks of messages, not text
 abbrev pub is_binary : Request → Bool
-is_binary (One file command) = writes_snapshot command
+is_binary (One file command) = writes_blocks command
 is_binary (Two first second command) = joins command
 is_binary (At folder feed point selection) = true
 
@@ -98,6 +101,7 @@ module _ {R W : Type 0} (remaining : R → Option (List ℕ)) (failed_reads : R 
   Performs (Info limit form) set old new = Informs remaining failed_reads contents failed_writes form limit (FromBlocks old new)
   Performs (Show kind form filters) set old new = ShowsFile kind form set filters old new
   Performs (ShowOrders limit form filters) set old new = ListsFile contents failed_writes remaining failed_reads limit form set filters old new
+  Performs (Cut limit filters) set old new = CutsFile contents failed_writes remaining failed_reads limit set filters old new
   Performs (Canon false) set old new = WritesCanon remaining failed_reads contents failed_writes (FromBlocks old new)
   Performs (Canon true) set old new = ChecksCanon remaining failed_reads contents failed_writes (FromBlocks old new)
   Performs (Book selection depth kind form) set old new = PerformsBook form selection set depth kind old new

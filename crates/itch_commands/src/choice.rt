@@ -2,21 +2,26 @@
 ghost use Rattle.std.specs.Prelude.{◌≡◌, IsSome, MatchResult, option_map};
 ghost use Rattle.std.specs.Option.{option_copied};
 ghost use Rattle.itch_commands.specs.Choices.{everything, chosen_by, is_located, is_typed, is_about, is_chosen, renamed, chosen_after};
+ghost use Rattle.itch_commands.specs.Cuts.{Skips, has_stock, is_in, is_kept, is_of_stocks, stock_of};
 ghost use Rattle.itch_commands.specs.Sought.{are_found, is_sought, sought};
 ghost use Rattle.itch_commands.specs.Stocks.{names_of};
 
+use crate::cut::order_at;
 use crate::fault::ToolFault;
 use crate::filters::Filters;
 use crate::sought::SoughtStocks;
+use crate::start::Start;
 use itch_codec::Message;
 use itch_market::LocateSet;
 use std::alloc::Allocator;
 use std::marker::Model;
 
-/// Which messages are shown: those that all that is given chooses. An order is followed through its replacements, and stocks are
-/// looked up in the Stock Directory messages up to the message.
+/// Which messages are shown: those that all that is given chooses, from the first one of a range on. An order is followed through its
+/// replacements, and stocks are looked up in the Stock Directory messages up to the message.
 #[derive(Drop)]
 pub struct Choice<'a, A: Allocator> {
+    // Where the range begins among the messages that come.
+    start: Start,
     only: Option<&'a LocateSet<A>>,
     stocks: Option<SoughtStocks<'a, A>>,
     types: Option<&'a str>,
@@ -31,7 +36,7 @@ impl<'a, A: Allocator> Model for Choice<'a, A> {
 
     ghost Value = { Chosen };
 
-    ghost view = { λ c. record { only = option_copied c.only; stocks = c.stocks; types = option_map (λ types. types.now) c.types; reference = c.reference } };
+    ghost view = { λ c. record { start = c.start; only = option_copied c.only; stocks = c.stocks; types = option_map (λ types. types.now) c.types; reference = c.reference } };
 }
 
 impl<'a, A: Allocator> Choice<'a, A> {
@@ -40,6 +45,7 @@ impl<'a, A: Allocator> Choice<'a, A> {
         ensures { result ≡ everything }
     {
         Choice {
+            start: Start::first(),
             only: None,
             stocks: None,
             types: None,
@@ -62,6 +68,7 @@ impl<'a, A: Allocator> Choice<'a, A> {
         ensures { MatchResult result (λ choice. choice ≡ chosen_by (option_copied only.entry) filters.entry) (λ fault. (fault ≡ ToolFault.OutOfMemory) × IsSome filters.entry.stocks) }
     {
         Ok(Choice {
+            start: filters.start,
             only,
             stocks: look_for(alloc, filters.stocks)?,
             types: filters.types,
@@ -73,16 +80,61 @@ impl<'a, A: Allocator> Choice<'a, A> {
     pub fn is_chosen(&self, message: &Message<'_>) -> bool
         ensures { result ≡ is_chosen self.now message.now }
     {
-        is_located(self.only, message)
+        self.start.is_begun(message.time())
+            && is_located(self.only, message)
             && is_sought(self.stocks.as_ref(), message)
             && is_typed(self.types, message)
             && is_about(self.reference, message)
     }
 
-    /// Passes a message, after which the order that is followed may have another reference number, and a locate another stock.
+    /// Whether a message is kept by `cut`: one about no stock is, whatever stocks are chosen.
+    pub fn keeps(&self, message: &Message<'_>) -> bool
+        ensures { result ≡ is_kept self.now message.now }
+    {
+        self.start.is_begun(message.time())
+            && self.is_of_stocks(message)
+            && is_typed(self.types, message)
+            && is_about(self.reference, message)
+    }
+
+    // Whether a message is of the stocks that are chosen.
+    fn is_of_stocks(&self, message: &Message<'_>) -> bool
+        ensures { result ≡ is_of_stocks self.now message.now (stock_of message.now) }
+    {
+        match stock_of(message) {
+            None => true,
+            Some(_) => is_located(self.only, message) && is_sought(self.stocks.as_ref(), message),
+        }
+    }
+
+    /// Passes the message of a payload and returns true, if that shows at a glance that it is not kept. Otherwise it returns false, and
+    /// nothing changes.
+    #[inline(always)]
+    pub fn skip(&mut self, payload: &[u8]) -> bool
+        ensures { Skips self.old payload.now result self.new }
+    {
+        if self.start.since.is_some() || self.reference.is_some() {
+            return false;
+        }
+        let Some(locate) = order_at(payload) else {
+            return false;
+        };
+        if self.start.before == 0
+            && is_in(self.only, locate)
+            && has_stock(self.stocks.as_ref(), locate)
+        {
+            return false;
+        }
+        self.start = self.start.after(None);
+        true
+    }
+
+    /// Passes a message, after which a range may begin, the order that is followed may have another reference number, and a locate another
+    /// stock.
     pub fn follow(&mut self, message: &Message<'_>)
         ensures { self.new ≡ chosen_after self.old message.now }
     {
+        self.start = self.start.after(message.time());
         if let Some(stocks) = &mut self.stocks {
             stocks.pass(message);
         }
@@ -165,5 +217,40 @@ fn renamed(message: &Message<'_>, reference: u64) -> u64
     match message {
         Message::OrderReplace(replace) if replace.original == reference => replace.reference,
         _ => reference,
+    }
+}
+
+// The locate of the stock that a message is about, if it is about one. Of a message without a header that is not known.
+fn stock_of(message: &Message<'_>) -> Option<u16>
+    ensures { result ≡ stock_of message.now }
+{
+    match message {
+        Message::SystemEvent(_) => None,
+        _ => match message.header() {
+            Some(header) => Some(header.locate),
+            None => None,
+        },
+    }
+}
+
+// Whether a locate is in the set, if there is one.
+#[inline(always)]
+fn is_in<A: Allocator>(only: Option<&LocateSet<A>>, locate: u16) -> bool
+    ensures { result ≡ is_in (option_copied only.entry) locate }
+{
+    match only {
+        None => true,
+        Some(set) => set.contains(locate),
+    }
+}
+
+// Whether a locate has one of the stocks that are looked for, if any are.
+#[inline(always)]
+fn has_stock<A: Allocator>(stocks: Option<&SoughtStocks<'_, A>>, locate: u16) -> bool
+    ensures { result ≡ has_stock (option_copied stocks.entry) locate }
+{
+    match stocks {
+        None => true,
+        Some(stocks) => stocks.has(locate),
     }
 }

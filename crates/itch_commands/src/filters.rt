@@ -1,9 +1,14 @@
 //! Which messages are asked for, in words.
 ghost use Rattle.std.specs.Prelude.{◌≡◌, None};
+ghost use Rattle.itch_commands.specs.Starts.{first};
+
+use crate::start::Start;
 
 /// What chooses the messages that are shown. A message is shown if all that is given chooses it.
 #[derive(Clone, Copy, Debug, PartialEq, Eq)]
 pub struct Filters<'a> {
+    /// Where the range of messages begins that are shown.
+    pub start: Start,
     /// A list of locates: messages whose header has one of them.
     pub only: Option<&'a str>,
     /// Names of stocks, separated by commas: messages whose locate has one of them, by the Stock Directory messages so far.
@@ -17,9 +22,10 @@ pub struct Filters<'a> {
 impl Filters<'_> {
     /// Nothing is given, and every message is shown.
     pub fn none() -> Self
-        ensures { result ≡ record { only = None; stocks = None; types = None; reference = None } }
+        ensures { result ≡ record { start = first; only = None; stocks = None; types = None; reference = None } }
     {
         Filters {
+            start: Start::first(),
             only: None,
             stocks: None,
             types: None,

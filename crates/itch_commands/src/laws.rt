@@ -1,7 +1,7 @@
-//! What is read with a set of locates, as `join` reads it, and what is shown without filters and with them.
+//! What is read with a set of locates, as `join` reads it, and what is shown and cut.
 //!
 //! Each function here does nothing: its clauses are the laws.
-ghost use Rattle.std.specs.Prelude.{◌≡◌, ◌<◌, ◌≤◌, ◌+◌, ◌++◌, ℕ, Bool, true, false, List, None, Some, IsSome, IsSomeAnd, IfSome, drop, length, map};
+ghost use Rattle.std.specs.Prelude.{◌≡◌, ◌<◌, ◌≤◌, ◌+◌, ◌++◌, ℕ, Bool, true, false, List, None, Some, IsSome, IsSomeAnd, IfSome, drop, length, map, take};
 ghost use Rattle.std.specs.List.{AllByRecursion, list_all, list_any};
 ghost use Rattle.itch_codec.specs.Fields.{AreBytes};
 ghost use Rattle.itch_codec.specs.Messages.{message_of};
@@ -15,14 +15,18 @@ ghost use Rattle.itch_market.specs.Reasons.{reason};
 ghost use Rattle.itch_market.specs.Replays.{NoCause};
 ghost use Rattle.itch_market.specs.Runs.{AreMessages, Follows, run};
 ghost use Rattle.itch_market.specs.SameMarkets.{Same};
+ghost use Rattle.itch_market.specs.Wanted.{Wanted, has};
 ghost use Rattle.itch_snapshot.specs.TakenMessages.{closing_number};
 ghost use Rattle.itch_join.specs.Rules.{Rules, market_rules, rules_of, bad, run as run_by};
 ghost use Rattle.itch_snapshot.specs.AsRead.{as_read};
-ghost use Rattle.itch_commands.specs.Choices.{Chosen, everything, chosen_past, are_found_in, chosen_lines, lines_of};
+ghost use Rattle.itch_commands.specs.Choices.{Chosen, everything, of_all, chosen_past, are_found_in, chosen_lines, lines_of};
+ghost use Rattle.itch_commands.specs.Cuts.{kept_of, of_locates};
 ghost use Rattle.itch_commands.specs.FirstDifferences.{IsPlaceIn, IsSameIn};
 ghost use Rattle.itch_commands.specs.Sought.{sought, found_at, has_name, is_of_one, stock_past};
+ghost use Rattle.itch_commands.specs.Starts.{before_range, before_time, first};
 ghost use Rattle.itch_commands.specs.OrdersBehind.{behind, changes_order, shares_of};
 ghost use Rattle.itch_commands.specs.Joining.{from_number, joined_market, joined_next};
+ghost use Rattle.itch_commands.specs.declared.form.ShowForm.{ShowForm};
 ghost use Rattle.itch_commands.specs.declared.form.ShowForm.TheVariants.{Text};
 ghost use Rattle.itch_day.specs.declared.limit.Limit.{Limit};
 
@@ -59,11 +63,30 @@ pub fn joined_day()
     ensures number { (m : Content) → (before : ℕ) → (ps qs : List (List ℕ)) → before ≤ length ps → joined_next before (m, length ps + 1) (drop before (ps ++ qs)) ≡ length (ps ++ qs) + 1 }
 {}
 
-/// Without filters each message is shown, as a line. Where no order is followed and no stock is looked for, what chooses the messages
-/// stays the same.
+/// Without filters each message is shown, as a line. Where no range is to come, no order is followed and no stock is looked for, what
+/// chooses the messages stays the same.
 pub fn shown_lines()
     ensures whole { (number : ℕ) → (messages : List Message) → chosen_lines Text everything number messages ≡ lines_of number messages }
-    ensures constant { (chosen : Chosen) → (messages : List Message) → Chosen.reference chosen ≡ None → Chosen.stocks chosen ≡ None → chosen_past chosen messages ≡ chosen }
+    ensures constant { (chosen : Chosen) → (messages : List Message) → Chosen.start chosen ≡ first → Chosen.reference chosen ≡ None → Chosen.stocks chosen ≡ None
+        → chosen_past chosen messages ≡ chosen }
+{}
+
+/// The lines of a range are those that follow the lines of the messages before it: of messages with numbers, of those before the number,
+/// and of messages from a time on, of those before the first at this time or later, which a part until this time has.
+pub fn shown_ranges()
+    ensures lines { (form : ShowForm) → (chosen : Chosen) → (number : ℕ) → (messages : List Message)
+        → chosen_lines form (of_all chosen) number messages ≡ chosen_lines form (of_all chosen) number (before_range (Chosen.start chosen) messages) ++ chosen_lines form chosen number messages }
+    ensures number { (before : ℕ) → (messages : List Message) → before_range (record { before = before; since = None }) messages ≡ take before messages }
+    ensures time { (since : ℕ) → (messages : List Message) → before_range (record { before = 0; since = Some since }) messages ≡ before_time since messages }
+{}
+
+/// If the messages of a day follow the order rules, those that `cut` keeps of the locates of a set follow them too, and leave the market that
+/// all of them leave, cut down to the set.
+pub fn cut_days()
+    ensures follows { (set : Wanted) → (ps : List (List ℕ)) → AreMessages (map message_of ps) → Follows (map message_of ps)
+        → Follows (map message_of (kept_of (of_locates set) ps)) }
+    ensures leaves { (set : Wanted) → (ps : List (List ℕ)) → AreMessages (map message_of ps) → Follows (map message_of ps)
+        → run (map message_of (kept_of (of_locates set) ps)) ≡ cut (has set) (run (map message_of ps)) }
 {}
 
 /// Of stocks that are looked for by their names: after any messages, a locate has one of them exactly if its last Stock Directory

@@ -7,6 +7,7 @@ use crate::canon::canon_blocks;
 use crate::check::check_blocks;
 use crate::choice::Choice;
 use crate::compare::{compare_blocks, compare_first_blocks};
+use crate::cut::cut_blocks;
 use crate::fault::ToolFault;
 use crate::feed_part::FeedPart;
 use crate::filters::Filters;
@@ -56,6 +57,7 @@ pub fn perform<R: CountedRead, A: Allocator, B: OrderBook, W: CountedWrite>(
             form,
             filters,
         } => orders_blocks::<R, A, B, W>(alloc, reader, limit, form, filters, only, out),
+        Command::Cut { limit, filters } => cut_blocks(alloc, reader, limit, filters, only, out),
         Command::Canon { check } => canon_blocks::<R, A, B, W>(alloc, reader, check, out),
         Command::Book {
             selection,

@@ -64,6 +64,11 @@ pub enum Command<'a> {
         form: OrderForm,
         filters: Filters<'a>,
     },
+    /// Write the blocks of the messages of a day file that are kept.
+    Cut {
+        limit: Limit,
+        filters: Filters<'a>,
+    },
     /// Write a snapshot in canonical form, or only check whether it is in that form.
     Canon {
         check: bool,
@@ -98,14 +103,14 @@ pub enum PairCommand<'a> {
 }
 
 impl<'a> Request<'a> {
-    /// Whether the output is a snapshot, not text.
+    /// Whether the output is a snapshot or the blocks of messages, not text.
     pub fn is_binary(&self) -> bool
         ensures { result ≡ is_binary self.now }
     {
         match self {
             Request::One { command, .. } => matches!(
                 command,
-                Command::Snap { .. } | Command::Canon { check: false }
+                Command::Snap { .. } | Command::Cut { .. } | Command::Canon { check: false }
             ),
             Request::Two { command, .. } => matches!(command, PairCommand::Join { .. }),
             Request::At { .. } => true,
@@ -121,6 +126,7 @@ impl<'a> Request<'a> {
                 Command::Snap { selection, .. } | Command::Book { selection, .. } =>
                     selection.list(),
                 Command::Show { filters, .. } | Command::ShowOrders { filters, .. } => filters.only,
+                Command::Cut { filters, .. } => filters.only,
                 Command::Check { .. } | Command::Info { .. } | Command::Canon { .. } => None,
             },
             Request::Two { command, .. } => match command {

@@ -16,13 +16,14 @@ mod sink;
 use crate::choice::Choice;
 use crate::fault::{Source, ToolFault};
 use crate::form::ShowForm;
-use found::if_found;
+pub(crate) use found::if_found;
 use itch_day::{Limit, Stop as PartStop, pass_stop, read_part};
 use itch_frame::{BlockReader, CountedRead, CountedWrite};
 use itch_market::Stop;
 pub use orders::orders_blocks;
 pub use recorded::show_snapshot;
-use sink::{ShownLines, stopped};
+use sink::ShownLines;
+pub(crate) use sink::stopped;
 use std::alloc::Allocator;
 
 /// Writes a line for each message of a day file or a snapshot file, in the form of [`itch_codec::show`].
@@ -84,7 +85,7 @@ fn show_part<R: CountedRead, B: Allocator, A: Allocator, W: CountedWrite>(
 }
 
 // What is returned where a part goes no further. The end of the file is no fault, unless more messages are wanted.
-fn answer(
+pub(crate) fn answer(
     stop: PartStop<ToolFault>,
     wanted: Option<u64>,
     count: u64,

@@ -5,19 +5,14 @@ ghost use Rattle.itch_day.specs.Limits.{counted};
 ghost use Rattle.itch_commands.specs.Readings.{FromBlocks, FromReader};
 
 mod checkpoint;
-mod fingerprint;
-mod index;
 mod pass;
-mod passed;
 mod stocks;
 
 use crate::fault::{Source, ToolFault};
 use crate::order_book::Book;
 use crate::reading::read_settled;
 use crate::writing::write_closed_of;
-pub use checkpoint::{Latest, has_each};
-pub use fingerprint::{Fingerprint, MOST_FIRST, MOST_LAST, Unfit, why_unfit};
-pub use index::write_index;
+pub use checkpoint::has_each;
 use itch_book::OrderBook;
 use itch_codec::Seq;
 use itch_day::Limit;
@@ -25,7 +20,6 @@ pub use itch_day::Mark;
 use itch_frame::{BlockReader, CountedRead, CountedWrite};
 use itch_market::{LocateSet, Market};
 pub use pass::Pass;
-pub use passed::Passed;
 use std::alloc::Allocator;
 pub use stocks::snap_stocks;
 

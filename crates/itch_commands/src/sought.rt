@@ -1,6 +1,6 @@
 //! Stocks that are looked for by their names while the messages of a file pass.
 ghost use Rattle.std.specs.Prelude.{◌≡◌, ◌==◌, IfOk, length, replicate, false};
-ghost use Rattle.itch_commands.specs.Sought.{sought, sought_after, is_about_one};
+ghost use Rattle.itch_commands.specs.Sought.{sought, sought_after, is_about_one, is_found};
 ghost use Rattle.itch_commands.specs.Stocks.{names_of};
 
 use crate::stock_names::StockNames;
@@ -51,10 +51,18 @@ impl<A: Allocator> SoughtStocks<'_, A> {
                 self.stocks.have(stock.text())
             }
             _ => match message.header() {
-                Some(header) => self.found[usize::from(header.locate)],
+                Some(header) => self.has(header.locate),
                 None => false,
             },
         }
+    }
+
+    /// Whether a locate has one of the stocks, by the messages so far.
+    #[inline(always)]
+    pub fn has(&self, locate: u16) -> bool
+        ensures { result ≡ is_found self.now locate }
+    {
+        self.found[usize::from(locate)]
     }
 
     /// Passes a message, after which its locate may have another stock.

@@ -1,12 +1,13 @@
 //! The snapshot at a point of the day, from the checkpoint that is nearest to it.
 
 use crate::beginning::Beginning;
-use crate::checkpoints::{Checkpoint, EMPTY_SNAPSHOT, nearest, path_of};
+use crate::checkpoints::{EMPTY_SNAPSHOT, nearest_of, path_of};
 use crate::failure::Failure;
 use crate::feed::{FeedFault, open_after};
 use crate::opened::open;
 use crate::run::perform_pair_over;
-use itch_commands::snap::{Unfit, has_each};
+use itch_checkpoints::{Checkpoint, Unfit};
+use itch_commands::snap::has_each;
 use itch_commands::{FeedPart, Limit, PairCommand, Selection, Source, ToolFault, read_locates};
 use itch_frame::CountedWrite;
 use itch_market::LocateSet;
@@ -27,7 +28,7 @@ pub fn join_at<'x, R: Files + Input + Eprint + AllocGlobal + Clock, W: CountedWr
     out: &mut W,
 ) -> Result<bool, Failure> {
     let alloc = rt.alloc();
-    let checkpoint = nearest(rt, folder, point)?;
+    let checkpoint = nearest_of(rt, folder, point)?;
     if !has_wanted(alloc, &checkpoint, only.as_ref())? {
         return Err(unfit(alloc, Unfit::Partial, folder, feed)?);
     }
@@ -37,11 +38,11 @@ pub fn join_at<'x, R: Files + Input + Eprint + AllocGlobal + Clock, W: CountedWr
         Err(FeedFault::Unfit(why)) => return Err(unfit(alloc, why, folder, feed)?),
     };
     let part = FeedPart {
-        before: checkpoint.mark.count,
+        before: checkpoint.count,
         limit: point,
     };
     let join = PairCommand::Join { part, selection };
-    if checkpoint.mark.count == 0 {
+    if checkpoint.count == 0 {
         return Ok(perform_pair_over(alloc, join, only, EMPTY_SNAPSHOT, feed, out)?);
     }
     let path = path_of(alloc, folder, &checkpoint)?;

@@ -9,7 +9,7 @@ use crate::second_look::{lacked_stock, last_event};
 use crate::selected::Selected;
 use clap::Error;
 use clap::error::ErrorKind;
-use itch_commands::snap::Unfit;
+use itch_checkpoints::Unfit;
 use itch_commands::{Source, ToolFault, Unmet, system_fault};
 use itch_soup::SoupFault;
 use itchsnap_live::{LiveFault, Names, SessionCause, SessionDevice, SessionFault};

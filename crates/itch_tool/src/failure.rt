@@ -2,8 +2,8 @@
 ghost use Rattle.std.specs.Prelude.{◌≡◌};
 ghost use Rattle.itch_tool.specs.Endings.{failure_status};
 
+use itch_checkpoints::Unfit;
 use itch_commands::ToolFault;
-use itch_commands::snap::Unfit;
 use itchsnap_live::{LoginsFault, SessionFault};
 use std::alloc::{AllocError, Global};
 use std::io::{self, ErrorKind};

@@ -8,7 +8,7 @@ use itch_live::Sessions;
 use itchsnap_cli::words::{FeedWords, FollowWords, LiveWords, session_of_file};
 use itchsnap_live::sessions::{PIECE, Sending};
 use itchsnap_live::{
-    Accounts, Following, Names, Place, Playing, Servers, Serving, SessionFault, follow_feed,
+    Accounts, DayFault, DayPaths, Following, Names, Place, Playing, Servers, Serving, SessionFault, follow_feed,
     play_feed, serve_live,
 };
 use std::fs::File;
@@ -43,13 +43,15 @@ where
         record: words.record,
         snapshots: words.snapshots,
         stay: words.stay,
+        ready: words.ready,
+        status: words.status,
+        log: words.log,
     };
     let mut out = Counted::new(io::writer(rt));
-    said(
-        rt,
-        live_names(words),
-        serve_live(rt, servers, &serving, accounts, &mut out),
-    )
+    match serve_live(rt, servers, &serving, accounts, &mut out) {
+        Ok(answer) => Ok(answer),
+        Err(DayFault { fault, paths }) => said(rt, live_names(words, &paths), Err(fault)),
+    }
 }
 
 fn places(count: u64) -> usize {
@@ -110,14 +112,18 @@ fn look_up<R: Net + AllocGlobal>(rt: &R, place: Place<'_>) -> Result<(), Failure
 }
 
 // The names of what a live server works on.
-fn live_names<'a>(words: &LiveWords<'a>) -> Names<'a> {
+fn live_names<'x>(words: &LiveWords<'x>, paths: &'x DayPaths) -> Names<'x> {
     Names {
-        record: match words.record {
-            Some(record) => record.path,
+        record: match &paths.record {
+            Some(path) => path.as_str(),
             None => "",
         },
-        snapshots: match words.snapshots {
-            Some(snapshots) => snapshots.folder,
+        snapshots: match &paths.snapshots {
+            Some(path) => path.as_str(),
+            None => "",
+        },
+        status: match words.status {
+            Some(place) => place.words,
             None => "",
         },
         feeds: words.feeds,
@@ -129,6 +135,7 @@ fn follow_names<'a>(words: &FollowWords<'a>) -> Names<'a> {
     Names {
         record: "",
         snapshots: "",
+        status: "",
         feeds: words.feeds,
     }
 }

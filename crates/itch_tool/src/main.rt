@@ -2,7 +2,7 @@
 //!
 //! `itchsnap_cli::words` reads the command line. The commands over files are those of `itch_commands`; `run` opens files and standard
 //! streams for them. `serve` and `fetch` are those of `itchsnap_live::sessions`, over sockets; `live`,
-//! `follow` and `feed` those of `itchsnap_live`.
+//! `follow` and `feed` those of `itchsnap_live`, and `status` asks a live server over HTTP.
 #![tactic(auto)]
 
 mod at;
@@ -12,7 +12,6 @@ mod explaining;
 mod failure;
 mod feed;
 mod final_status;
-mod lines;
 mod live;
 mod locate_list;
 mod names;
@@ -27,6 +26,7 @@ mod second_look;
 mod selected;
 mod serving;
 mod sockets;
+mod status;
 
 use crate::beginning::Beginning;
 use crate::explaining::{explain, finish};

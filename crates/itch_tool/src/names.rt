@@ -4,7 +4,9 @@ ghost use Rattle.itch_tool.specs.Names.{first_path, input_name, last_path, name_
 
 use crate::selected::Selected;
 use itch_commands::{Command, PairCommand, Request, Source};
-use itchsnap_cli::words::{FeedWords, FollowWords, Job, LiveWords, PointWords, Server};
+use itchsnap_cli::words::{
+    FeedWords, FollowWords, Job, LiveWords, PointWords, Server, StatusWords,
+};
 use itchsnap_live::{SessionDevice, SessionFault};
 use std::fmt;
 use std::net::SocketAddr;
@@ -176,6 +178,7 @@ fn words_of(command: &Command<'_>) -> &'static str {
         Command::Check { .. } => "check",
         Command::Info { .. } => "info",
         Command::Show { .. } | Command::ShowOrders { .. } => "show",
+        Command::Cut { .. } => "cut",
         Command::Canon { check: true } => "canon --check",
         Command::Canon { check: false } => "canon",
         Command::Book { .. } => "book ..",
@@ -226,7 +229,7 @@ impl<'a> SessionNames<'a> {
     pub fn of_live(words: &LiveWords<'a>) -> Self {
         SessionNames {
             peer: Name::Address(words.address),
-            day_file: words.record.map(|record| record.path),
+            day_file: words.record.map(|record| record.place.path()),
             folder: words.snapshots.map(|snapshots| snapshots.folder),
             output: None,
         }
@@ -244,6 +247,10 @@ impl<'a> SessionNames<'a> {
             folder: None,
             output: None,
         }
+    }
+
+    pub fn of_status(words: &StatusWords<'a>) -> Self {
+        SessionNames::of_peer(Name::Server(words.place.host, words.place.port), None)
     }
 
     /// The name of the device that a session failed at, or of its peer.
@@ -301,6 +308,7 @@ impl<'a> JobNames<'a> {
             Job::Live(words) => JobNames::of_session(SessionNames::of_live(words)),
             Job::Follow(words) => JobNames::of_session(SessionNames::of_follow(words)),
             Job::Feed(words) => JobNames::of_session(SessionNames::of_feed(words)),
+            Job::Status(words) => JobNames::of_session(SessionNames::of_status(words)),
             Job::Completions(_) => JobNames::none(),
         }
     }

@@ -1,6 +1,6 @@
 //! A day file, of whose bytes those are noted that the fingerprint of a place needs.
 
-use itch_commands::snap::{Fingerprint, Passed};
+use itch_checkpoints::{Fingerprint, Passed};
 use std::alloc::{AllocError, Global};
 use std::cell::RefCell;
 use std::io::{self, ErrorKind, Read};

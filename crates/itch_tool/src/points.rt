@@ -7,7 +7,8 @@ use crate::noted::{Noted, Notes};
 use crate::opened::{open, read_fault};
 use crate::output::Output;
 use crate::run::blocks;
-use itch_commands::snap::{Pass, write_index};
+use itch_checkpoints::index_line;
+use itch_commands::snap::Pass;
 use itch_commands::{Book, Limit, Source, ToolFault, write_locates};
 use itch_frame::{BlockReader, Counted, CountedRead};
 use itch_market::LocateSet;
@@ -61,7 +62,7 @@ fn save_points<R: Files + AllocGlobal, S: CountedRead + Drop, A: Allocator>(
 struct Folder<'a, R: Files> {
     rt: &'a R,
     path: &'a str,
-    index: Counted<R::File>,
+    index: R::File,
     only: Option<LocateSet<Global>>,
     // The list of the same locates.
     list: Option<String>,
@@ -87,7 +88,7 @@ impl<'a, R: Files + AllocGlobal> Folder<'a, R> {
             Ok(file) => Ok(Folder {
                 rt,
                 path,
-                index: Counted::new(file),
+                index: file,
                 only,
                 list,
                 notes,
@@ -119,7 +120,11 @@ impl<'a, R: Files + AllocGlobal> Folder<'a, R> {
             Some(list) => Some(list.as_str()),
             None => None,
         };
-        Ok(write_index(mark, fingerprint, list, &mut self.index)?)
+        let line = index_line(alloc, mark, fingerprint, list)?;
+        match self.index.write_all(&line) {
+            Ok(()) => Ok(()),
+            Err(error) => Err(Failure::from(ToolFault::Write(error))),
+        }
     }
 }
 

@@ -9,6 +9,7 @@ use crate::opened::open;
 use crate::output::Output;
 use crate::points::run_points;
 use crate::sockets::{run_fetch, run_serve};
+use crate::status::run_status;
 use itch_commands::{
     Book, Command, PairCommand, Request, Source, ToolFault, perform, perform_pair, system_fault,
 };
@@ -60,6 +61,7 @@ where
         Job::Live(words) => run_live(rt, words),
         Job::Follow(words) => run_follow(rt, words),
         Job::Feed(words) => run_feed(rt, words),
+        Job::Status(words) => run_status(rt, words),
         Job::Completions(shell) => Ok(print_completions(rt, *shell)?),
     }
 }

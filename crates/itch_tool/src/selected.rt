@@ -63,7 +63,7 @@ impl<'a> Selected<'a> {
             Command::Show { kind, filters, .. } => {
                 Selected::new(filters.only, filters.stocks, Some(part_of(kind)))
             }
-            Command::ShowOrders { limit, filters, .. } => {
+            Command::ShowOrders { limit, filters, .. } | Command::Cut { limit, filters } => {
                 Selected::new(filters.only, filters.stocks, Some(limit))
             }
             Command::Check { limit, .. } | Command::Info { limit, .. } => {

@@ -158,7 +158,7 @@ fn connect_as_told<N: Net<Stream = TcpStream>>(
 }
 
 // Tries each address of a host in turn, for so long each. Returns the last error where none answers.
-fn connect_within<N: Net<Stream = TcpStream>>(
+pub fn connect_within<N: Net<Stream = TcpStream>>(
     net: &N,
     address: (&str, u16),
     limit: Duration,

@@ -1,7 +1,7 @@
 -- What the program is asked to do.
 use Rattle.std.specs.Prelude.{ℕ, Bool, true, false, List, Option, Some, None, option_map}
 use Rattle.itchsnap_cli.specs.declared.words.job.Job.{Job}
-use Rattle.itchsnap_cli.specs.declared.words.job.Job.TheVariants.{Files, Points, Serve, Fetch, Live, Follow, Feed, Completions}
+use Rattle.itchsnap_cli.specs.declared.words.job.Job.TheVariants.{Files, Points, Serve, Fetch, Live, Follow, Feed, Status, Completions}
 use Rattle.itchsnap_live.specs.declared.follow_form.FollowForm.{FollowForm}
 use Rattle.itchsnap_live.specs.declared.follow_form.FollowForm.TheVariants as form
 use Rattle.itch_commands.specs.Requests.{is_binary}
@@ -28,4 +28,5 @@ writes_snapshot (Fetch server login from output) = true
 writes_snapshot (Live live) = false
 writes_snapshot (Follow follow) = is_blocks follow.form
 writes_snapshot (Feed feed) = false
+writes_snapshot (Status status) = false
 writes_snapshot (Completions shell) = false

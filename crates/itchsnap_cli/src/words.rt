@@ -23,6 +23,7 @@ mod points;
 mod request;
 mod session;
 mod size;
+mod status;
 mod time;
 
 pub use commands::usage_fault;
@@ -31,3 +32,4 @@ pub use job::{Job, read_job};
 pub use live::{FeedWords, FollowWords, LiveWords};
 pub use points::{PointWords, Points};
 pub use session::{LoginWords, Password, Server, UserWords, session_of_file};
+pub use status::StatusWords;

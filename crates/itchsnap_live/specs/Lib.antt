@@ -1,14 +1,17 @@
 pub mod Budgets
+pub mod DayFiles
 pub mod Departures
 pub mod FeedLines
 pub mod LiveFaults
 pub mod LoginFiles
 pub mod Logins
+pub mod Losses
 pub mod Openings
 pub mod Outputs
 pub mod Paces
 pub mod Patience
 pub mod Questions
+pub mod Readiness
 pub mod Recordings
 pub mod Rooms
 pub mod Routes

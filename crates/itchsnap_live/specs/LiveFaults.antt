@@ -3,7 +3,7 @@ use Rattle.std.specs.Prelude.{ℕ}
 use Rattle.itch_market.specs.Statuses.{stop_status}
 use Rattle.itchsnap_live.specs.SessionFaults.{session_status}
 use Rattle.itchsnap_live.specs.declared.fault.LiveFault.{LiveFault}
-use Rattle.itchsnap_live.specs.declared.fault.LiveFault.TheVariants.{Session, Record, SessionFile, InUse, OtherSession, Refused, GlimpseSession}
+use Rattle.itchsnap_live.specs.declared.fault.LiveFault.TheVariants.{Session, Record, SessionFile, StatusPort, InUse, OtherSession, Refused, GlimpseSession}
 use Rattle.itchsnap_live.specs.declared.fault.RecordFault.{RecordFault}
 use Rattle.itchsnap_live.specs.declared.fault.RecordFault.TheVariants as «record»
 
@@ -21,6 +21,7 @@ abbrev pub live_status : LiveFault → ℕ
 live_status (Session fault) = session_status fault
 live_status (Record fault) = record_status fault
 live_status (SessionFile error) = 3
+live_status (StatusPort error) = 3
 live_status (InUse owned) = 3
 live_status (Refused fault session server) = session_status fault
 live_status (OtherSession server named wanted) = 1

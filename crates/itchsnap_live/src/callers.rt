@@ -32,15 +32,27 @@ impl Callers {
         address: SocketAddr,
         token: usize,
     ) -> io::Result<Callers> {
-        let mut listener = TcpListener::bind(rt, address)?;
-        let address = listener.local_addr()?;
-        registry.register(&mut listener, Token(token), Interest::READABLE)?;
+        let (callers, address) = Callers::open(rt, registry, address, token)?;
         // That the line cannot be written is no reason to stop.
         let _ = rt.eprintln(&Listening(address));
-        Ok(Callers {
+        Ok(callers)
+    }
+
+    /// Listens on an address, and returns which it is.
+    pub(crate) fn open<N: Net>(
+        net: &N,
+        registry: &Registry,
+        address: SocketAddr,
+        token: usize,
+    ) -> io::Result<(Callers, SocketAddr)> {
+        let mut listener = TcpListener::bind(net, address)?;
+        let address = listener.local_addr()?;
+        registry.register(&mut listener, Token(token), Interest::READABLE)?;
+        let callers = Callers {
             listener,
             are_waiting: false,
-        })
+        };
+        Ok((callers, address))
     }
 
     /// Takes note that clients call.

@@ -3,6 +3,7 @@
 use crate::budget::is_slow;
 use crate::departure::{Departure, departure_of};
 use crate::link::Link;
+use crate::who::Who;
 use itch_book::OrderBook;
 use itch_live::Desk;
 use mio::event::Event;
@@ -34,8 +35,14 @@ impl ClientSide {
         }
     }
 
-    pub(crate) fn number(&self) -> u64 {
-        self.link.number()
+    /// Whose connection it is.
+    pub(crate) fn who(&self) -> Who {
+        self.link.who()
+    }
+
+    /// Whether nothing was sent of its snapshot.
+    pub(crate) fn has_none(&self) -> bool {
+        self.taken == 0
     }
 
     /// Its connection.
@@ -90,13 +97,20 @@ impl ClientSide {
         self.link.try_to_write();
     }
 
-    /// Writes what is pending, up to a share. Once it has all, the sending half of the connection is ended.
-    pub(crate) fn tell<B: OrderBook>(&mut self, desk: &mut Desk<B>, place: usize, now_ms: u64) {
+    /// Writes what is pending, up to a share, and returns how many bytes that is. Once it has all, the sending half of the connection is ended.
+    pub(crate) fn tell<B: OrderBook>(
+        &mut self,
+        desk: &mut Desk<B>,
+        place: usize,
+        now_ms: u64,
+    ) -> u64 {
+        let mut sent = 0u64;
         for _ in 0..SHARE {
             let pending = desk.pending(place);
             let most = pending.len().min(SHARE);
             let count = self.link.write(&pending[..most]);
             desk.took(place, count, now_ms);
+            sent = sent.saturating_add(count as u64);
             if self.answer.is_some() {
                 self.taken = self.taken.saturating_add(count as u64);
             }
@@ -110,6 +124,7 @@ impl ClientSide {
         {
             self.link.end_sending();
         }
+        sent
     }
 
     /// How its connection has ended, once it has all that it is told.

@@ -6,6 +6,7 @@ use crate::reception::{Arrival, Reception};
 use crate::room::SnapshotRoom;
 use crate::seated::Seated;
 use crate::sessions::PIECE;
+use crate::who::Happening;
 use itch_book::OrderBook;
 use itch_live::{Desk, longest_snapshot};
 use itch_snapshot::snapshot_len;
@@ -34,6 +35,9 @@ pub(crate) struct Clients {
     crowded_ms: Option<u64>,
     // When full sockets were tried last.
     tried_ms: u64,
+    // How many snapshots were encoded, and how many bytes were sent.
+    encoded: u64,
+    sent: u64,
     buffer: Vec<u8>,
 }
 
@@ -54,8 +58,28 @@ impl Clients {
             first_token,
             crowded_ms: None,
             tried_ms: 0,
+            encoded: 0,
+            sent: 0,
             buffer: vec![in alloc; 0; PIECE]?,
         })
+    }
+
+    /// How many snapshots were encoded, and how many bytes were sent.
+    pub(crate) fn totals(&self) -> (u64, u64) {
+        (self.encoded, self.sent)
+    }
+
+    /// How many clients wait for a snapshot, and how many are sent one.
+    pub(crate) fn counts<B: OrderBook>(&self, desk: &Desk<B>) -> (u64, u64) {
+        let (mut waiting, mut served) = (0u64, 0u64);
+        for place in 0..self.seats.len() {
+            match desk.guest(place) {
+                Some(guest) if guest.is_waiting() => waiting = waiting.saturating_add(1),
+                Some(_) => served = served.saturating_add(1),
+                None => {}
+            }
+        }
+        (waiting, served)
     }
 
     /// Whether there is no client.
@@ -133,14 +157,14 @@ impl Clients {
         } = arrival;
         let mut link = link;
         let Ok(Some(place)) = desk.admit(config, now_ms) else {
-            return reception.write_down(link.number(), Departure::Fault);
+            return reception.write_down(&link.who(), Departure::Fault);
         };
         if link
             .move_to(registry, place.saturating_add(self.first_token))
             .is_err()
         {
             desk.leave(place);
-            return reception.write_down(link.number(), Departure::Fault);
+            return reception.write_down(&link.who(), Departure::Fault);
         }
         hand_on(desk, place, words.as_slice(), now_ms);
         self.set(place, Some(ClientSide::new(link)));
@@ -172,8 +196,12 @@ impl Clients {
         };
         let messages = u64::try_from(snapshot_len(market)).unwrap_or(u64::MAX);
         let limit = self.room.limit(longest_snapshot(market));
+        let kept = desk.snapshot_bytes();
         // Also where it ends in an error, some were answered.
         let _ = desk.answer(limit, now_ms);
+        if desk.snapshot_bytes() > kept {
+            self.encoded = self.encoded.saturating_add(1);
+        }
         self.note_answers(desk, next, messages.saturating_add(1), now_ms);
     }
 
@@ -260,7 +288,12 @@ impl Clients {
     }
 
     /// Writes what is pending. Full sockets are tried too, ten times a second: the system reports room only once a third of a buffer is free.
-    pub(crate) fn tell<B: OrderBook>(&mut self, desk: &mut Desk<B>, now_ms: u64) {
+    pub(crate) fn tell<B: OrderBook>(
+        &mut self,
+        reception: &mut Reception,
+        desk: &mut Desk<B>,
+        now_ms: u64,
+    ) {
         let tries = now_ms.saturating_sub(self.tried_ms) >= TRY_MS;
         if tries {
             self.tried_ms = now_ms;
@@ -270,7 +303,12 @@ impl Clients {
                 if tries {
                     client.try_to_write();
                 }
-                client.tell(desk, place, now_ms);
+                let had_none = client.has_none();
+                let sent = client.tell(desk, place, now_ms);
+                if had_none && !client.has_none() {
+                    reception.happens(&client.who(), Happening::FirstByte);
+                }
+                self.sent = self.sent.saturating_add(sent);
             }
         }
     }
@@ -291,6 +329,13 @@ impl Clients {
             } else if let Some(departure) = self.departure(desk, place) {
                 self.free(place, departure, reception, desk);
             }
+        }
+    }
+
+    /// Cuts off all who are still there.
+    pub(crate) fn cut_off<B: OrderBook>(&mut self, reception: &mut Reception, desk: &mut Desk<B>) {
+        for place in 0..self.seats.len() {
+            self.free(place, Departure::CutOff, reception, desk);
         }
     }
 
@@ -337,7 +382,7 @@ impl Clients {
         desk: &mut Desk<B>,
     ) {
         if let Some(Some(client)) = self.seats.get(place) {
-            reception.write_down(client.number(), departure);
+            reception.write_down(&client.who(), departure);
         }
         self.set(place, None);
         self.seated.set(place, None);

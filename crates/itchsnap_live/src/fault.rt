@@ -2,6 +2,7 @@
 ghost use Rattle.std.specs.Prelude.{◌≡◌};
 ghost use Rattle.itchsnap_live.specs.LiveFaults.{live_status, record_status};
 
+use crate::day_files::DayPaths;
 use crate::places::Feeds;
 use crate::session_fault::SessionFault;
 use crate::watch::Change;
@@ -24,6 +25,8 @@ pub enum LiveFault {
     Record(RecordFault),
     /// The file beside the record that names its session cannot be read or written.
     SessionFile(io::Error),
+    /// The status port cannot be listened on.
+    StatusPort(io::Error),
     /// Another process uses a file of the server.
     InUse(Owned),
     /// A server accepted the login in another session than the one that was asked for.
@@ -46,6 +49,13 @@ pub enum LiveFault {
     },
 }
 
+/// Why a live server has ended, and where the files of the day were, as far as that was known.
+#[derive(Debug, Drop)]
+pub struct DayFault {
+    pub fault: LiveFault,
+    pub paths: DayPaths,
+}
+
 /// What one process at a time may write to.
 #[derive(Clone, Copy, Debug, PartialEq, Eq)]
 pub enum Owned {
@@ -53,12 +63,13 @@ pub enum Owned {
     Snapshots,
 }
 
-/// The names that the second line of a fault may have, as they were written: the paths of the record and of the folder of snapshots, and the feed's
-/// servers.
+/// The names that the second line of a fault may have, as they were written: the paths of the record and of the folder of snapshots, the status port,
+/// and the feed's servers.
 #[derive(Clone, Copy, Debug)]
 pub struct Names<'a> {
     pub record: &'a str,
     pub snapshots: &'a str,
+    pub status: &'a str,
     pub feeds: Feeds<'a>,
 }
 
@@ -93,8 +104,7 @@ impl LiveFault {
         match self {
             LiveFault::Session(fault) | LiveFault::Refused { fault, .. } => fault.status(),
             LiveFault::Record(fault) => record_status(fault),
-            LiveFault::SessionFile(_) => 3,
-            LiveFault::InUse(_) => 3,
+            LiveFault::SessionFile(_) | LiveFault::StatusPort(_) | LiveFault::InUse(_) => 3,
             LiveFault::OtherSession { .. } | LiveFault::GlimpseSession { .. } => 1,
         }
     }
@@ -104,6 +114,7 @@ impl LiveFault {
         let Names {
             record,
             snapshots,
+            status,
             feeds,
         } = names;
         match self {
@@ -112,6 +123,7 @@ impl LiveFault {
             LiveFault::Record(RecordFault::BadSession) => Some(Detail::SessionFile(record)),
             LiveFault::Record(_) => Some(Detail::Path(record)),
             LiveFault::SessionFile(error) => Some(Detail::SessionFileFailed(record, *error)),
+            LiveFault::StatusPort(error) => Some(Detail::Status(status, *error)),
             LiveFault::InUse(Owned::Record) => Some(Detail::InUse(record)),
             LiveFault::InUse(Owned::Snapshots) => Some(Detail::InUse(snapshots)),
             LiveFault::Refused {
@@ -210,6 +222,7 @@ impl Display for LiveFault {
             LiveFault::Session(fault) | LiveFault::Refused { fault, .. } => write!(f, "{fault}"),
             LiveFault::Record(fault) => write!(f, "itchsnap: record: {fault}"),
             LiveFault::SessionFile(_) | LiveFault::InUse(_) => f.write_str("itchsnap: cannot open"),
+            LiveFault::StatusPort(_) => f.write_str("itchsnap: socket failed"),
             LiveFault::OtherSession {
                 server,
                 named,
@@ -296,6 +309,8 @@ pub enum Detail<'a> {
     SessionFile(&'a str),
     /// What failed is the session file of the record of this path, with the system's own error.
     SessionFileFailed(&'a str, io::Error),
+    /// What failed is the status port of this name, with the system's own error.
+    Status(&'a str, io::Error),
     /// The record of this path has no session file.
     NoSessionFile(&'a str),
     /// Another process holds the lock of this path.
@@ -312,6 +327,7 @@ impl Display for Detail<'_> {
             Detail::Path(path) => f.write_str(path),
             Detail::SessionFile(path) => write!(f, "{path}.session"),
             Detail::SessionFileFailed(path, error) => write!(f, "{path}.session: {error}"),
+            Detail::Status(name, error) => write!(f, "{name}: {error}"),
             Detail::NoSessionFile(path) => write!(
                 f,
                 "{path}: there is no {path}.session: name its session with --session, or begin a new record"

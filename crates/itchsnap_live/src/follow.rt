@@ -4,6 +4,7 @@ use crate::fault::LiveFault;
 use crate::feed_side::{FeedSide, SHARE};
 use crate::follow_form::FollowForm;
 use crate::log::Log;
+use crate::log::form::LogForm;
 use crate::logins::Logins;
 use crate::route::Servers;
 use crate::session_fault::SessionFault;
@@ -92,7 +93,7 @@ where
         let sessions = following.sessions;
         let credentials = account.first().credentials(current_session());
         let follower = Follower::new(rt.alloc(), credentials, sessions, joiner, 0)?;
-        let log = Log::new(rt)?;
+        let log = Log::new(rt, LogForm::Plain)?;
         let turns = Turns::begin(rt, rt, EVENTS)?;
         let feed = FeedSide::new(rt.alloc(), servers, account, sessions.glimpse, FEED)?;
         Ok(Tail {

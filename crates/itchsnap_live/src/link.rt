@@ -3,6 +3,7 @@ ghost use Rattle.std.specs.Prelude.{◌≡◌, ◌≤◌, ◌&&◌, ◌||◌, no
 ghost use Rattle.itchsnap_live.specs.Departures.{ending};
 
 use crate::socket::{Got, Socket};
+use crate::who::{User, Who};
 use itch_live::Gone;
 use mio::Registry;
 use mio::event::Event;
@@ -12,7 +13,7 @@ use std::io;
 #[derive(Drop)]
 pub(crate) struct Link {
     socket: Socket,
-    number: u64,
+    who: Who,
     // Whether the client sends no more, whether nothing more is sent to it, and whether a read or a write has failed.
     has_ended: bool,
     has_all: bool,
@@ -20,11 +21,11 @@ pub(crate) struct Link {
 }
 
 impl Link {
-    /// The connection of the client that connected as the one with this number.
-    pub(crate) fn new(socket: Socket, number: u64) -> Link {
+    /// The connection of this client.
+    pub(crate) fn new(socket: Socket, who: Who) -> Link {
         Link {
             socket,
-            number,
+            who,
             has_ended: false,
             has_all: false,
             has_failed: false,
@@ -32,7 +33,17 @@ impl Link {
     }
 
     pub(crate) fn number(&self) -> u64 {
-        self.number
+        self.who.number
+    }
+
+    /// Whose connection it is.
+    pub(crate) fn who(&self) -> Who {
+        self.who
+    }
+
+    /// Takes note of the user name that a login gives.
+    pub(crate) fn set_user(&mut self, user: User) {
+        self.who.user = Some(user);
     }
 
     /// Takes note of what is ready.
@@ -78,7 +89,10 @@ impl Link {
         ensures { result ≤ length bytes.now }
     {
         match self.socket.write(bytes) {
-            Ok(count) => count,
+            Ok(count) => {
+                self.who.sent = self.who.sent.saturating_add(count as u64);
+                count
+            }
             Err(_) => {
                 self.has_failed = true;
                 0

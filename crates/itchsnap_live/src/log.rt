@@ -1,14 +1,24 @@
 //! Lines of a server that never wait: a pipe that nobody reads, or that is closed, costs lines and no more.
 
-use crate::departure::{Departure, write_departure};
+pub(crate) mod entry;
+pub(crate) mod form;
+pub(crate) mod lines;
+
+use crate::departure::write_departure;
+use crate::utc::unix_ms;
+use crate::who::{Happening, Visit};
+use entry::{Event, Line};
+use form::LogForm;
 use itch_frame::CountedWrite;
+use itch_status::{UTC, utc};
+use lines::LinesLost;
 use mio::unix::SourceFd;
 use mio::{Events, Interest, Poll, Token};
 use std::alloc::{AllocError, Global};
-use std::fmt::Display;
 use std::io;
 use std::net::Net;
 use std::os::fd::RawFd;
+use std::rt::Clock;
 use std::time::Duration;
 
 const OUTPUT: RawFd = 1;
@@ -22,31 +32,67 @@ const REPORT_MS: u64 = 60_000;
 #[derive(Drop)]
 pub(crate) struct Log<'a, R> {
     rt: &'a R,
+    form: LogForm,
+    // The time of this turn, in milliseconds since 1970, as far as the clock says so.
+    time: Option<u64>,
     output: Outlet,
     error: Outlet,
     is_mute: bool,
     lost: u64,
+    // Those before them, which were reported.
+    lost_before: u64,
     reported_ms: u64,
 }
 
 impl<'a, R: Eprint> Log<'a, R> {
-    pub(crate) fn new(rt: &'a R) -> Result<Log<'a, R>, AllocError>
+    pub(crate) fn new(rt: &'a R, form: LogForm) -> Result<Log<'a, R>, AllocError>
     where
-        R: Net + AllocGlobal,
+        R: Net + Clock + AllocGlobal,
     {
         Ok(Log {
             rt,
+            form,
+            time: unix_ms(rt),
             output: Outlet::new(rt, OUTPUT)?,
             error: Outlet::new(rt, ERROR)?,
             is_mute: false,
             lost: 0,
+            lost_before: 0,
             reported_ms: 0,
         })
+    }
+
+    /// Another one, to the same streams.
+    pub(crate) fn another(&self) -> Result<Log<'a, R>, AllocError>
+    where
+        R: Net + Clock + AllocGlobal,
+    {
+        Log::new(self.rt, self.form)
+    }
+
+    /// How many lines were lost.
+    pub(crate) fn lost(&self) -> u64 {
+        self.lost_before.saturating_add(self.lost)
+    }
+
+    /// Whether its lines have the cause of a loss.
+    pub(crate) fn has_causes(&self) -> bool {
+        !matches!(self.form, LogForm::Plain)
     }
 
     /// What it writes with.
     pub(crate) fn runtime(&self) -> &'a R {
         self.rt
+    }
+
+    /// Looks at the clock: what is said until the next look has this time.
+    pub(crate) fn look_at_clock(&mut self)
+    where
+        R: Clock,
+    {
+        if !matches!(self.form, LogForm::Plain) {
+            self.time = unix_ms(self.rt);
+        }
     }
 
     /// Says nothing from now on.
@@ -55,24 +101,43 @@ impl<'a, R: Eprint> Log<'a, R> {
     }
 
     /// Says a line on standard error.
-    pub(crate) fn say<L: Display>(&mut self, line: &L) {
-        if self.is_mute {
-            return;
-        }
-        if !self.error.has_room() || self.rt.eprintln(line).is_err() {
+    pub(crate) fn say<L: Event>(&mut self, line: &L) {
+        if !self.is_mute && !self.says(line) {
             self.lost = self.lost.saturating_add(1);
         }
     }
 
-    /// Writes the line of a client's connection.
-    pub(crate) fn departs<W: CountedWrite>(
-        &mut self,
-        out: &mut W,
-        number: u64,
-        departure: Departure,
-    ) {
-        if !self.output.has_room() || write_departure(out, number, departure).is_err() {
-            self.lost = self.lost.saturating_add(1);
+    fn says<L: Event>(&mut self, line: &L) -> bool {
+        if !self.error.has_room() {
+            return false;
+        }
+        let said = match self.form {
+            LogForm::Plain => self.rt.eprintln(line),
+            form => self.rt.eprintln(&Line {
+                time: self.time(),
+                form,
+                event: line,
+            }),
+        };
+        said.is_ok()
+    }
+
+    // The time of this turn, as it is written.
+    fn time(&self) -> Option<[u8; UTC]> {
+        utc(self.time?)
+    }
+
+    /// Writes what has become of a client's connection: plain lines have only its end, on standard output.
+    pub(crate) fn tell<W: CountedWrite>(&mut self, out: &mut W, visit: &Visit) {
+        match (self.form, visit.happening) {
+            (LogForm::Plain, Happening::Ended(departure)) => {
+                let number = visit.who.number;
+                if !self.output.has_room() || write_departure(out, number, departure).is_err() {
+                    self.lost = self.lost.saturating_add(1);
+                }
+            }
+            (LogForm::Plain, _) => {}
+            _ => self.say(visit),
         }
     }
 
@@ -82,8 +147,8 @@ impl<'a, R: Eprint> Log<'a, R> {
             return;
         }
         self.reported_ms = now_ms;
-        let lost = self.lost;
-        if self.error.has_room() && eprintln!(self.rt; "log: {lost} lines were lost").is_ok() {
+        if self.says(&LinesLost(self.lost)) {
+            self.lost_before = self.lost();
             self.lost = 0;
         }
     }

@@ -1,6 +1,8 @@
 //! The logins that a server accepts, or that a client gives: words of the command line, or those of a file, which is read again when it has changed.
 
 use crate::log::Log;
+use crate::log::entry::{Event, Level, write_shown, write_text};
+use crate::log::form::LogForm;
 use crate::login_file::{Look, Sight, Version, look_of};
 use crate::session_fault::SessionFault;
 use crate::sessions::{Login, first_line, without_return};
@@ -233,6 +235,31 @@ impl Display for LoginLine<'_, '_, '_> {
         match self.fault {
             None => write!(f, "{whose}: reloaded {path}"),
             Some(fault) => write!(f, "{whose}: cannot reload {path}: {fault}"),
+        }
+    }
+}
+
+impl Event for LoginLine<'_, '_, '_> {
+    fn level(&self) -> Level {
+        match self.fault {
+            None => Level::Info,
+            Some(_) => Level::Warn,
+        }
+    }
+
+    fn name(&self) -> &'static str {
+        match self.fault {
+            None => "logins_reloaded",
+            Some(_) => "logins_kept",
+        }
+    }
+
+    fn write_fields<W: fmt::Write>(&self, f: &mut Formatter<W>, form: LogForm) -> fmt::Result {
+        write_text(f, form, "whose", self.whose)?;
+        write_text(f, form, "file", self.path)?;
+        match self.fault {
+            None => Ok(()),
+            Some(fault) => write_shown(f, form, "reason", fault),
         }
     }
 }

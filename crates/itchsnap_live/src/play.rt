@@ -3,6 +3,7 @@
 use crate::callers::Callers;
 use crate::departure::Departure;
 use crate::log::Log;
+use crate::log::form::LogForm;
 use crate::logins::Logins;
 use crate::pace::Pace;
 use crate::playback::Playback;
@@ -13,6 +14,7 @@ use crate::session_fault::SessionFault;
 use crate::sessions::PIECE;
 use crate::spare::Spare;
 use crate::turns::{Turns, called};
+use crate::who::{Happening, Visit, Who};
 use itch_codec::{Alpha, Seq};
 use itch_frame::CountedWrite;
 use itch_live::Player;
@@ -119,7 +121,7 @@ where
         let callers = called(Callers::listen(rt, turns.registry(), playing.address, LISTENER))?;
         Ok(Players {
             rt,
-            log: Log::new(rt)?,
+            log: Log::new(rt, LogForm::Plain)?,
             playing,
             users,
             end,
@@ -204,10 +206,10 @@ where
                 return;
             };
             self.spare.release();
-            let number = arrival.link.number();
+            let who = arrival.link.who();
             match self.seat_one(arrival, place, now_ms) {
                 Ok(client) => self.set(place, Some(client)),
-                Err(_) => self.reception.write_down(number, Departure::Fault),
+                Err(_) => self.reception.write_down(&who, Departure::Fault),
             }
         }
     }
@@ -258,9 +260,9 @@ where
     // Closes the connection of each that is gone.
     fn close(&mut self) {
         for place in 0..self.clients.len() {
-            if let Some((number, departure)) = self.departure(place) {
+            if let Some((who, departure)) = self.departure(place) {
                 self.set(place, None);
-                self.reception.write_down(number, departure);
+                self.reception.write_down(&who, departure);
             }
         }
     }
@@ -268,19 +270,21 @@ where
     // Writes the lines of the connections that have ended.
     fn write_lines<W: CountedWrite>(&mut self, now_ms: u64, out: &mut W) {
         for _ in 0..u64::MAX {
-            let Some((number, departure)) = self.reception.next_ended() else {
+            let Some((who, happening)) = self.reception.next_happening() else {
                 break;
             };
-            self.ended = self.ended.saturating_add(1);
-            self.log.departs(out, number, departure);
+            if matches!(happening, Happening::Ended(_)) {
+                self.ended = self.ended.saturating_add(1);
+            }
+            self.log.tell(out, &Visit::new(who, happening, now_ms));
         }
         self.log.report(now_ms);
     }
 
-    // The number of the client at a place, and how its connection ended, once it is to be closed.
-    fn departure(&self, place: usize) -> Option<(u64, Departure)> {
+    // Whose connection that at a place is, and how it ended, once it is to be closed.
+    fn departure(&self, place: usize) -> Option<(Who, Departure)> {
         match self.clients.get(place) {
-            Some(Some(client)) => Some((client.number(), client.departure()?)),
+            Some(Some(client)) => Some((client.who(), client.departure()?)),
             _ => None,
         }
     }

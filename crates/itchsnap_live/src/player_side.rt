@@ -5,6 +5,7 @@ use crate::link::Link;
 use crate::pace::{Pace, is_due};
 use crate::playback::Playback;
 use crate::session_fault::SessionFault;
+use crate::who::Who;
 use itch_live::{Gone, Player};
 use mio::event::Event;
 use std::alloc::Global;
@@ -63,8 +64,8 @@ impl<F: Read + Drop> PlayerSide<F> {
         }
     }
 
-    pub(crate) fn number(&self) -> u64 {
-        self.link.number()
+    pub(crate) fn who(&self) -> Who {
+        self.link.who()
     }
 
     /// Takes note of what is ready.

@@ -6,6 +6,7 @@ ghost use Rattle.itchsnap_live.specs.Questions.{asks_session, is_another};
 use crate::fault::{LiveFault, RecordFault};
 use crate::feed_side::FeedSide;
 use crate::log::Log;
+use crate::log::form::LogForm;
 use crate::logins::Logins;
 use crate::resuming::at_the_first;
 use crate::sessions::current_session;
@@ -42,8 +43,8 @@ pub fn is_another(session: &Alpha<10>, named: &Alpha<10>) -> bool
     name_of(session) != name_of(named)
 }
 
-// A session's name without the spaces at both ends.
-fn name_of(session: &Alpha<10>) -> &[u8]
+/// A session's name without the spaces at both ends.
+pub(crate) fn name_of(session: &Alpha<10>) -> &[u8]
     ensures { result.now ≡ session_name session.entry.now }
 {
     after_spaces(session.text().as_bytes())
@@ -75,7 +76,10 @@ where
     let Ok(account) = Logins::of(rt.alloc(), &feed.login()) else {
         return None;
     };
-    let Ok(mut start) = Start::new(rt, feed.servers(), account, None, FEED) else {
+    let Ok(log) = Log::new(rt, LogForm::Plain) else {
+        return None;
+    };
+    let Ok(mut start) = Start::new(rt, log, feed.servers(), account, None, FEED) else {
         return None;
     };
     let credentials = feed.login().credentials(current_session());
@@ -85,8 +89,8 @@ where
     start.ask(address, &mut follower, MOST_MS)
 }
 
-// A follower that has no session yet.
-fn nameless_follower<B: OrderBook<Alloc = Global>>(
+/// A follower that has no session yet.
+pub(crate) fn nameless_follower<B: OrderBook<Alloc = Global>>(
     alloc: Global,
     credentials: &Credentials,
     joiner: Joiner<B>,

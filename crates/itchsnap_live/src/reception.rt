@@ -1,19 +1,20 @@
 //! Connections that hold no place of a server: those that have not logged in yet, and those that are told no more.
 
+mod visitor;
+
 use crate::callers::{Caller, Callers};
-use crate::departure::{Departure, departure_of};
+use crate::departure::Departure;
 use crate::link::Link;
-use crate::opening::{Opening, opening_of};
+use crate::opening::Opening;
 use crate::refusals::Refusals;
 use crate::seated::Seated;
 use crate::sessions::Login;
 use crate::socket::Socket;
 use crate::spare::Spare;
-use crate::users::{Verdict, verdict_of};
+use crate::who::{Happening, Who};
 use arrayvec::ArrayVec;
 use itch_codec::{Alpha, Seq};
-use itch_live::{Gone, PendingPacket};
-use itch_soup::{Origin, ServerConfig, ServerSession, parse_packet};
+use itch_soup::ServerConfig;
 use mio::Registry;
 use mio::event::Event;
 use mio::net::TcpStream;
@@ -21,6 +22,7 @@ use std::alloc::{AllocError, Global};
 use std::fs::File;
 use std::net::IpAddr;
 use std::rt::Files;
+use visitor::{KEPT, Served, Stage, Visitor};
 
 /// How many there are at most.
 const ROOM: usize = 1_000;
@@ -28,14 +30,8 @@ const ROOM: usize = 1_000;
 /// So many are accepted in one turn, at most.
 const MOST_ACCEPTED: usize = 64;
 
-/// How long a connection has to log in, or to close once it is told no more.
-const PATIENCE_MS: u64 = 15_000;
-
 /// Where there is no room, one that has been there for so long without a login makes room.
 const GRACE_MS: u64 = 1_000;
-
-/// What is kept of what a connection says: a login after its length, and some more.
-const KEPT: usize = 64;
 
 /// A connection whose login is right, by which configuration, and what it has said: its login, and what it may have said after that.
 #[derive(Drop)]
@@ -44,38 +40,6 @@ pub(crate) struct Arrival {
     pub address: IpAddr,
     pub config: ServerConfig,
     pub words: ArrayVec<u8, KEPT>,
-}
-
-// What a connection waits for.
-#[derive(Clone, Copy)]
-enum Stage {
-    // It has not sent a whole login.
-    Opening,
-    // Its login is right by this configuration, and it waits for a place.
-    Ready(ServerConfig),
-    // Its login was rejected: it is told so, once the moment has come.
-    Rejected { code: u8, at_ms: u64 },
-    // It is told no more, and its connection has ended so.
-    Over(Departure),
-}
-
-// What logins are judged by.
-#[derive(Clone, Copy)]
-struct Served<'a> {
-    users: &'a [Login],
-    session: Alpha<10>,
-    end_number: Seq,
-}
-
-#[derive(Drop)]
-struct Visitor {
-    link: Link,
-    address: IpAddr,
-    since_ms: u64,
-    stage: Stage,
-    words: ArrayVec<u8, KEPT>,
-    // How many bytes of an uninteresting packet are still to come.
-    skipped: usize,
 }
 
 /// The connections that hold no place.
@@ -92,145 +56,8 @@ pub(crate) struct Reception {
     present: usize,
     end: usize,
     refusals: Refusals,
-    // Those that have ended, and whose lines are not written yet.
-    ended: Vec<(u64, Departure)>,
-}
-
-impl Visitor {
-    // Whether there is something to read before anything else is ready.
-    fn is_busy(&self) -> bool {
-        match self.stage {
-            Stage::Opening | Stage::Over(_) => self.link.is_busy(false),
-            Stage::Ready(_) => self.words.remaining_capacity() > 0 && self.link.is_busy(false),
-            Stage::Rejected { .. } => false,
-        }
-    }
-
-    fn new(link: Link, address: IpAddr, now_ms: u64) -> Visitor {
-        Visitor {
-            link,
-            address,
-            since_ms: now_ms,
-            stage: Stage::Opening,
-            words: ArrayVec::new(),
-            skipped: 0,
-        }
-    }
-
-    // Reads what it has said, as far as that is kept, and does what it means at this server.
-    fn turn(&mut self, served: &Served<'_>, now_ms: u64, buffer: &mut [u8]) {
-        match self.stage {
-            Stage::Opening => {
-                self.read(buffer);
-                self.hear(served, now_ms);
-            }
-            Stage::Ready(_) => self.read(buffer),
-            Stage::Rejected { code, at_ms } if now_ms >= at_ms => {
-                let rejection = PendingPacket::of(&ServerSession::rejected(code));
-                self.link.write(rejection.bytes());
-                self.link.end_sending();
-                self.stage = Stage::Over(Departure::Rejected(code));
-            }
-            Stage::Rejected { .. } => {}
-            Stage::Over(_) => {
-                self.link.read(buffer);
-            }
-        }
-    }
-
-    // Reads what there is room for, but for what is passed over.
-    fn read(&mut self, buffer: &mut [u8]) {
-        if self.skipped > 0 {
-            let most = self.skipped.min(buffer.len());
-            let count = self.link.read(&mut buffer[..most]);
-            self.skipped = self.skipped.saturating_sub(count);
-            return;
-        }
-        let most = self.words.remaining_capacity().min(buffer.len());
-        if most == 0 {
-            return;
-        }
-        let count = self.link.read(&mut buffer[..most]);
-        let _ = self.words.try_extend_from_slice(&buffer[..count.min(most)]);
-    }
-
-    // Hears its packets up to its login. What comes after that is kept.
-    fn hear(&mut self, served: &Served<'_>, now_ms: u64) {
-        for _ in 0..KEPT {
-            match opening_of(self.words.as_slice()) {
-                Opening::Begun => return,
-                Opening::Packet(length) => {
-                    if self.hear_packet(length, served, now_ms) {
-                        return;
-                    }
-                    self.pass(length.saturating_add(2));
-                }
-                Opening::Passed(length) => {
-                    self.pass(length);
-                    return;
-                }
-                Opening::Broken => {
-                    self.stage = Stage::Over(Departure::Fault);
-                    return;
-                }
-            }
-        }
-    }
-
-    // Does what a packet means, and says whether it was the last one that is heard here.
-    fn hear_packet(&mut self, length: usize, served: &Served<'_>, now_ms: u64) -> bool {
-        let end = length.saturating_add(2).min(self.words.len());
-        let payload = &self.words[end.min(2)..end];
-        let Ok(packet) = parse_packet(payload, Origin::Client) else {
-            self.stage = Stage::Over(Departure::Fault);
-            return true;
-        };
-        let messages = served.end_number.value() - 1;
-        self.stage = match verdict_of(served.users, &served.session, messages, &packet) {
-            Verdict::Waits => return false,
-            Verdict::Accepted(config) => Stage::Ready(config),
-            Verdict::Rejected(code) => Stage::Rejected {
-                code,
-                at_ms: now_ms,
-            },
-            Verdict::Left => Stage::Over(Departure::Left),
-            Verdict::Fault => Stage::Over(Departure::Fault),
-        };
-        true
-    }
-
-    // Passes over bytes, of which some may still have to come.
-    fn pass(&mut self, count: usize) {
-        let here = count.min(self.words.len());
-        self.skipped = count.saturating_sub(here);
-        self.words.drain(..here);
-    }
-
-    // By which configuration its login is right, if it is.
-    fn accepted_by(&self) -> Option<ServerConfig> {
-        match &self.stage {
-            Stage::Ready(config) => Some(*config),
-            _ => None,
-        }
-    }
-
-    // How its connection ended, once it is to be closed. One whose login was heard is told what that comes to, also where it sends no more.
-    fn departure(&self, now_ms: u64) -> Option<Departure> {
-        let waits = matches!(self.stage, Stage::Ready(_) | Stage::Rejected { .. });
-        let gone = self.link.ending(None, waits);
-        let is_late = now_ms.saturating_sub(self.since_ms) >= PATIENCE_MS;
-        match self.stage {
-            Stage::Over(departure @ (Departure::Left | Departure::Fault)) => Some(departure),
-            Stage::Over(departure) if gone.is_some() || is_late => Some(departure),
-            Stage::Over(_) => None,
-            Stage::Rejected { code, .. } if gone.is_some() || is_late => Some(Departure::Rejected(
-                code,
-            )),
-            Stage::Rejected { .. } => None,
-            Stage::Opening if is_late => Some(departure_of(None, None, Gone::Silent)),
-            Stage::Opening | Stage::Ready(_) => Some(departure_of(None, None, gone?)),
-        }
-    }
+    // What has become of whom, and is not written yet.
+    happened: Vec<(Who, Happening)>,
 }
 
 impl Reception {
@@ -254,8 +81,33 @@ impl Reception {
             present: 0,
             end: 0,
             refusals: Refusals::new(alloc)?,
-            ended: Vec::with_capacity(alloc, 2 * ROOM)?,
+            happened: Vec::with_capacity(alloc, 2 * ROOM)?,
         })
+    }
+
+    /// Logins are to this session from now on.
+    pub(crate) fn begin(&mut self, session: Alpha<10>) {
+        self.session = session;
+    }
+
+    /// How many connections there have been.
+    pub(crate) fn connected(&self) -> u64 {
+        self.connected
+    }
+
+    /// How many of those here have not logged in, and how many wait for a place.
+    pub(crate) fn counts(&self) -> (u64, u64) {
+        let (mut opening, mut ready) = (0u64, 0u64);
+        for room in self.rooms.iter().take(self.end) {
+            if let Some(visitor) = room {
+                match visitor.stage {
+                    Stage::Opening => opening = opening.saturating_add(1),
+                    Stage::Ready(_) => ready = ready.saturating_add(1),
+                    Stage::Rejected { .. } | Stage::Over(_) => {}
+                }
+            }
+        }
+        (opening, ready)
     }
 
     /// Whether nobody is there.
@@ -351,12 +203,25 @@ impl Reception {
     ) {
         self.connected = self.connected.saturating_add(1);
         let token = place.saturating_add(self.first_token);
+        let who = Who::new(self.connected, address, now_ms);
+        self.happens(&who, Happening::Connected);
         match Socket::register(registry, stream, token, true) {
             Ok(socket) => {
-                let link = Link::new(socket, self.connected);
+                let link = Link::new(socket, who);
                 self.put(place, Visitor::new(link, address, now_ms));
             }
-            Err(_) => self.write_down(self.connected, Departure::Fault),
+            Err(_) => self.write_down(&who, Departure::Fault),
+        }
+    }
+
+    /// Cuts off those whose login is right: it is to a session that is not served any more.
+    pub(crate) fn cut_off_ready(&mut self) {
+        for place in 0..self.end {
+            if let Some(Some(visitor)) = self.rooms.get(place)
+                && matches!(visitor.stage, Stage::Ready(_))
+            {
+                self.end(place, Departure::CutOff);
+            }
         }
     }
 
@@ -380,13 +245,18 @@ impl Reception {
     // Closes a connection, which has ended so.
     fn end(&mut self, place: usize, departure: Departure) {
         if let Some(visitor) = self.take(place) {
-            self.write_down(visitor.link.number(), departure);
+            self.write_down(&visitor.link.who(), departure);
         }
     }
 
     /// Takes note of how a connection has ended, for its line.
-    pub(crate) fn write_down(&mut self, number: u64, departure: Departure) {
-        let _ = self.ended.push((number, departure));
+    pub(crate) fn write_down(&mut self, who: &Who, departure: Departure) {
+        self.happens(who, Happening::Ended(departure));
+    }
+
+    /// Takes note of what has become of a connection.
+    pub(crate) fn happens(&mut self, who: &Who, happening: Happening) {
+        let _ = self.happened.push((*who, happening));
     }
 
     /// Takes note of a connection whose client is told no more: it is closed once the client closes it.
@@ -398,16 +268,16 @@ impl Reception {
         registry: &Registry,
         now_ms: u64,
     ) {
-        let number = link.number();
+        let who = link.who();
         let Some(place) = self.free_room() else {
-            return self.write_down(number, departure);
+            return self.write_down(&who, departure);
         };
         let mut link = link;
         if link
             .move_to(registry, place.saturating_add(self.first_token))
             .is_err()
         {
-            return self.write_down(number, departure);
+            return self.write_down(&who, departure);
         }
         let mut visitor = Visitor::new(link, address, now_ms);
         visitor.stage = Stage::Over(departure);
@@ -436,7 +306,13 @@ impl Reception {
             let at_ms = now_ms.saturating_add(self.refusals.delay_of(visitor.address, now_ms));
             visitor.stage = Stage::Rejected { code, at_ms };
         }
-        if let Some(departure) = visitor.departure(now_ms) {
+        let who = visitor.who();
+        let has_logged_in = was_opening && matches!(visitor.stage, Stage::Ready(_));
+        let departure = visitor.departure(now_ms);
+        if has_logged_in {
+            self.happens(&who, Happening::LoggedIn);
+        }
+        if let Some(departure) = departure {
             self.end(place, departure);
         }
     }
@@ -463,11 +339,11 @@ impl Reception {
         })
     }
 
-    /// The number of a connection that has ended, and how, once for each.
-    pub(crate) fn next_ended(&mut self) -> Option<(u64, Departure)> {
-        if self.ended.is_empty() {
+    /// What has become of whom, once for each happening.
+    pub(crate) fn next_happening(&mut self) -> Option<(Who, Happening)> {
+        if self.happened.is_empty() {
             return None;
         }
-        Some(self.ended.remove(0))
+        Some(self.happened.remove(0))
     }
 }

@@ -1,21 +1,25 @@
 //! The record of a live server: a day file that this process alone appends to, and the session that it is of.
 
 use crate::fault::{LiveFault, Owned, RecordFault};
+use crate::log::Log;
+use crate::log::entry::{Event, Level, write_shown};
+use crate::log::form::LogForm;
+use crate::log::lines::Dropped;
 use crate::recording::Recording;
-use crate::resuming::replay_record;
+use crate::replay::Replay;
 use crate::session_fault::SessionFault;
 use crate::session_file::{read_session, write_session};
 use crate::sessions::PIECE;
 use crate::step::record_fault;
 use crate::watch::{Change, Seen, change_of};
-use itch_book::OrderBook;
 use itch_codec::Alpha;
+use itch_day::Mark;
 use itch_frame::tally::Failures;
-use itch_join::Joiner;
+use itch_status::Recorded;
 use std::fmt::{self, Display, Formatter};
 use std::fs::{self, File, OpenOptions, TryLockError};
 use std::io::{self, BufWriter, ErrorKind};
-use std::rt::Files;
+use std::rt::{Clock, Files};
 
 /// The record is looked at, and synced, this often.
 const WATCH_MS: u64 = 1_000;
@@ -31,11 +35,29 @@ pub enum SyncTime {
     EveryMessage,
 }
 
+/// Where a live server records.
+#[derive(Clone, Copy, Debug, PartialEq, Eq)]
+pub enum RecordPlace<'a> {
+    /// In this day file, of one session.
+    File(&'a str),
+    /// In this folder, which has a day file for each session.
+    Folder(&'a str),
+}
+
+impl<'a> RecordPlace<'a> {
+    /// As it was named: the day file or the folder.
+    pub fn path(self) -> &'a str {
+        match self {
+            RecordPlace::File(path) | RecordPlace::Folder(path) => path,
+        }
+    }
+}
+
 /// The record of a live server.
 #[derive(Clone, Copy, Debug, PartialEq, Eq)]
 pub struct RecordWords<'a> {
-    /// The day file that each message is appended to.
-    pub path: &'a str,
+    /// Where each message is appended to a day file.
+    pub place: RecordPlace<'a>,
     pub sync: SyncTime,
     /// Whether the server goes on without a record that cannot be written.
     pub is_optional: bool,
@@ -43,15 +65,17 @@ pub struct RecordWords<'a> {
 
 /// A record, or none.
 #[derive(Drop)]
-pub(crate) struct Record<'a> {
+pub(crate) struct Record {
     pub(crate) recording: Recording<File>,
-    kept: Option<Kept<'a>>,
+    kept: Option<Kept>,
 }
 
 // The file of a record.
 #[derive(Drop)]
-struct Kept<'a> {
-    words: RecordWords<'a>,
+struct Kept {
+    path: String,
+    sync: SyncTime,
+    is_optional: bool,
     // As it was opened, without what did not belong to it.
     opened: Seen,
     // The session of the messages that it has, where it has any, and whether the file beside it names that.
@@ -62,39 +86,30 @@ struct Kept<'a> {
     watched_ms: u64,
 }
 
-impl<'a> Record<'a> {
+impl Record {
     /// No record.
-    pub(crate) fn none() -> Record<'a> {
+    pub(crate) fn none() -> Record {
         Record {
             recording: Recording::Nowhere(Failures::none()),
             kept: None,
         }
     }
 
-    /// Opens a record to append to, for this process alone, replays what it has, and drops what is not a whole message at its end. It has
-    /// to be of this session, if one is named. A record that is refused stays as it is.
-    pub(crate) fn open<R: Files<File = File> + Eprint + AllocGlobal, B: OrderBook>(
+    /// Opens a record to append to, for this process alone. It has to be of this session, if one is named.
+    pub(crate) fn open<R: Files<File = File> + AllocGlobal>(
         rt: &R,
-        words: RecordWords<'a>,
+        words: RecordWords<'_>,
+        path: String,
         named: Option<Alpha<10>>,
-        joiner: Joiner<B>,
-    ) -> Result<(Record<'a>, Joiner<B>), LiveFault> {
-        let path = words.path;
-        let file = open_alone(rt, path)?;
-        let mut opened = seen(&file)?;
+    ) -> Result<Record, LiveFault> {
+        let file = open_alone(rt, path.as_str())?;
+        let opened = seen(&file)?;
         let beside = if opened.length == 0 {
             None
         } else {
-            read_session(rt, path)?
+            read_session(rt, path.as_str())?
         };
         let session = session_of(opened.length, beside, named)?;
-        let (joiner, whole) = replay_record(rt.alloc(), open_again(rt, path)?, joiner)?;
-        if whole.offset < opened.length {
-            let (rest, messages) = (opened.length - whole.offset, whole.count);
-            cut(&file, whole.offset)?;
-            let _ = eprintln!(rt; "record: dropped {rest} bytes after message {messages}");
-            opened.length = whole.offset;
-        }
         let Ok(file) = BufWriter::with_capacity(rt.alloc(), PIECE, file) else {
             return Err(LiveFault::Session(SessionFault::OutOfMemory));
         };
@@ -104,14 +119,69 @@ impl<'a> Record<'a> {
             added: 0,
         };
         let kept = Some(Kept {
-            words,
+            path,
+            sync: words.sync,
+            is_optional: words.is_optional,
             opened,
             session,
             is_named: beside.is_some(),
             synced: 0,
             watched_ms: 0,
         });
-        Ok((Record { recording, kept }, joiner))
+        Ok(Record { recording, kept })
+    }
+
+    /// A replay of the messages that it has after those of a mark.
+    pub(crate) fn replay<R: Files<File = File> + AllocGlobal>(
+        &self,
+        rt: &R,
+        mark: Mark,
+    ) -> Result<Option<Replay>, LiveFault> {
+        match &self.kept {
+            Some(kept) if kept.opened.length > 0 => {
+                let file = open_again(rt, kept.path.as_str())?;
+                Ok(Some(Replay::after(rt.alloc(), file, mark)?))
+            }
+            _ => Ok(None),
+        }
+    }
+
+    /// Drops what follows the whole messages, all of which were replayed. A record that is refused stays as it is.
+    pub(crate) fn cut<R: Eprint>(
+        &mut self,
+        log: &mut Log<'_, R>,
+        whole: Mark,
+    ) -> Result<(), LiveFault> {
+        let Recording::File { file, .. } = &self.recording else {
+            return Ok(());
+        };
+        if let Some(kept) = &mut self.kept
+            && whole.offset < kept.opened.length
+        {
+            cut(file.get_ref(), whole.offset)?;
+            log.say(&Dropped {
+                bytes: kept.opened.length - whole.offset,
+                messages: whole.count,
+            });
+            kept.opened.length = whole.offset;
+        }
+        Ok(())
+    }
+
+    /// Where it is, if there is one.
+    pub(crate) fn path(&self) -> Option<&str> {
+        match &self.kept {
+            Some(kept) => Some(kept.path.as_str()),
+            None => None,
+        }
+    }
+
+    /// How many bytes it has.
+    pub(crate) fn length(&self) -> u64 {
+        match &self.kept {
+            Some(kept) => kept.opened.length.saturating_add(self.recording.added()),
+            None => 0,
+        }
     }
 
     /// The session of the messages that it has, if it has any.
@@ -122,7 +192,7 @@ impl<'a> Record<'a> {
     /// Whether the server goes on without it where it cannot be written.
     pub(crate) fn is_optional(&self) -> bool {
         match &self.kept {
-            Some(kept) => kept.words.is_optional,
+            Some(kept) => kept.is_optional,
             None => true,
         }
     }
@@ -136,7 +206,7 @@ impl<'a> Record<'a> {
         if let Some(kept) = &mut self.kept
             && !kept.is_named
         {
-            write_session(rt, kept.words.path, &session)?;
+            write_session(rt, kept.path.as_str(), &session)?;
             kept.session = Some(session);
             kept.is_named = true;
         }
@@ -147,7 +217,7 @@ impl<'a> Record<'a> {
     pub(crate) fn flush(&mut self) -> io::Result<()> {
         self.recording.flush()?;
         match &self.kept {
-            Some(kept) if matches!(kept.words.sync, SyncTime::EveryMessage) => self.sync(),
+            Some(kept) if matches!(kept.sync, SyncTime::EveryMessage) => self.sync(),
             _ => Ok(()),
         }
     }
@@ -182,7 +252,7 @@ impl<'a> Record<'a> {
             length: kept.opened.length.saturating_add(added),
             ..kept.opened
         };
-        let found = match fs::metadata(rt, kept.words.path) {
+        let found = match fs::metadata(rt, kept.path.as_str()) {
             Ok(metadata) => Some(Seen::of(&metadata)),
             Err(error) if matches!(error.kind(), ErrorKind::NotFound) => None,
             Err(error) => return Err(RecordLoss::System(error)),
@@ -190,7 +260,7 @@ impl<'a> Record<'a> {
         if let Some(change) = change_of(written, found) {
             return Err(RecordLoss::Changed(change));
         }
-        if matches!(kept.words.sync, SyncTime::EverySecond)
+        if matches!(kept.sync, SyncTime::EverySecond)
             && let Err(error) = self.sync()
         {
             return Err(RecordLoss::System(error));
@@ -202,9 +272,19 @@ impl<'a> Record<'a> {
     pub(crate) fn finish(&mut self) -> io::Result<()> {
         self.recording.flush()?;
         match &self.kept {
-            Some(kept) if matches!(kept.words.sync, SyncTime::Never) => Ok(()),
+            Some(kept) if matches!(kept.sync, SyncTime::Never) => Ok(()),
             _ => self.sync(),
         }
+    }
+
+    /// How many bytes it has, and how many of those that were added are not on disk, where there is a record.
+    pub(crate) fn figures(&self) -> Option<Recorded> {
+        let kept = self.kept.as_ref()?;
+        let added = self.recording.added();
+        Some(Recorded {
+            length: self.length(),
+            unsynced: added.saturating_sub(kept.synced),
+        })
     }
 
     /// Gives it up.
@@ -239,6 +319,23 @@ impl Display for RecordLoss {
         match self {
             RecordLoss::Changed(change) => write!(f, "record: given up: {change}"),
             RecordLoss::System(error) => write!(f, "record: given up: {error}"),
+        }
+    }
+}
+
+impl Event for RecordLoss {
+    fn level(&self) -> Level {
+        Level::Error
+    }
+
+    fn name(&self) -> &'static str {
+        "record_given_up"
+    }
+
+    fn write_fields<W: fmt::Write>(&self, f: &mut Formatter<W>, form: LogForm) -> fmt::Result {
+        match self {
+            RecordLoss::Changed(change) => write_shown(f, form, "why", change),
+            RecordLoss::System(error) => write_shown(f, form, "why", error),
         }
     }
 }

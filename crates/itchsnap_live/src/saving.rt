@@ -6,11 +6,16 @@ ghost use Rattle.itchsnap_live.specs.Savings.{is_wanted};
 
 use crate::fault::{LiveFault, Owned};
 use crate::log::Log;
+use crate::log::entry::{Event, Level, write_number, write_shown, write_text};
+use crate::log::form::LogForm;
 use crate::recording::Recording;
 use crate::session_fault::SessionFault;
 use crate::sessions::{PIECE, Sending, write_closed};
+use crate::snapshot_folder::{KeptLines, clean, keep_lines, list, remove};
 use itch_book::OrderBook;
+use itch_checkpoints::fingerprint_before;
 use itch_codec::{GREATEST_SEQ, Seq};
+use itch_day::Mark;
 use itch_market::Market;
 use itch_snapshot::snapshot_len;
 use std::fmt::{self, Display, Formatter};
@@ -21,20 +26,36 @@ use std::rt::Files;
 /// Snapshots that cannot be written are reported this often.
 const REPORT_MS: u64 = 60_000;
 
-/// A folder for snapshots, and after how many messages each is written.
+/// A folder for snapshots, after how many messages each is written, and how many are kept if not all are.
 #[derive(Clone, Copy, Debug, PartialEq, Eq)]
 pub struct SnapshotWords<'a> {
     pub folder: &'a str,
     pub every: u64,
+    pub keep: Option<u64>,
+}
+
+/// Which part of a record a snapshot is of: the messages before this offset, with this latest timestamp.
+#[derive(Clone, Copy)]
+pub(crate) struct RecordPart<'a> {
+    pub path: &'a str,
+    pub offset: u64,
+    pub latest: Option<u64>,
 }
 
 /// A folder that snapshots are written to, by this process alone.
 #[derive(Drop)]
-pub(crate) struct Saver<'a> {
-    words: SnapshotWords<'a>,
-    // It holds the lock.
-    _folder: File,
-    // How many were not written since that was said, and when it was.
+pub(crate) struct Saver {
+    folder: String,
+    every: u64,
+    keep: Option<u64>,
+    // The open folder, which is locked.
+    _lock: File,
+    // How many messages each snapshot of the folder has, the oldest one first.
+    files: Vec<u64>,
+    // How many messages the last one has, if one was written.
+    saved: Option<u64>,
+    // How many were not written, also since that was said last, and when it was.
+    all_missed: u64,
     missed: u64,
     reported_ms: Option<u64>,
 }
@@ -46,6 +67,38 @@ struct Missed<'a> {
     folder: &'a str,
     messages: u64,
     fault: &'a SessionFault,
+}
+
+// What is said of an old snapshot that cannot be removed.
+#[derive(Drop)]
+struct Unremoved<'a> {
+    folder: &'a str,
+    error: io::Error,
+}
+
+impl Display for Unremoved<'_> {
+    fn fmt<W: fmt::Write>(&self, f: &mut Formatter<W>) -> fmt::Result {
+        let Unremoved { folder, error } = self;
+        write!(
+            f,
+            "snapshots: cannot remove an old one in {folder}: {error}"
+        )
+    }
+}
+
+impl Event for Unremoved<'_> {
+    fn level(&self) -> Level {
+        Level::Warn
+    }
+
+    fn name(&self) -> &'static str {
+        "snapshot_not_removed"
+    }
+
+    fn write_fields<W: fmt::Write>(&self, f: &mut Formatter<W>, form: LogForm) -> fmt::Result {
+        write_text(f, form, "folder", self.folder)?;
+        write_shown(f, form, "why", &self.error)
+    }
 }
 
 impl Display for Missed<'_> {
@@ -68,36 +121,91 @@ impl Display for Missed<'_> {
     }
 }
 
-impl<'a> Saver<'a> {
-    /// Looks at the folder, and locks it.
-    pub(crate) fn open<R: Files<File = File>>(
+impl Event for Missed<'_> {
+    fn level(&self) -> Level {
+        Level::Warn
+    }
+
+    fn name(&self) -> &'static str {
+        "snapshots_missed"
+    }
+
+    fn write_fields<W: fmt::Write>(&self, f: &mut Formatter<W>, form: LogForm) -> fmt::Result {
+        write_number(f, form, "count", self.count)?;
+        write_text(f, form, "folder", self.folder)?;
+        write_number(f, form, "messages", self.messages)?;
+        match self.fault {
+            SessionFault::Folder(error) | SessionFault::Write(error) => {
+                write_shown(f, form, "why", error)
+            }
+            SessionFault::OutOfMemory => write_text(f, form, "why", "out of memory"),
+            _ => write_text(f, form, "why", "too many messages"),
+        }
+    }
+}
+
+impl Saver {
+    /// Looks at the folder, locks it, and removes what was not written whole.
+    pub(crate) fn open<R: Files<File = File> + AllocGlobal>(
         rt: &R,
-        words: SnapshotWords<'a>,
-    ) -> Result<Saver<'a>, LiveFault> {
-        let folder = match open_folder(rt, words.folder) {
-            Ok(folder) => folder,
+        words: SnapshotWords<'_>,
+        folder: String,
+    ) -> Result<Saver, LiveFault> {
+        let open = match open_folder(rt, folder.as_str()) {
+            Ok(open) => open,
             Err(error) => return Err(LiveFault::Session(folder_fault(error))),
         };
-        match folder.try_lock() {
+        match open.try_lock() {
             Ok(()) => {}
             Err(TryLockError::WouldBlock) => return Err(LiveFault::InUse(Owned::Snapshots)),
             Err(TryLockError::Error(error)) => return Err(LiveFault::Session(folder_fault(error))),
         }
+        let files = match clean(rt, folder.as_str()) {
+            Ok(files) => files,
+            Err(error) => return Err(LiveFault::Session(folder_fault(error))),
+        };
         Ok(Saver {
-            words,
-            _folder: folder,
+            folder,
+            every: words.every,
+            keep: words.keep,
+            _lock: open,
+            files,
+            saved: None,
+            all_missed: 0,
             missed: 0,
             reported_ms: None,
         })
     }
 
-    /// Whether a snapshot is wanted of the market before this number.
-    pub(crate) fn wants(&self, next: u64) -> bool {
-        is_wanted(self.words.every, next)
+    /// The index lists no snapshots but those with at most so many messages.
+    pub(crate) fn forget_after<R: Files<File = File> + AllocGlobal>(
+        &self,
+        rt: &R,
+        messages: u64,
+    ) -> Result<(), LiveFault> {
+        match keep_lines(rt, self.folder.as_str(), KeptLines::UpTo(messages)) {
+            Ok(()) => Ok(()),
+            Err(error) => Err(LiveFault::Session(folder_fault(error))),
+        }
     }
 
-    /// Writes the snapshot of the market before this number. One that cannot be written is reported, and no more: the error is that of the
-    /// record, which has to have each message that the snapshot has.
+    /// After how many messages each snapshot is written.
+    pub(crate) fn every(&self) -> u64 {
+        self.every
+    }
+
+    /// How many messages the last snapshot has, if one was written, and how many were not written.
+    pub(crate) fn figures(&self) -> (Option<u64>, u64) {
+        (self.saved, self.all_missed)
+    }
+
+    /// Whether a snapshot is wanted of the market before this number.
+    pub(crate) fn wants(&self, next: u64) -> bool {
+        is_wanted(self.every, next)
+    }
+
+    /// Writes the snapshot of the market before this number, and lists it as that of a part of the record, if there is one. One that
+    /// cannot be written is reported, and no more: the error is that of the record, which has to have each message that the snapshot has.
     pub(crate) fn save<R: Files<File = File> + Eprint + AllocGlobal, B: OrderBook>(
         &mut self,
         log: &mut Log<'_, R>,
@@ -105,11 +213,62 @@ impl<'a> Saver<'a> {
         next: u64,
         now_ms: u64,
         recording: &mut Recording<File>,
+        part: Option<RecordPart<'_>>,
     ) -> io::Result<()> {
-        match save(log.runtime(), self.words.folder, market, next, recording) {
-            Ok(()) => {}
+        let rt = log.runtime();
+        let written = match save(rt, self.folder.as_str(), market, next, recording) {
+            Ok(()) => self.enter(rt, next.saturating_sub(1), part),
             Err(Unsaved::Record(error)) => return Err(error),
-            Err(Unsaved::Snapshot(fault)) => self.miss(log, &fault, next, now_ms),
+            Err(Unsaved::Snapshot(fault)) => Err(fault),
+        };
+        match written {
+            Ok(()) => {
+                self.saved = Some(next.saturating_sub(1));
+                if let Err(error) = self.remove_oldest(rt) {
+                    log.say(&Unremoved {
+                        folder: self.folder.as_str(),
+                        error,
+                    });
+                }
+            }
+            Err(fault) => self.miss(log, &fault, next, now_ms),
+        }
+        Ok(())
+    }
+
+    // Lists the snapshot of so many messages.
+    fn enter<R: Files<File = File> + AllocGlobal>(
+        &mut self,
+        rt: &R,
+        messages: u64,
+        part: Option<RecordPart<'_>>,
+    ) -> Result<(), SessionFault> {
+        let entered = match part {
+            Some(part) => list_part(rt, self.folder.as_str(), messages, part),
+            None => Ok(()),
+        };
+        if let Err(error) = entered {
+            // A snapshot that the index does not list would be of no use.
+            let _ = remove(rt, self.folder.as_str(), messages);
+            return Err(folder_fault(error));
+        }
+        self.files.retain(|count| *count != messages);
+        if self.files.push(messages).is_err() {
+            return Err(SessionFault::OutOfMemory);
+        }
+        Ok(())
+    }
+
+    // Removes the oldest snapshots until no more are left than are kept.
+    fn remove_oldest<R: Files<File = File> + AllocGlobal>(&mut self, rt: &R) -> io::Result<()> {
+        let Some(keep) = self.keep else {
+            return Ok(());
+        };
+        let keep = usize::try_from(keep).unwrap_or(usize::MAX);
+        for _ in keep..self.files.len() {
+            let oldest = self.files.remove(0);
+            keep_lines(rt, self.folder.as_str(), KeptLines::AllBut(oldest))?;
+            remove(rt, self.folder.as_str(), oldest)?;
         }
         Ok(())
     }
@@ -122,6 +281,7 @@ impl<'a> Saver<'a> {
         next: u64,
         now_ms: u64,
     ) {
+        self.all_missed = self.all_missed.saturating_add(1);
         self.missed = self.missed.saturating_add(1);
         let is_due = match self.reported_ms {
             Some(reported_ms) => now_ms.saturating_sub(reported_ms) >= REPORT_MS,
@@ -130,7 +290,7 @@ impl<'a> Saver<'a> {
         if is_due {
             log.say(&Missed {
                 count: self.missed,
-                folder: self.words.folder,
+                folder: self.folder.as_str(),
                 messages: next.saturating_sub(1),
                 fault,
             });
@@ -146,6 +306,23 @@ pub(crate) fn is_wanted(every: u64, next: u64) -> bool
 {
     let messages = next.saturating_sub(1);
     messages > 0 && every > 0 && messages % every == 0
+}
+
+// Lists the snapshot of the part of a record with so many messages.
+fn list_part<R: Files<File = File> + AllocGlobal>(
+    rt: &R,
+    folder: &str,
+    messages: u64,
+    part: RecordPart<'_>,
+) -> io::Result<()> {
+    let mut record = fs::open(rt, part.path)?;
+    let fingerprint = fingerprint_before(rt.alloc(), &mut record, part.offset)?;
+    let mark = Mark {
+        count: messages,
+        offset: part.offset,
+        latest: part.latest,
+    };
+    list(rt, folder, mark, fingerprint)
 }
 
 // Opens a folder: a file is none.

@@ -5,4 +5,5 @@ mod messages;
 mod players;
 mod refused_memory;
 mod sessions;
+mod status;
 mod steps;

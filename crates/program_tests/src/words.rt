@@ -43,7 +43,7 @@ pub(crate) fn columns(row: &str) -> Result<(&str, &str), Fail> {
 }
 
 // Words after the program's name, and the request that they are.
-const REQUESTS: [&str; 45] = [
+const REQUESTS: [&str; 49] = [
     "snap => One { file: None, command: Snap { limit: Limit { after: None, until: None }, selection: All } }",
     "snap day.itch => One { file: Some(\"day.itch\"), command: Snap { limit: Limit { after: None, until: None }, selection: All } }",
     "snap day.itch --after 0 => One { file: Some(\"day.itch\"), command: Snap { limit: Limit { after: Some(0), until: None }, selection: All } }",
@@ -55,13 +55,17 @@ const REQUESTS: [&str; 45] = [
     "check --expect 007 --ended --after 5 => One { file: None, command: Check { limit: Limit { after: Some(5), until: None }, expected: Expected { count: Some(7), end: true }, form: Text } }",
     "info day.itch => One { file: Some(\"day.itch\"), command: Info { limit: Limit { after: None, until: None }, form: Text } }",
     "info - --json --after 3 --until 9:30 => One { file: None, command: Info { limit: Limit { after: Some(3), until: Some(34200000000000) }, form: Json } }",
-    "show day.itch => One { file: Some(\"day.itch\"), command: Show { kind: Day(Limit { after: None, until: None }), form: Text, filters: Filters { only: None, stocks: None, types: None, reference: None } } }",
-    "show --names --reference 18446744073709551615 => One { file: None, command: Show { kind: Day(Limit { after: None, until: None }), form: Named, filters: Filters { only: None, stocks: None, types: None, reference: Some(18446744073709551615) } } }",
-    "show - --json --snapshot => One { file: None, command: Show { kind: Snapshot, form: Json, filters: Filters { only: None, stocks: None, types: None, reference: None } } }",
-    "show --only 1-3 --stock MSFT,AAPL --types AEX --reference 007 => One { file: None, command: Show { kind: Day(Limit { after: None, until: None }), form: Text, filters: Filters { only: Some(\"1-3\"), stocks: Some(\"MSFT,AAPL\"), types: Some(\"AEX\"), reference: Some(7) } } }",
-    "show --orders day.itch => One { file: Some(\"day.itch\"), command: ShowOrders { limit: Limit { after: None, until: None }, form: Text, filters: Filters { only: None, stocks: None, types: None, reference: None } } }",
-    "show --orders --csv --after 2 --until 7 --stock AAPL => One { file: None, command: ShowOrders { limit: Limit { after: Some(2), until: Some(7) }, form: Csv, filters: Filters { only: None, stocks: Some(\"AAPL\"), types: None, reference: None } } }",
-    "show --json --orders --reference 7 => One { file: None, command: ShowOrders { limit: Limit { after: None, until: None }, form: Json, filters: Filters { only: None, stocks: None, types: None, reference: Some(7) } } }",
+    "show day.itch => One { file: Some(\"day.itch\"), command: Show { kind: Day(Limit { after: None, until: None }), form: Text, filters: Filters { start: Start { before: 0, since: None }, only: None, stocks: None, types: None, reference: None } } }",
+    "show --names --reference 18446744073709551615 => One { file: None, command: Show { kind: Day(Limit { after: None, until: None }), form: Named, filters: Filters { start: Start { before: 0, since: None }, only: None, stocks: None, types: None, reference: Some(18446744073709551615) } } }",
+    "show - --json --snapshot => One { file: None, command: Show { kind: Snapshot, form: Json, filters: Filters { start: Start { before: 0, since: None }, only: None, stocks: None, types: None, reference: None } } }",
+    "show --only 1-3 --stock MSFT,AAPL --types AEX --reference 007 => One { file: None, command: Show { kind: Day(Limit { after: None, until: None }), form: Text, filters: Filters { start: Start { before: 0, since: None }, only: Some(\"1-3\"), stocks: Some(\"MSFT,AAPL\"), types: Some(\"AEX\"), reference: Some(7) } } }",
+    "show --orders day.itch => One { file: Some(\"day.itch\"), command: ShowOrders { limit: Limit { after: None, until: None }, form: Text, filters: Filters { start: Start { before: 0, since: None }, only: None, stocks: None, types: None, reference: None } } }",
+    "show --orders --csv --after 2 --until 7 --stock AAPL => One { file: None, command: ShowOrders { limit: Limit { after: Some(2), until: Some(7) }, form: Csv, filters: Filters { start: Start { before: 0, since: None }, only: None, stocks: Some(\"AAPL\"), types: None, reference: None } } }",
+    "show --json --orders --reference 7 => One { file: None, command: ShowOrders { limit: Limit { after: None, until: None }, form: Json, filters: Filters { start: Start { before: 0, since: None }, only: None, stocks: None, types: None, reference: Some(7) } } }",
+    "show --from 3 --since 9:30 --until 9:31 => One { file: None, command: Show { kind: Day(Limit { after: None, until: Some(34260000000000) }), form: Text, filters: Filters { start: Start { before: 2, since: Some(34200000000000) }, only: None, stocks: None, types: None, reference: None } } }",
+    "show --orders --from 001 - => One { file: None, command: ShowOrders { limit: Limit { after: None, until: None }, form: Text, filters: Filters { start: Start { before: 0, since: None }, only: None, stocks: None, types: None, reference: None } } }",
+    "cut day.itch => One { file: Some(\"day.itch\"), command: Cut { limit: Limit { after: None, until: None }, filters: Filters { start: Start { before: 0, since: None }, only: None, stocks: None, types: None, reference: None } } }",
+    "cut --from 2 --after 5 --since 7 --until 9 --only 1-3 --stock AAPL --types AE => One { file: None, command: Cut { limit: Limit { after: Some(5), until: Some(9) }, filters: Filters { start: Start { before: 1, since: Some(7) }, only: Some(\"1-3\"), stocks: Some(\"AAPL\"), types: Some(\"AE\"), reference: None } } }",
     "canon => One { file: None, command: Canon { check: false } }",
     "canon day.itch => One { file: Some(\"day.itch\"), command: Canon { check: false } }",
     "canon --check => One { file: None, command: Canon { check: true } }",
@@ -76,7 +80,7 @@ const REQUESTS: [&str; 45] = [
     "join --only=40 a.snap - => Two { first: Some(\"a.snap\"), second: None, command: Join { part: FeedPart { before: 0, limit: Limit { after: None, until: None } }, selection: Locates(\"40\") } }",
     "book 0 => One { file: None, command: Book { selection: Locates(\"0\"), depth: None, kind: Day(Limit { after: None, until: None }), form: Text } }",
     "book 1 --depth 0 => One { file: None, command: Book { selection: Locates(\"1\"), depth: Some(0), kind: Day(Limit { after: None, until: None }), form: Text } }",
-    "show --snapshot day.snap => One { file: Some(\"day.snap\"), command: Show { kind: Snapshot, form: Text, filters: Filters { only: None, stocks: None, types: None, reference: None } } }",
+    "show --snapshot day.snap => One { file: Some(\"day.snap\"), command: Show { kind: Snapshot, form: Text, filters: Filters { start: Start { before: 0, since: None }, only: None, stocks: None, types: None, reference: None } } }",
     "compare a.snap - --snapshot --json => Two { first: Some(\"a.snap\"), second: None, command: Compare { kind: Snapshot, form: Json } }",
     "compare --first a.itch day.itch => Two { first: Some(\"a.itch\"), second: Some(\"day.itch\"), command: CompareFirst { limit: Limit { after: None, until: None }, form: Text } }",
     "compare a.itch - --json --after 5 --until 7 --first => Two { first: Some(\"a.itch\"), second: None, command: CompareFirst { limit: Limit { after: Some(5), until: Some(7) }, form: Json } }",
@@ -136,6 +140,7 @@ fn a_snapshot_is_sent_to_a_file(rt: HostRuntime) -> TestResult {
         "canon --output=./- day.snap => ./-",
         "join a.snap day.itch --only 1 --output out.snap => out.snap",
         "fetch --port 1 --user u --pass p --output out.snap => out.snap",
+        "cut day.itch --output part.itch => part.itch",
         "check day.itch => nowhere",
     ] {
         let (line, path) = columns(row)?;
@@ -145,6 +150,7 @@ fn a_snapshot_is_sent_to_a_file(rt: HostRuntime) -> TestResult {
     for line in [
         "snap day.itch",
         "snap --output - day.itch",
+        "cut day.itch --from 2",
         "canon --check --output out.snap",
     ] {
         holds_in(&rt, line, sent_to(rt.alloc(), line)?.is_none());
@@ -179,7 +185,7 @@ fn times_are_read(rt: HostRuntime) -> TestResult {
         let line = format!(in rt.alloc(); "show --until {time} --after 5 day.itch")?;
         let wanted = format!(in rt.alloc();
             "Files {{ request: One {{ file: Some(\"day.itch\"), command: Show {{ kind: Day(Limit {{ after: Some(5), \
-             until: Some({nanoseconds}) }}), form: Text, filters: Filters {{ only: None, stocks: None, types: None, reference: None }} }} }}, \
+             until: Some({nanoseconds}) }}), form: Text, filters: Filters {{ start: Start {{ before: 0, since: None }}, only: None, stocks: None, types: None, reference: None }} }} }}, \
              progress: false, output: None }}"
         )?;
         ask_for(&rt, line.as_str(), wanted.as_str())?;

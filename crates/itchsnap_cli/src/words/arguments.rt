@@ -27,6 +27,18 @@ pub const UNTIL: Argument = Argument::Optional {
     help: "Stop before the first message at TIME or later, such as 10:30",
 };
 
+pub const FROM: Argument = Argument::Optional {
+    long: "from",
+    value: Value::Range("N", 1, MOST_COUNTED),
+    help: "Start with message N",
+};
+
+pub const SINCE: Argument = Argument::Optional {
+    long: "since",
+    value: Value::Text("TIME"),
+    help: "Start with the first message at TIME or later, such as 9:30",
+};
+
 pub const RECORDED: Argument = Argument::Flag {
     long: "snapshot",
     help: "Read snapshots instead of day files",

@@ -10,9 +10,10 @@ use crate::words::request::{read_kind, read_output, read_path, read_request, rea
 use crate::words::session::{
     LoginWords, Server, read_address, read_from, read_login, read_number, read_server, read_session,
 };
+use crate::words::status::{StatusWords, read_status_words};
 use clap::{ArgMatches, Error};
 use itch_codec::{Alpha, Seq};
-use itch_commands::{FileKind, Request};
+use itch_commands::{Command, FileKind, Request};
 use itchsnap_live::FollowForm;
 use std::alloc::Global;
 use std::net::SocketAddr;
@@ -53,6 +54,8 @@ pub enum Job<'a> {
     Follow(FollowWords<'a>),
     /// Play a day file as a live feed.
     Feed(FeedWords<'a>),
+    /// Print the status of a live server.
+    Status(StatusWords<'a>),
     /// Print the completions of a shell.
     Completions(Shell),
 }
@@ -70,14 +73,18 @@ impl<'a> Job<'a> {
     }
 }
 
-// Whether the output is a snapshot or a day file, which are no text.
+// Whether the output is a snapshot or blocks of messages, which are no text.
 fn writes_snapshot(job: &Job<'_>) -> bool
     ensures { result ≡ writes_snapshot job.now }
 {
     match job {
         Job::Files { request, .. } => request.is_binary(),
-        Job::Points(_) | Job::Serve { .. } | Job::Live(_) | Job::Feed(_) | Job::Completions(_) =>
-            false,
+        Job::Points(_)
+        | Job::Serve { .. }
+        | Job::Live(_)
+        | Job::Feed(_)
+        | Job::Status(_)
+        | Job::Completions(_) => false,
         Job::Fetch { .. } => true,
         Job::Follow(follow) => !matches!(follow.form, FollowForm::Json),
     }
@@ -113,6 +120,7 @@ fn read_matched<'a>(
         Some(("live", options)) => Ok(Job::Live(read_live(alloc, options, password)?)),
         Some(("follow", options)) => Ok(Job::Follow(read_follow(alloc, options, password)?)),
         Some(("feed", options)) => Ok(Job::Feed(read_feed(alloc, options, password)?)),
+        Some(("status", options)) => Ok(Job::Status(read_status_words(alloc, options)?)),
         Some(("completions", options)) => Ok(Job::Completions(read_shell(alloc, options)?)),
         Some(("snap", options)) => match read_snap_words(alloc, options)? {
             SnapWords::Several(words) => Ok(Job::Points(words)),
@@ -133,6 +141,13 @@ fn terminal_fault(job: &Job<'_>) -> &'static str {
         Job::Follow(_) => {
             "messages are not written to a terminal: redirect the output, or give --json"
         }
+        Job::Files {
+            request: Request::One {
+                command: Command::Cut { .. },
+                ..
+            },
+            ..
+        } => "messages are not written to a terminal: redirect the output, or give --output",
         _ => "a snapshot is not written to a terminal: redirect the output, or give --output",
     }
 }

@@ -1,7 +1,7 @@
 //! The words of a live server, of what follows a feed, and of a feed that is played.
 
 use crate::words::commands::usage_fault;
-use crate::words::places::{read_feeds, read_place, read_place_if_any};
+use crate::words::places::{read_feeds, read_place, read_place_if_any, read_status};
 use crate::words::request::read_count;
 use crate::words::session::{
     LoginWords, Password, UserWords, read_address, read_login, read_session, read_users,
@@ -9,7 +9,9 @@ use crate::words::session::{
 use crate::words::size::read_size;
 use clap::{ArgMatches, Error};
 use itch_codec::Alpha;
-use itchsnap_live::{Feeds, FollowForm, Pace, Place, RecordWords, SnapshotWords, SyncTime};
+use itchsnap_live::{
+    Feeds, FollowForm, LogForm, Pace, Place, Ready, RecordPlace, RecordWords, SnapshotWords, SyncTime,
+};
 use std::alloc::Global;
 use std::net::SocketAddr;
 
@@ -41,6 +43,11 @@ pub struct LiveWords<'a> {
     pub snapshots: Option<SnapshotWords<'a>>,
     /// Whether it serves on once the feed has ended.
     pub stay: bool,
+    /// From when on it sends snapshots.
+    pub ready: Ready,
+    /// Where its status is asked for, if it is.
+    pub status: Option<Place<'a>>,
+    pub log: LogForm,
 }
 
 /// What is followed, and how.
@@ -101,6 +108,9 @@ pub fn read_live<'a>(
         record,
         snapshots: read_snapshots(alloc, options)?,
         stay: options.get_flag("stay"),
+        ready: read_ready(alloc, options)?,
+        status: read_status(alloc, options, "status")?,
+        log: read_log(alloc, options)?,
     })
 }
 
@@ -143,18 +153,25 @@ fn read_record<'a>(
 ) -> Result<Option<RecordWords<'a>>, Error> {
     let sync = read_sync(alloc, options)?;
     let is_optional = options.get_flag("record-optional");
-    match options.get_str("record") {
-        Some(path) => Ok(Some(RecordWords {
-            path,
-            sync: sync.unwrap_or(SyncTime::EverySecond),
-            is_optional,
-        })),
-        None if sync.is_some() || is_optional => Err(usage_fault(
-            alloc,
-            "--sync and --record-optional go with --record",
-        )?),
-        None => Ok(None),
-    }
+    let place = match (options.get_str("record"), options.get_str("records")) {
+        (Some(path), None) => RecordPlace::File(path),
+        (None, Some(folder)) => RecordPlace::Folder(folder),
+        (Some(_), Some(_)) => {
+            return Err(usage_fault(alloc, "--record and --records exclude each other")?);
+        }
+        (None, None) if sync.is_some() || is_optional => {
+            return Err(usage_fault(
+                alloc,
+                "--sync and --record-optional go with --record or --records",
+            )?);
+        }
+        (None, None) => return Ok(None),
+    };
+    Ok(Some(RecordWords {
+        place,
+        sync: sync.unwrap_or(SyncTime::EverySecond),
+        is_optional,
+    }))
 }
 
 fn read_sync<'a>(alloc: Global, options: &ArgMatches<'a>) -> Result<Option<SyncTime>, Error> {
@@ -164,6 +181,23 @@ fn read_sync<'a>(alloc: Global, options: &ArgMatches<'a>) -> Result<Option<SyncT
         Some("second") => Ok(Some(SyncTime::EverySecond)),
         Some("message") => Ok(Some(SyncTime::EveryMessage)),
         Some(_) => Err(usage_fault(alloc, "--sync takes no, second or message")?),
+    }
+}
+
+fn read_ready<'a>(alloc: Global, options: &ArgMatches<'a>) -> Result<Ready, Error> {
+    match options.get_str("ready") {
+        None | Some("first") => Ok(Ready::First),
+        Some("caught-up") => Ok(Ready::CaughtUp),
+        Some(_) => Err(usage_fault(alloc, "--ready takes first or caught-up")?),
+    }
+}
+
+fn read_log<'a>(alloc: Global, options: &ArgMatches<'a>) -> Result<LogForm, Error> {
+    match options.get_str("log") {
+        None => Ok(LogForm::Plain),
+        Some("text") => Ok(LogForm::Text),
+        Some("json") => Ok(LogForm::Json),
+        Some(_) => Err(usage_fault(alloc, "--log takes text or json")?),
     }
 }
 
@@ -209,9 +243,15 @@ fn read_snapshots<'a>(
     options: &ArgMatches<'a>,
 ) -> Result<Option<SnapshotWords<'a>>, Error> {
     let every = read_counted(alloc, options, "every")?;
+    let keep = read_counted(alloc, options, "keep")?;
     match (options.get_str("snapshots"), every) {
+        (None, None) if keep.is_some() => Err(usage_fault(alloc, "--keep goes with --snapshots")?),
         (None, None) => Ok(None),
-        (Some(folder), Some(every)) => Ok(Some(SnapshotWords { folder, every })),
+        (Some(folder), Some(every)) => Ok(Some(SnapshotWords {
+            folder,
+            every,
+            keep,
+        })),
         _ => Err(usage_fault(alloc, "--snapshots and --every go together")?),
     }
 }

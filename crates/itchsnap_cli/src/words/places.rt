@@ -47,10 +47,47 @@ pub fn read_place_if_any<'a>(
     Ok(Some(read_words(alloc, words)?))
 }
 
+/// The status port after an option, if it is given. Without a host it is on this machine; its port 0 is a free one.
+pub fn read_status<'a>(
+    alloc: Global,
+    options: &ArgMatches<'a>,
+    name: &str,
+) -> Result<Option<Place<'a>>, Error> {
+    let Some(words) = options.get_str(name) else {
+        return Ok(None);
+    };
+    match status_place_of(words) {
+        Some(place) => Ok(Some(place)),
+        None => Err(usage_fault(
+            alloc,
+            "a status port is HOST:PORT or PORT, with an IPv6 address in brackets and a port to 65535",
+        )?),
+    }
+}
+
+/// A host and a port, or a port of this machine.
+pub fn status_place_of(words: &str) -> Option<Place<'_>> {
+    if words.contains(':') {
+        place_of(words)
+    } else {
+        port_of(words)
+    }
+}
+
+// A port of this machine.
+fn port_of(words: &str) -> Option<Place<'_>> {
+    let port = u16::try_from(read_digits(words)?).ok()?;
+    Some(Place {
+        words,
+        host: "127.0.0.1",
+        port,
+    })
+}
+
 fn read_words<'a>(alloc: Global, words: &'a str) -> Result<Place<'a>, Error> {
     match place_of(words) {
-        Some(place) => Ok(place),
-        None => Err(usage_fault(
+        Some(place) if place.port > 0 => Ok(place),
+        _ => Err(usage_fault(
             alloc,
             "a server is HOST:PORT, with an IPv6 address in brackets and a port from 1 to 65535",
         )?),
@@ -66,7 +103,7 @@ fn place_of(words: &str) -> Option<Place<'_>> {
         None if host.contains(':') => return None,
         None => host,
     };
-    if host.is_empty() || port == 0 {
+    if host.is_empty() {
         return None;
     }
     Some(Place { words, host, port })

@@ -7,7 +7,7 @@ use crate::words::time::read_time;
 use clap::{ArgMatches, Error};
 use itch_commands::{
     BookForm, Command, Expected, FeedPart, FileKind, Filters, Form, Limit, OrderForm, PairCommand,
-    Request, Selection, ShowForm, path_of,
+    Request, Selection, ShowForm, Start, path_of,
 };
 use std::alloc::Global;
 
@@ -70,6 +70,10 @@ fn read_command<'a>(
         "info" => Ok(Command::Info {
             limit: read_limit(alloc, options)?,
             form: read_form(options),
+        }),
+        "cut" => Ok(Command::Cut {
+            limit: read_limit(alloc, options)?,
+            filters: read_filters(alloc, options)?,
         }),
         "show" if options.get_flag("orders") => read_orders(alloc, options),
         "show" => read_show(alloc, options),
@@ -150,9 +154,8 @@ fn read_point(alloc: Global, text: &str) -> Result<Limit, Error> {
 
 // The part of a feed that is wanted, after `--from`, `--after` and `--until`.
 fn read_feed_part<'a>(alloc: Global, options: &ArgMatches<'a>) -> Result<FeedPart, Error> {
-    let first = read_count(alloc, options, "from", "--from takes decimal digits")?;
     Ok(FeedPart {
-        before: first.unwrap_or(1).saturating_sub(1),
+        before: read_before(alloc, options)?,
         limit: read_limit(alloc, options)?,
     })
 }
@@ -161,10 +164,18 @@ fn read_show<'a>(alloc: Global, options: &ArgMatches<'a>) -> Result<Command<'a>,
     if options.get_flag("csv") {
         return Err(usage_fault(alloc, "--csv needs --orders")?);
     }
+    let kind = read_kind(alloc, options)?;
+    let filters = read_filters(alloc, options)?;
+    if kind == FileKind::Snapshot && filters.start != Start::first() {
+        return Err(usage_fault(
+            alloc,
+            "--snapshot excludes --from and --since: a snapshot is read from its beginning",
+        )?);
+    }
     Ok(Command::Show {
-        kind: read_kind(alloc, options)?,
+        kind,
         form: read_show_form(alloc, options)?,
-        filters: read_filters(alloc, options)?,
+        filters,
     })
 }
 
@@ -208,6 +219,7 @@ fn read_show_form<'a>(alloc: Global, options: &ArgMatches<'a>) -> Result<ShowFor
 // What chooses the messages that are shown.
 fn read_filters<'a>(alloc: Global, options: &ArgMatches<'a>) -> Result<Filters<'a>, Error> {
     Ok(Filters {
+        start: read_start(alloc, options)?,
         only: options.get_str("only"),
         stocks: read_stocks(alloc, options)?,
         types: read_types(alloc, options)?,
@@ -363,17 +375,48 @@ fn read_limit<'a>(alloc: Global, options: &ArgMatches<'a>) -> Result<Limit, Erro
     })
 }
 
+// Where the range of messages begins that is wanted, after `--from` and `--since`.
+fn read_start<'a>(alloc: Global, options: &ArgMatches<'a>) -> Result<Start, Error> {
+    Ok(Start {
+        before: read_before(alloc, options)?,
+        since: read_moment(
+            alloc,
+            options,
+            "since",
+            "--since takes a time such as 9:30 or 9:30:00.000000001, or nanoseconds since midnight",
+        )?,
+    })
+}
+
+// How many messages come before the one that `--from` names, which is the first if it names none.
+fn read_before<'a>(alloc: Global, options: &ArgMatches<'a>) -> Result<u64, Error> {
+    let first = read_count(alloc, options, "from", "--from takes decimal digits")?;
+    Ok(first.unwrap_or(1).saturating_sub(1))
+}
+
 /// The time before which the part of a file ends, after `--until`.
 pub fn read_until<'a>(alloc: Global, options: &ArgMatches<'a>) -> Result<Option<u64>, Error> {
-    let Some(text) = options.get_str("until") else {
+    read_moment(
+        alloc,
+        options,
+        "until",
+        "--until takes a time such as 10:30 or 10:30:00.000000001, or nanoseconds since midnight",
+    )
+}
+
+// The time after an option, if it is given; of another text the usage fault is this one.
+fn read_moment<'a>(
+    alloc: Global,
+    options: &ArgMatches<'a>,
+    name: &str,
+    fault: &str,
+) -> Result<Option<u64>, Error> {
+    let Some(text) = options.get_str(name) else {
         return Ok(None);
     };
     match read_time(text) {
         Some(time) => Ok(Some(time)),
-        None => Err(usage_fault(
-            alloc,
-            "--until takes a time such as 10:30 or 10:30:00.000000001, or nanoseconds since midnight",
-        )?),
+        None => Err(usage_fault(alloc, fault)?),
     }
 }
 

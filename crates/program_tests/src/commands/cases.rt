@@ -9,7 +9,7 @@ use itch_commands::show::show;
 use itch_commands::snap::snap;
 use itch_commands::{
     Book, BookForm, Command, FeedPart, FileKind, Filters, Limit, OrderForm, PairCommand, Selection,
-    ShowForm, ToolFault, perform, perform_pair, read_locates,
+    ShowForm, Start, ToolFault, perform, perform_pair, read_locates,
 };
 use itch_frame::BlockReader;
 use library_tests::doubles::{FuseWriter, PieceReader};
@@ -27,6 +27,7 @@ pub(super) enum Single {
     ShowChosen,
     ShowSnapshot,
     ShowOrders,
+    Cut,
     Book,
     BookLocates,
     SnapStocks,
@@ -133,11 +134,18 @@ fn joined_of_stocks(alloc: Global, (snapshot, feed): Files<'_>, out: &mut FuseWr
     perform_pair::<_, _, _, _, Book<Global>, _>(alloc, command, None, &mut snapshot, &mut feed, out)
 }
 
+// The first message.
+const FIRST: Start = Start {
+    before: 0,
+    since: None,
+};
+
 // The messages of order 1, of some locates, stocks and types, with names.
 const SHOW_CHOSEN: Command<'static> = Command::Show {
     kind: WHOLE,
     form: ShowForm::Named,
     filters: Filters {
+        start: FIRST,
         only: Some("1-3"),
         stocks: Some("AAPL"),
         types: Some("FU"),
@@ -150,6 +158,7 @@ const SHOW_SNAPSHOT: Command<'static> = Command::Show {
     kind: FileKind::Snapshot,
     form: ShowForm::Json,
     filters: Filters {
+        start: FIRST,
         only: None,
         stocks: None,
         types: Some("AG"),
@@ -162,9 +171,22 @@ const SHOW_ORDERS: Command<'static> = Command::ShowOrders {
     limit: WHOLE_DAY,
     form: OrderForm::Csv,
     filters: Filters {
+        start: FIRST,
         only: None,
         stocks: Some("AAPL"),
         types: None,
+        reference: None,
+    },
+};
+
+// The messages of two types, as they are.
+const CUT_TYPES: Command<'static> = Command::Cut {
+    limit: WHOLE_DAY,
+    filters: Filters {
+        start: FIRST,
+        only: None,
+        stocks: None,
+        types: Some("FU"),
         reference: None,
     },
 };
@@ -213,6 +235,7 @@ pub(super) fn perform_single(
         Single::ShowChosen => performed(alloc, SHOW_CHOSEN, Some("1-3"), reader, out),
         Single::ShowSnapshot => performed(alloc, SHOW_SNAPSHOT, None, reader, out),
         Single::ShowOrders => performed(alloc, SHOW_ORDERS, None, reader, out),
+        Single::Cut => performed(alloc, CUT_TYPES, None, reader, out),
         Single::BookLocates => performed(alloc, BOOK_LOCATES, Some("1"), reader, out),
         Single::SnapStocks => performed(alloc, SNAP_STOCKS, None, reader, out),
         Single::BookStocks => performed(alloc, BOOK_STOCKS, None, reader, out),
@@ -247,6 +270,7 @@ pub(super) fn wanted(alloc: Global, command: Single) -> Result<Vec<u8>, Fail> {
         Single::ShowOrders => Ok(Vec::from_slice(alloc, ORDERS_AS_CSV)?),
         Single::Book => Ok(Vec::from_slice(alloc, b"1 AAPL\nB 150.0000 300 2\n")?),
         Single::BookLocates | Single::BookStocks => Ok(Vec::from_slice(alloc, AS_CSV)?),
+        Single::Cut => file(alloc, "ATTRIBUTED_1 REPLACE_1_BY_3"),
         Single::Snap | Single::SnapStocks | Single::Canon => file(alloc, SNAPSHOT),
     }
 }

@@ -67,9 +67,9 @@ fn writes_of_lines(rt: HostRuntime) -> TestResult {
 }
 
 #[test]
-fn writes_of_snapshots(rt: HostRuntime) -> TestResult {
+fn writes_of_blocks(rt: HostRuntime) -> TestResult {
     let alloc = rt.alloc();
-    for command in [Single::Snap, Single::SnapStocks, Single::Canon] {
+    for command in [Single::Snap, Single::SnapStocks, Single::Canon, Single::Cut] {
         let bytes = bytes_of(alloc, command)?;
         fail_single(&rt, command, bytes.as_slice())?;
     }

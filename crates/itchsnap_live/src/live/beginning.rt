@@ -1,0 +1,191 @@
+//! What a live server opens, and waits for, before its first turn.
+
+use super::{Accounts, FEED, LISTENER, PLACES, Server, Serving};
+use crate::budget::Budget;
+use crate::callers::Callers;
+use crate::clients::Clients;
+use crate::day_files::{DayBegun, DayPaths};
+use crate::fault::LiveFault;
+use crate::log::Log;
+use crate::logins::Logins;
+use crate::opened::{Begun, OwnFiles, follower_of, listen, open_files, open_status};
+use crate::question::nameless_follower;
+use crate::reception::Reception;
+use crate::room::SnapshotRoom;
+use crate::route::Servers;
+use crate::session_fault::SessionFault;
+use crate::sessions::{Login, current_session};
+use crate::start::Start;
+use itch_book::OrderBook;
+use itch_codec::{Alpha, Seq};
+use itch_join::Joiner;
+use itch_live::{Desk, Follower};
+use itch_status::Tally;
+use std::alloc::{AllocError, Global};
+use std::fs::File;
+use std::net::Net;
+use std::rt::{Clock, Files};
+
+/// Opens what a server works on, and waits until the session of its feed is known. Its paths are known as soon as that is.
+pub(super) fn opened<'r, 'a, R, B: OrderBook<Alloc = Global>>(
+    rt: &'r R,
+    servers: Servers<'a>,
+    serving: &'a Serving<'a>,
+    accounts: Accounts<'a>,
+    paths: &mut DayPaths,
+) -> Result<Server<'r, 'a, R, B>, LiveFault>
+where
+    R: Net + Clock + Files<File = File> + Eprint + AllocGlobal,
+{
+    let mut log = Log::new(rt, serving.log)?;
+    let Accounts { users, own } = accounts;
+    let login = own.first();
+    let known: Option<Begun<B>> = if serving.has_days() && serving.session.is_none() {
+        None
+    } else {
+        Some(open_day(&mut log, serving, serving.session, paths)?)
+    };
+    let mut start = Start::new(rt, log, servers, own, serving.glimpse_session, FEED)?;
+    open_status(serving, &mut start)?;
+    let callers = listen(rt, &mut start, serving.address, LISTENER)?;
+    let begun = match known {
+        Some(begun) => begun,
+        None => open_found(&mut start, serving, &login, paths)?,
+    };
+    let Begun {
+        files,
+        joiner,
+        session,
+    } = begun;
+    start.figures.recorded = files.record.figures();
+    let mut follower = follower_of(rt.alloc(), serving, &login, session, joiner)?;
+    session_of(&mut start, &mut follower)?;
+    let desk = Desk::new(rt.alloc(), follower, serving.clients)?;
+    Ok(server_of(rt.alloc(), serving, users, start, desk, callers, files)?)
+}
+
+/// Opens the files of a day, which is said where each session has its own.
+pub(super) fn open_day<R, B: OrderBook<Alloc = Global>>(
+    log: &mut Log<'_, R>,
+    serving: &Serving<'_>,
+    session: Option<Alpha<10>>,
+    paths: &mut DayPaths,
+) -> Result<Begun<B>, LiveFault>
+where
+    R: Net + Clock + Files<File = File> + Eprint + AllocGlobal,
+{
+    let alloc = log.runtime().alloc();
+    *paths = DayPaths::of(alloc, serving, &session.unwrap_or(current_session()))?;
+    let begun = open_files(log, serving, paths, session)?;
+    if serving.has_days()
+        && let (Some(session), Some(record)) = (session, &paths.record)
+    {
+        let record = record.as_str();
+        log.say(&DayBegun { session, record });
+    }
+    Ok(begun)
+}
+
+// Opens the files of the day whose session the feed names. The feed is followed in a connection of its own from then on.
+fn open_found<R, B: OrderBook<Alloc = Global>>(
+    start: &mut Start<'_, '_, R>,
+    serving: &Serving<'_>,
+    login: &Login,
+    paths: &mut DayPaths,
+) -> Result<Begun<B>, LiveFault>
+where
+    R: Net + Clock + Files<File = File> + Eprint + AllocGlobal,
+{
+    let alloc = start.log.runtime().alloc();
+    let joiner: Joiner<B> = Joiner::new(alloc, 0);
+    let credentials = login.credentials(current_session());
+    let mut follower = nameless_follower(alloc, &credentials, joiner)?;
+    let session = session_of(start, &mut follower)?;
+    start.feed.begin_day(0);
+    open_day(&mut start.log, serving, Some(session), paths)
+}
+
+// The session that a feed names.
+fn session_of<R, B: OrderBook<Alloc = Global>>(
+    start: &mut Start<'_, '_, R>,
+    follower: &mut Follower<B>,
+) -> Result<Alpha<10>, LiveFault>
+where
+    R: Net + Clock + Files<File = File> + Eprint + AllocGlobal,
+{
+    match start.find_session(follower)? {
+        Some(session) => Ok(session),
+        None => Err(LiveFault::Session(SessionFault::TooMany)),
+    }
+}
+
+/// Free places for clients, with nobody at them.
+pub(super) fn free_places(alloc: Global, serving: &Serving<'_>) -> Result<Clients, AllocError> {
+    let room = SnapshotRoom::new(serving.snapshot_memory);
+    Clients::new(
+        alloc,
+        serving.clients,
+        serving.clients_per_address,
+        room,
+        PLACES,
+    )
+}
+
+// A server that begins with this.
+fn server_of<'r, 'a, R, B: OrderBook<Alloc = Global>>(
+    alloc: Global,
+    serving: &'a Serving<'a>,
+    users: Logins<'a>,
+    start: Start<'r, 'a, R>,
+    desk: Desk<B>,
+    callers: Callers,
+    files: OwnFiles,
+) -> Result<Server<'r, 'a, R, B>, AllocError>
+where
+    R: Net + Clock + Files<File = File> + Eprint + AllocGlobal,
+{
+    let session = desk.follower().session().unwrap_or(current_session());
+    let first_room = PLACES.saturating_add(serving.clients);
+    let reception = Reception::new(alloc, session, Seq::new(1).unwrap(), first_room)?;
+    let clients = free_places(alloc, serving)?;
+    let tally = Tally::new(desk.follower().next());
+    let Start {
+        log,
+        turns,
+        feed,
+        token: _,
+        spare,
+        status,
+        figures: _,
+    } = start;
+    let OwnFiles {
+        record,
+        replay,
+        saver,
+    } = files;
+    Ok(Server {
+        serving,
+        users,
+        log,
+        turns,
+        callers,
+        feed,
+        desk,
+        reception,
+        clients,
+        budget: Budget::new(),
+        paths: DayPaths::none(),
+        record,
+        replay,
+        latest: None,
+        saver,
+        scout: None,
+        tomorrow: None,
+        spare,
+        status,
+        tally,
+        has_caught_up: false,
+        has_ended: false,
+        has_asked: false,
+    })
+}
