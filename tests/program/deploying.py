@@ -287,8 +287,7 @@ def texts_of(file, function):
 
 def events():
     """The events that a log may have."""
-    folder = SOURCES / "itchsnap_live/src"
-    files = [it.relative_to(SOURCES) for it in folder.rglob("*.rt") if re.search(r"^impl(?:<.*>)? Event for", it.read_text(), re.M)]
+    files = [it.relative_to(SOURCES) for it in SOURCES.glob("*/src/**/*.rt") if re.search(r"^impl(?:<.*>)? Event for", it.read_text(), re.M)]
     return {event for file in files for event in texts_of(file, "fn name(&self)")}
 
 
@@ -299,7 +298,7 @@ def the_page_has_each_line_of_the_log(program):
     causes = {it for row in rows("A lost feed") for it in quoted(row[0])}
     yield from differs("causes", causes, texts_of("itch_status/src/cause.rt", "pub fn words(self)"))
     reasons = {it for row in rows("Clients") for it in quoted(row[0])}
-    yield from differs("reasons", reasons, texts_of("itchsnap_live/src/who.rt", "fn reason_of(") - {"played"})
+    yield from differs("reasons", reasons, texts_of("itch_sessions/src/who.rt", "fn reason_of(") - {"played"})
     yield from differs("events in OUTPUT", {it for it in events() if f"`{it}`" not in OUTPUT.read_text()}, set())
 
 

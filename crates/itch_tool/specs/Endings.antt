@@ -5,8 +5,8 @@ use Rattle.std.specs.declared.io.ErrorKind.TheVariants.{BrokenPipe}
 use Rattle.itch_commands.specs.Statuses.{status_of}
 use Rattle.itch_commands.specs.Statuses as commands
 use Rattle.itch_commands.specs.declared.fault.ToolFault.TheVariants as tool
-use Rattle.itchsnap_live.specs.SessionFaults.{session_status}
-use Rattle.itchsnap_live.specs.declared.session_fault.SessionFault.TheVariants as session_fault
+use Rattle.itch_sessions.specs.SessionFaults.{session_status}
+use Rattle.itch_sessions.specs.declared.session_fault.SessionFault.TheVariants as session_fault
 use Rattle.itch_tool.specs.declared.failure.Failure.{Failure}
 use Rattle.itch_tool.specs.declared.failure.Failure.TheVariants.{Command, Session, Open, Checkpoint, Users, Said}
 

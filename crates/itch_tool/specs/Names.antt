@@ -5,8 +5,8 @@ use Rattle.itch_commands.specs.declared.fault.Source.{Source}
 use Rattle.itch_commands.specs.declared.fault.Source.TheVariants as source
 use Rattle.itch_commands.specs.declared.request.Request.{Request}
 use Rattle.itch_commands.specs.declared.request.Request.TheVariants.{One, Two, At}
-use Rattle.itchsnap_live.specs.declared.session_fault.SessionDevice.{SessionDevice}
-use Rattle.itchsnap_live.specs.declared.session_fault.SessionDevice.TheVariants as device
+use Rattle.itch_sessions.specs.declared.session_fault.SessionDevice.{SessionDevice}
+use Rattle.itch_sessions.specs.declared.session_fault.SessionDevice.TheVariants as device
 use Rattle.itch_tool.specs.declared.names.CommandFiles.{CommandFiles}
 use Rattle.itch_tool.specs.declared.names.Name.{Name}
 use Rattle.itch_tool.specs.declared.names.Name.TheVariants as name

@@ -4,8 +4,8 @@ use Rattle.itch_frame.specs.declared.tally.Failures.{Failures}
 use Rattle.itch_market.specs.Content.{Content, laid}
 use Rattle.itch_soup.specs.declared.login.ServerConfig.{ServerConfig}
 use Rattle.itch_commands.specs.declared.fault.ToolFault.{ToolFault}
-use Rattle.itchsnap_live.specs.Sessions.{ServesMarket}
-use Rattle.itchsnap_live.specs.declared.session_fault.SessionFault.{SessionFault}
+use Rattle.itch_sessions.specs.Sessions.{ServesMarket}
+use Rattle.itch_sessions.specs.declared.session_fault.SessionFault.{SessionFault}
 use Rattle.itch_tool.specs.declared.failure.Failure.{Failure}
 use Rattle.itch_tool.specs.declared.failure.Failure.TheVariants.{Command, Session}
 

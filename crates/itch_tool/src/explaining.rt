@@ -11,8 +11,9 @@ use clap::Error;
 use clap::error::ErrorKind;
 use itch_checkpoints::Unfit;
 use itch_commands::{Source, ToolFault, Unmet, system_fault};
+use itch_records::{LiveFault, Names};
+use itch_sessions::{SessionCause, SessionDevice, SessionFault};
 use itch_soup::SoupFault;
-use itchsnap_live::{LiveFault, Names, SessionCause, SessionDevice, SessionFault};
 use std::io;
 use std::rt::Files;
 

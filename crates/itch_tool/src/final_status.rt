@@ -4,7 +4,7 @@ ghost use Rattle.itch_tool.specs.Endings.{EndsByClosedPipe, exit_status};
 
 use crate::failure::Failure;
 use itch_commands::{ToolFault, status};
-use itchsnap_live::SessionFault;
+use itch_sessions::SessionFault;
 use std::io::ErrorKind;
 
 /// The status that a shell gives a program that SIGPIPE ended: 128 plus the signal's number.

@@ -3,14 +3,14 @@
 use crate::explaining::said;
 use crate::failure::Failure;
 use crate::password::{read_account, read_users};
+use itch_clients::{Playing, play_feed};
 use itch_frame::Counted;
 use itch_live::Sessions;
+use itch_records::{DayFault, DayPaths, Names};
+use itch_sessions::sessions::{PIECE, Sending};
+use itch_sessions::{Place, Servers, SessionFault};
 use itchsnap_cli::words::{FeedWords, FollowWords, LiveWords, session_of_file};
-use itchsnap_live::sessions::{PIECE, Sending};
-use itchsnap_live::{
-    Accounts, DayFault, DayPaths, Following, Names, Place, Playing, Servers, Serving, SessionFault, follow_feed,
-    play_feed, serve_live,
-};
+use itchsnap_live::{Accounts, Following, Serving, follow_feed, serve_live};
 use std::fs::File;
 use std::io::{self, BufWriter};
 use std::net::{Net, ToSocketAddrs};

@@ -4,10 +4,10 @@ ghost use Rattle.itch_tool.specs.Names.{first_path, input_name, last_path, name_
 
 use crate::selected::Selected;
 use itch_commands::{Command, PairCommand, Request, Source};
+use itch_sessions::{SessionDevice, SessionFault};
 use itchsnap_cli::words::{
     FeedWords, FollowWords, Job, LiveWords, PointWords, Server, StatusWords,
 };
-use itchsnap_live::{SessionDevice, SessionFault};
 use std::fmt;
 use std::net::SocketAddr;
 

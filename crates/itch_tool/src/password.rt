@@ -1,9 +1,9 @@
 //! The logins of the command line, whose passwords are words, lines of a file, or a variable of the environment.
 
 use crate::failure::Failure;
+use itch_sessions::sessions::first_line;
+use itch_sessions::{LoginSource, Logins, LoginsFault};
 use itchsnap_cli::words::{LoginWords, Password, UserWords};
-use itchsnap_live::sessions::first_line;
-use itchsnap_live::{LoginSource, Logins, LoginsFault};
 use std::alloc::AllocError;
 use std::env::{self, Env, VarError};
 use std::fs::{self, File};

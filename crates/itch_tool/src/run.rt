@@ -15,9 +15,9 @@ use itch_commands::{
 };
 use itch_frame::{BlockReader, Buffered, Counted, CountedWrite};
 use itch_market::LocateSet;
+use itch_sessions::sessions::{PIECE, default_session};
 use itchsnap_cli::input::Progress;
 use itchsnap_cli::words::{Completions, Job, Shell};
-use itchsnap_live::sessions::{PIECE, default_session};
 use std::alloc::{Allocator, Global};
 use std::fs::File;
 use std::io::{self, BufReader, BufWriter, Read, Write};

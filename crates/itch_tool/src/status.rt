@@ -3,9 +3,9 @@
 use crate::failure::Failure;
 use crate::sockets::connect_within;
 use itch_commands::{ToolFault, system_fault};
+use itch_sessions::{Place, SessionFault};
 use itch_status::{body_of, is_ready};
 use itchsnap_cli::words::StatusWords;
-use itchsnap_live::{Place, SessionFault};
 use std::io::{self, ErrorKind, Read, Write};
 use std::net::{Net, TcpStream};
 use std::rt::Clock;

@@ -2,8 +2,8 @@
 use Rattle.std.specs.Prelude.{ℕ, Bool, true, false, List, Option, Some, None, option_map}
 use Rattle.itchsnap_cli.specs.declared.words.job.Job.{Job}
 use Rattle.itchsnap_cli.specs.declared.words.job.Job.TheVariants.{Files, Points, Serve, Fetch, Live, Follow, Feed, Status, Completions}
-use Rattle.itchsnap_live.specs.declared.follow_form.FollowForm.{FollowForm}
-use Rattle.itchsnap_live.specs.declared.follow_form.FollowForm.TheVariants as form
+use Rattle.itch_sessions.specs.declared.follow_form.FollowForm.{FollowForm}
+use Rattle.itch_sessions.specs.declared.follow_form.FollowForm.TheVariants as form
 use Rattle.itch_commands.specs.Requests.{is_binary}
 
 -- the path of the file that a snapshot is written to, or of the folder for several, if one is named

@@ -3,9 +3,9 @@ ghost use Rattle.std.specs.Prelude.{◌≡◌};
 ghost use Rattle.itchsnap_live.specs.Losses.{trouble_cause};
 
 use crate::cause::cause_of_code;
-use crate::log::entry::{Event, Level, write_letter, write_number, write_text};
-use crate::log::form::LogForm;
 use itch_codec::Alpha;
+use itch_sessions::log::entry::{Event, Level, write_letter, write_number, write_text};
+use itch_sessions::log::form::LogForm;
 use itch_status::Cause;
 use std::fmt::{self, Display, Formatter};
 

@@ -5,35 +5,24 @@ mod days;
 mod figures;
 mod keeping;
 
-use crate::budget::Budget;
-use crate::callers::Callers;
-use crate::clients::Clients;
-use crate::day_files::DayPaths;
-use crate::fault::{DayFault, LiveFault};
 use crate::feed_side::{FeedSide, SHARE};
-use crate::log::Log;
-use crate::log::form::LogForm;
-use crate::logins::Logins;
-use crate::places::Place;
 use crate::question::{agreed, ask_session, asks_session};
-use crate::ready::{Ready, is_caught_up};
-use crate::reception::Reception;
-use crate::record::{Record, RecordLoss, RecordPlace, RecordWords};
-use crate::replay::Replay;
-use crate::route::Servers;
-use crate::saving::{Saver, SnapshotWords};
 use crate::scout::Scout;
-use crate::spare::Spare;
 use crate::status::{STATUS, StatusPort};
-use crate::step::Step;
-use crate::turns::Turns;
-use crate::who::Visit;
 use days::Tomorrow;
 use itch_book::{IndexedBook, OrderBook};
+use itch_clients::{Budget, Clients, Reception};
 use itch_codec::Alpha;
 use itch_frame::CountedWrite;
 use itch_join::Joiner;
 use itch_live::Desk;
+use itch_records::{
+    DayFault, DayPaths, LiveFault, Ready, Record, RecordLoss, RecordPlace, RecordWords, Replay,
+    Saver, SnapshotWords, Step, is_caught_up,
+};
+use itch_sessions::log::Log;
+use itch_sessions::log::form::LogForm;
+use itch_sessions::{Callers, Logins, Place, Servers, Spare, Turns, Visit};
 use itch_status::Tally;
 use mio::Token;
 use std::alloc::Global;

@@ -1,24 +1,19 @@
 //! What a live server opens before it serves.
 
-use crate::callers::Callers;
-use crate::day_files::{DayPaths, make_folder};
-use crate::fault::LiveFault;
 use crate::live::Serving;
-use crate::log::Log;
-use crate::record::Record;
-use crate::replay::Replay;
-use crate::resuming::{Replayed, at_the_first, newest};
-use crate::saving::Saver;
-use crate::session_fault::SessionFault;
-use crate::sessions::{Listening, Login, current_session};
 use crate::start::Start;
 use crate::status::StatusPort;
-use crate::turns::called;
 use itch_book::OrderBook;
 use itch_codec::Alpha;
 use itch_day::Mark;
 use itch_join::Joiner;
 use itch_live::{Follower, Sessions};
+use itch_records::{
+    DayPaths, LiveFault, Record, Replay, Replayed, Saver, at_the_first, make_folder, newest,
+};
+use itch_sessions::log::Log;
+use itch_sessions::sessions::{Listening, Login, current_session};
+use itch_sessions::{Callers, SessionFault, called};
 use std::alloc::{AllocError, Global};
 use std::fs::File;
 use std::net::{Net, SocketAddr};

@@ -1,18 +1,16 @@
 //! Which session a feed is in, while it is not in that of the present day.
 
 use crate::feed_side::{FeedSide, SHARE};
-use crate::log::Log;
-use crate::logins::Logins;
 use crate::question::nameless_follower;
-use crate::recording::Recording;
-use crate::route::Servers;
-use crate::sessions::current_session;
-use crate::turns::Turns;
 use itch_book::OrderBook;
 use itch_codec::Alpha;
 use itch_frame::tally::Failures;
 use itch_join::Joiner;
 use itch_live::Follower;
+use itch_records::Recording;
+use itch_sessions::log::Log;
+use itch_sessions::sessions::current_session;
+use itch_sessions::{Logins, Servers, Turns};
 use mio::event::Event;
 use std::alloc::Global;
 use std::fs::File;

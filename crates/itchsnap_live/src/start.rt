@@ -1,18 +1,14 @@
 //! A feed before its session is known.
 
-use crate::fault::LiveFault;
 use crate::feed_side::{FeedSide, SHARE};
-use crate::log::Log;
-use crate::logins::Logins;
-use crate::recording::Recording;
-use crate::route::Servers;
-use crate::spare::{SPARED, Spare};
 use crate::status::{STATUS, StatusPort};
-use crate::turns::Turns;
 use itch_book::OrderBook;
 use itch_codec::Alpha;
 use itch_frame::tally::Failures;
 use itch_live::Follower;
+use itch_records::{LiveFault, Recording};
+use itch_sessions::log::Log;
+use itch_sessions::{Logins, SPARED, Servers, Spare, Turns};
 use itch_status::Figures;
 use mio::Token;
 use std::alloc::Global;

@@ -2,18 +2,11 @@
 
 mod connection;
 
-use crate::callers::{Caller, Callers};
-use crate::fault::LiveFault;
-use crate::link::Link;
-use crate::log::Log;
-use crate::log::lines::StatusOn;
-use crate::places::Place;
-use crate::socket::Socket;
-use crate::spare::Spare;
-use crate::utc::date;
-use crate::version::VERSION;
-use crate::who::Who;
 use connection::Connection;
+use itch_records::LiveFault;
+use itch_sessions::log::Log;
+use itch_sessions::log::lines::StatusOn;
+use itch_sessions::{Caller, Callers, Link, Place, Socket, Spare, VERSION, Who, date};
 use itch_status::{Answer, Figures, LONGEST, refuse, respond};
 use mio::Registry;
 use mio::event::Event;
@@ -192,9 +185,7 @@ fn response<R: Clock + AllocGlobal>(rt: &R, asked: Answer, figures: &Figures) ->
             VERSION,
             date(rt),
         ),
-        Answer::Refused { refusal, has_body } => {
-            refuse(rt.alloc(), refusal, has_body, date(rt))
-        }
+        Answer::Refused { refusal, has_body } => { refuse(rt.alloc(), refusal, has_body, date(rt)) }
     };
     made.ok()
 }

@@ -8,7 +8,7 @@ use crate::words::arguments::{
 };
 use clap::error::ErrorKind;
 use clap::{Command, Error};
-use itchsnap_live::VERSION;
+use itch_sessions::VERSION;
 use std::alloc::{AllocError, Global};
 
 /// A command: its name, what it does, its arguments in the order of the help, and an example.

@@ -14,7 +14,7 @@ use crate::words::status::{StatusWords, read_status_words};
 use clap::{ArgMatches, Error};
 use itch_codec::{Alpha, Seq};
 use itch_commands::{Command, FileKind, Request};
-use itchsnap_live::FollowForm;
+use itch_sessions::FollowForm;
 use std::alloc::Global;
 use std::net::SocketAddr;
 

@@ -8,10 +8,11 @@ use crate::words::session::{
 };
 use crate::words::size::read_size;
 use clap::{ArgMatches, Error};
+use itch_clients::Pace;
 use itch_codec::Alpha;
-use itchsnap_live::{
-    Feeds, FollowForm, LogForm, Pace, Place, Ready, RecordPlace, RecordWords, SnapshotWords, SyncTime,
-};
+use itch_records::{Ready, RecordPlace, RecordWords, SnapshotWords, SyncTime};
+use itch_sessions::log::form::LogForm;
+use itch_sessions::{Feeds, FollowForm, Place};
 use std::alloc::Global;
 use std::net::SocketAddr;
 

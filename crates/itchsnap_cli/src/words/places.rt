@@ -3,7 +3,7 @@
 use crate::words::commands::usage_fault;
 use crate::words::time::read_digits;
 use clap::{ArgMatches, Error};
-use itchsnap_live::{Feeds, Place};
+use itch_sessions::{Feeds, Place};
 use std::alloc::Global;
 
 /// The servers after `--feed`.

@@ -5,7 +5,7 @@ use crate::words::request::read_count;
 use crate::words::time::read_digits;
 use clap::{ArgMatches, Error};
 use itch_codec::{Alpha, MOST_MESSAGES, Seq};
-use itchsnap_live::sessions::{current_session, default_session};
+use itch_sessions::sessions::{current_session, default_session};
 use std::alloc::Global;
 use std::fmt::{self, Debug, Formatter};
 use std::net::{IpAddr, Ipv4Addr, SocketAddr};

@@ -4,7 +4,7 @@ use crate::words::commands::usage_fault;
 use crate::words::places::status_place_of;
 use crate::words::request::read_count;
 use clap::{ArgMatches, Error};
-use itchsnap_live::Place;
+use itch_sessions::Place;
 use std::alloc::Global;
 
 /// Whose status is printed, and how.

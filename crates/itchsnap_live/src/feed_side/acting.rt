@@ -1,14 +1,13 @@
 //! What a step of a feed is for its connection.
 
 use super::FeedSide;
-use crate::fault::LiveFault;
 use crate::feed_line::{FeedLine, Named, Trouble};
-use crate::log::Log;
-use crate::session_fault::SessionFault;
-use crate::step::{Step, rejection_ends};
 use itch_book::OrderBook;
 use itch_codec::Alpha;
 use itch_live::{Follower, Source};
+use itch_records::{LiveFault, Step, rejection_ends};
+use itch_sessions::SessionFault;
+use itch_sessions::log::Log;
 use itch_soup::SoupFault;
 use itch_status::Cause;
 

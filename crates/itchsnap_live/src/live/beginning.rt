@@ -1,30 +1,24 @@
 //! What a live server opens, and waits for, before its first turn.
 
 use super::{Accounts, FEED, LISTENER, PLACES, Server, Serving};
-use crate::budget::Budget;
-use crate::callers::Callers;
-use crate::clients::Clients;
-use crate::day_files::{DayBegun, DayPaths};
-use crate::fault::LiveFault;
-use crate::log::Log;
-use crate::logins::Logins;
 use crate::opened::{Begun, OwnFiles, follower_of, listen, open_files, open_status};
 use crate::question::nameless_follower;
-use crate::reception::Reception;
-use crate::room::SnapshotRoom;
-use crate::route::Servers;
-use crate::session_fault::SessionFault;
-use crate::sessions::{Login, current_session};
 use crate::start::Start;
 use itch_book::OrderBook;
+use itch_clients::{Budget, Clients, Reception, SnapshotRoom};
 use itch_codec::{Alpha, Seq};
 use itch_join::Joiner;
 use itch_live::{Desk, Follower};
+use itch_records::{DayBegun, DayPaths, LiveFault, RecordPlace, stem_of};
+use itch_sessions::log::Log;
+use itch_sessions::sessions::{Login, current_session};
+use itch_sessions::{Callers, Logins, Servers, SessionFault};
 use itch_status::Tally;
 use std::alloc::{AllocError, Global};
 use std::fs::File;
 use std::net::Net;
 use std::rt::{Clock, Files};
+use std::str;
 
 /// Opens what a server works on, and waits until the session of its feed is known. Its paths are known as soon as that is.
 pub(super) fn opened<'r, 'a, R, B: OrderBook<Alloc = Global>>(
@@ -75,7 +69,7 @@ where
     R: Net + Clock + Files<File = File> + Eprint + AllocGlobal,
 {
     let alloc = log.runtime().alloc();
-    *paths = DayPaths::of(alloc, serving, &session.unwrap_or(current_session()))?;
+    *paths = paths_of(alloc, serving, &session.unwrap_or(current_session()))?;
     let begun = open_files(log, serving, paths, session)?;
     if serving.has_days()
         && let (Some(session), Some(record)) = (session, &paths.record)
@@ -188,4 +182,28 @@ where
         has_ended: false,
         has_asked: false,
     })
+}
+
+// The paths of a session's files: where each session has files of its own, these are named after it.
+fn paths_of(
+    alloc: Global,
+    serving: &Serving<'_>,
+    session: &Alpha<10>,
+) -> Result<DayPaths, AllocError> {
+    let stem = stem_of(alloc, session)?;
+    let stem = str::from_utf8(&stem).unwrap_or("");
+    let record = match serving.place() {
+        Some(RecordPlace::File(path)) => Some(String::from_str(alloc, path)?),
+        Some(RecordPlace::Folder(folder)) => Some(format!(in alloc; "{folder}/{stem}.itch")?),
+        None => None,
+    };
+    let snapshots = match serving.snapshots {
+        Some(words) if serving.has_days() => {
+            let folder = words.folder;
+            Some(format!(in alloc; "{folder}/{stem}")?)
+        }
+        Some(words) => Some(String::from_str(alloc, words.folder)?),
+        None => None,
+    };
+    Ok(DayPaths { record, snapshots })
 }

@@ -2,13 +2,13 @@
 
 use super::beginning::{free_places, open_day};
 use super::{SCOUT, Server};
-use crate::fault::LiveFault;
 use crate::opened::{Begun, OwnFiles, follower_of};
-use crate::question::is_another;
 use crate::scout::Scout;
 use itch_book::OrderBook;
 use itch_codec::Alpha;
 use itch_live::Desk;
+use itch_records::LiveFault;
+use itch_sessions::is_another;
 use itch_status::Tally;
 use std::alloc::Global;
 use std::fs::File;

@@ -1,11 +1,8 @@
 //! The files of a live server.
 
 use super::{READING_MS, Server};
-use crate::fault::LiveFault;
-use crate::record::RecordLoss;
-use crate::replay::next_stop;
-use crate::saving::RecordPart;
 use itch_book::OrderBook;
+use itch_records::{LiveFault, RecordLoss, RecordPart, next_stop};
 use itch_status::Tally;
 use std::alloc::Global;
 use std::fs::File;

@@ -1,7 +1,7 @@
 //! A connection to the status port: one request, and the answer to it.
 ghost use Rattle.std.specs.Prelude.{◌≡◌, ◌-◌, nat_le};
 
-use crate::link::Link;
+use itch_sessions::Link;
 use itch_status::{Answer, LONGEST, Refusal, answer_to, refused};
 use mio::event::Event;
 use std::alloc::{AllocError, Global};

@@ -2,8 +2,8 @@
 
 use crate::equal::TestResult;
 use itch_codec::Alpha;
+use itch_sessions::sessions::{Login, default_session};
 use itchsnap_cli::input::Tally;
-use itchsnap_live::sessions::{Login, default_session};
 
 #[test]
 fn whole_messages_are_counted(rt: HostRuntime) -> TestResult {
