@@ -2,13 +2,17 @@
 
 RUNS has a function for each run, named for what it shows; it is given the program, and yields what differs.
 """
+import re
+import resource
+import signal
+import subprocess
 import threading
 import time
 from pathlib import Path
 
 from common import differs, split
-from living import (BEAT, ENDED, LOGIN, PATIENCE, Feed, acceptance, answer, day_of, folder_with, live, number_in, packet, session_in, snapshot_after, told,
-                    without_first_beats)
+from living import (BEAT, ENDED, LOGIN, PATIENCE, WORDS, Feed, acceptance, answer, day_of, folder_with, live, number_in, packet, session_in,
+                    snapshot_after, told, without_first_beats)
 
 REJECTED = b"\0\x02JS"
 COUNT, EVERY, MOST = 3_000, 1_000, 10_000
@@ -172,10 +176,26 @@ def a_record_of_a_session_is_for_one_process(program):
             yield from differs("the second", (status, lines[-2:]), (3, wanted))
 
 
+def a_record_of_a_session_that_cannot_be_written_is_named(program):
+    """A file may have so many bytes and no more."""
+    def limit():
+        signal.signal(signal.SIGXFSZ, signal.SIG_IGN)
+        resource.setrlimit(resource.RLIMIT_FSIZE, (500, 500))
+
+    season = Season()
+    with folder_with() as folder, Feed(season.script) as feed:
+        (folder / "records").mkdir()
+        words = "--feed", f"127.0.0.1:{feed.port}", "--port", "0", *WORDS, "--records", "records", "--stay"
+        done = subprocess.run([program, "live", *words], cwd=folder, preexec_fn=limit, capture_output=True, stdin=subprocess.DEVNULL, timeout=PATIENCE)
+        if done.returncode != 3 or not re.search(rb"itchsnap: message \d+: write failed\n  records/DAY1.itch: File too large .*\n$", done.stderr):
+            yield f"{done}"
+
+
 RUNS = [
     three_days_follow_each_other,
     a_restart_goes_on_with_the_record_of_the_session,
     a_session_that_never_ended_gives_way_to_the_next,
     names_of_files_are_those_of_sessions,
     a_record_of_a_session_is_for_one_process,
+    a_record_of_a_session_that_cannot_be_written_is_named,
 ]

@@ -41,7 +41,7 @@ pub fn said<R: Eprint>(
 ) -> Result<bool, Failure> {
     match outcome {
         Ok(answer) => Ok(answer),
-        Err(LiveFault::Session(fault)) => Err(Failure::from(fault)),
+        Err(LiveFault::Session(fault)) => Err(said_of_day(rt, fault, names)),
         Err(fault) => {
             // Where standard error takes nothing, the status still tells.
             let _ = say_live(rt, &fault, names);
@@ -50,6 +50,36 @@ pub fn said<R: Eprint>(
             })
         }
     }
+}
+
+// The failure of a session. One at a file of the day is said here, since no word of the command line may be that file.
+fn said_of_day<R: Eprint>(rt: &R, fault: SessionFault, names: Names<'_>) -> Failure {
+    let Some(cause) = fault.cause() else {
+        return Failure::from(fault);
+    };
+    let path = match cause.device {
+        SessionDevice::DayFile => names.record,
+        SessionDevice::Folder => names.snapshots,
+        SessionDevice::Output | SessionDevice::Socket => "",
+    };
+    if path.is_empty() {
+        return Failure::from(fault);
+    }
+    // Where standard error takes nothing, the status still tells.
+    let _ = say_session_at(rt, &fault, cause, Name::Path(path));
+    Failure::Said {
+        status: fault.status(),
+    }
+}
+
+fn say_session_at<R: Eprint>(
+    rt: &R,
+    fault: &SessionFault,
+    cause: SessionCause,
+    name: Name<'_>,
+) -> io::Result<()> {
+    rt.eprintln(fault)?;
+    say_cause(rt, cause, name)
 }
 
 fn say_live<R: Eprint>(rt: &R, fault: &LiveFault, names: Names<'_>) -> io::Result<()> {
@@ -191,11 +221,11 @@ fn say_session<R: Eprint>(
     fault: &SessionFault,
     names: &SessionNames<'_>,
 ) -> io::Result<()> {
-    rt.eprintln(fault)?;
     let name = names.name(fault);
     if let Some(cause) = fault.cause() {
-        return say_cause(rt, cause, name);
+        return say_session_at(rt, fault, cause, name);
     }
+    rt.eprintln(fault)?;
     match fault.peer_fault() {
         Some(peer) => say_peer(rt, &peer, name),
         None => Ok(()),
