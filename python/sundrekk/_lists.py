@@ -2,12 +2,12 @@
 from __future__ import annotations
 
 import ctypes as c
-from typing import Any, Callable, Dict, Iterable, List, Optional, Tuple
+from typing import Any, Callable, Dict, Iterable, List, Mapping, Optional, Tuple
 
 from . import _buffers, _library
 from ._handles import done, found
 from ._library import library
-from .tables import SIDES, Levels, Orders, Part
+from .tables import SIDES, Levels, Orders, Part, Stock
 
 
 def locates(handle: _library.Handle) -> List[int]:
@@ -25,6 +25,24 @@ def stock(handle: _library.Handle, locate: int) -> Optional[str]:
 def stocks(handle: _library.Handle) -> Dict[int, str]:
     """The stock of each locate in the directory."""
     return {locate: stock(handle, locate) or "" for locate in locates(handle)}
+
+
+def places(directory: Mapping[int, str]) -> Dict[str, List[int]]:
+    """The locates of each stock of a directory."""
+    found: Dict[str, List[int]] = {}
+    for locate, name in directory.items():
+        found.setdefault(name, []).append(locate)
+    return found
+
+
+def locate_in(directory: Mapping[str, List[int]], stock: Stock) -> int:
+    """The locate that is given, or the one that has the stock of this name."""
+    if not isinstance(stock, str):
+        return _buffers.locate_of(stock)
+    having = directory.get(stock, [])
+    if len(having) != 1:
+        raise ValueError(f"the directory has no stock {stock!r}" if not having else f"the locates {having} have the stock {stock!r}")
+    return having[0]
 
 
 def orders(handle: _library.Handle, locate: Optional[int]) -> Orders:

@@ -10,7 +10,7 @@ from ._library import library
 from .messages import is_ended
 from .reasons import Refused
 from .snapshots import Snapshot, load
-from .tables import SIDES, Level, Levels, Order, Orders
+from .tables import SIDES, Level, Levels, Order, Orders, Stock
 
 if TYPE_CHECKING:
     from _typeshed import ReadableBuffer
@@ -24,33 +24,38 @@ class Applied(NamedTuple):
 
 
 class Lookups(Held):
-    """What can be asked of a market. Prices are in ten-thousandths of a dollar; a side is 'B' for bids or 'S' for asks."""
+    """What can be asked of a market. Prices are in ten-thousandths of a dollar; a side is 'B' for bids or 'S' for asks. A locate may be given by the
+    name of its stock; a name that the directory lacks, or has at several locates, raises ValueError."""
+
+    # The locates of each stock when the directory had so many entries. It only grows, and an entry keeps its stock.
+    _places: Dict[str, List[int]] = {}
+    _entries = 0
 
     @property
     def next_number(self) -> int:
         """The number of the next message of the feed, counted from 1."""
         raise NotImplementedError
 
-    def best(self, locate: int, side: str) -> Optional[Order]:
+    def best(self, locate: Stock, side: str) -> Optional[Order]:
         """The order that has priority at a locate and side, or None where there is none."""
-        return self._order(found(library.best(self._own, locate_of(locate), is_buy(side))))
+        return self._order(found(library.best(self._own, self._locate(locate), is_buy(side))))
 
     def order(self, reference: int) -> Optional[Order]:
         """The live order with a reference number, or None where there is none."""
         return self._order(found(library.order_by(self._own, _buffers.number(reference, 64, "a reference"))))
 
-    def level(self, locate: int, side: str, price: int) -> Optional[Level]:
+    def level(self, locate: Stock, side: str, price: int) -> Optional[Level]:
         """The shares and the orders at a price, or None where no order has it."""
-        words = locate_of(locate), is_buy(side), _buffers.number(price, 32, "a price")
-        total = done(library.level(self._own, *words))
+        locate = self._locate(locate)
+        total = done(library.level(self._own, locate, is_buy(side), _buffers.number(price, 32, "a price")))
         if not total.orders:
             return None
         return Level(locate, self.stock(locate) or "", side, price, total.shares_high << 64 | total.shares_low, total.orders)
 
-    def next_price(self, locate: int, side: str, after: Optional[int] = None) -> Optional[int]:
+    def next_price(self, locate: Stock, side: str, after: Optional[int] = None) -> Optional[int]:
         """The best price of a side, or the best that is worse than `after`; None where there is none."""
         last = _buffers.number(after or 0, 32, "a price")
-        price = found(library.next_price(self._own, locate_of(locate), is_buy(side), after is not None, last))
+        price = found(library.next_price(self._own, self._locate(locate), is_buy(side), after is not None, last))
         return None if price is None else price.price
 
     def order_count(self) -> int:
@@ -69,17 +74,23 @@ class Lookups(Held):
         """The locates of the directory, rising."""
         return _lists.locates(self._own)
 
-    def orders(self, locate: Optional[int] = None) -> Orders:
+    def orders(self, locate: Optional[Stock] = None) -> Orders:
         """The live orders of all locates, or of one: bids before asks, each side by priority."""
-        return _lists.orders(self._own, None if locate is None else locate_of(locate))
+        return _lists.orders(self._own, None if locate is None else self._locate(locate))
 
-    def levels(self, locate: Optional[int] = None) -> Levels:
+    def levels(self, locate: Optional[Stock] = None) -> Levels:
         """The price levels of all locates, or of one: bids before asks, the best price of each side first."""
-        return _lists.levels(self._own, None if locate is None else locate_of(locate))
+        return _lists.levels(self._own, None if locate is None else self._locate(locate))
 
-    def snapshot(self, *, only: Optional[Iterable[int]] = None) -> Snapshot:
+    def snapshot(self, *, only: Optional[Iterable[Stock]] = None) -> Snapshot:
         """The snapshot of the market, or of what it has at some locates, with the number of the next message."""
-        return Snapshot._canonical(_lists.snapshot(self._own, self.next_number, only))
+        return Snapshot._canonical(_lists.snapshot(self._own, self.next_number, None if only is None else map(self._locate, only)))
+
+    def _locate(self, stock: Stock) -> int:
+        """The locate that is given, or that of the stock with this name."""
+        if isinstance(stock, str) and (entries := library.locates(self._own, None, 0).len) != self._entries:
+            self._places, self._entries = _lists.places(self.stocks()), entries
+        return _lists.locate_in(self._places, stock)
 
     def _order(self, order: Optional[_library.Order]) -> Optional[Order]:
         if order is None:

@@ -11,7 +11,7 @@ from ._buffers import bytes_of
 from ._handles import Held
 from ._library import OK, library
 from .reasons import Refused
-from .tables import Levels, Orders
+from .tables import Levels, Orders, Stock
 
 if TYPE_CHECKING:
     from _typeshed import ReadableBuffer
@@ -71,11 +71,13 @@ class Snapshot:
             raise TypeError(f"a Snapshot is compared with a Snapshot, and not with {other!r}")
         return self._data[:-END_BLOCK] == other._data[:-END_BLOCK]
 
-    def only(self, locates: Iterable[int]) -> Snapshot:
-        """The snapshot cut down to these locates."""
+    def only(self, locates: Iterable[Stock]) -> Snapshot:
+        """The snapshot cut down to these locates, or stocks by their names. A name that no locate has, or several have, raises ValueError."""
         with Held() as held:
             next_number = load(held, self._data)
-            return self._canonical(_lists.snapshot(held._own, next_number, locates))
+            directory = _lists.places(_lists.stocks(held._own))
+            some = [_lists.locate_in(directory, locate) for locate in locates]
+            return self._canonical(_lists.snapshot(held._own, next_number, some))
 
     @functools.cached_property
     def stocks(self) -> Dict[int, str]:

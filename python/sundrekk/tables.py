@@ -9,7 +9,7 @@ import bisect
 import ctypes as c
 import itertools
 import struct
-from typing import TYPE_CHECKING, Any, Dict, Iterator, List, Mapping, NamedTuple, Optional, Sequence, Tuple, TypeVar
+from typing import TYPE_CHECKING, Any, Dict, Iterator, List, Mapping, NamedTuple, Optional, Sequence, Tuple, TypeVar, Union
 
 if TYPE_CHECKING:
     import numpy
@@ -17,6 +17,8 @@ if TYPE_CHECKING:
     import pyarrow
 
 Row = TypeVar("Row")
+# A stock by its name, or what has it by its locate.
+Stock = Union[str, int]
 SIDES = ("B", "S")
 
 
@@ -84,8 +86,10 @@ class Table(Sequence[Row]):
     def __repr__(self) -> str:
         return f"<{len(self)} {type(self).__name__.lower()}>"
 
-    def at(self, locate: int) -> List[Row]:
-        """The rows of one locate."""
+    def at(self, locate: Stock) -> List[Row]:
+        """The rows of one locate, or of the locates that have the stock of this name."""
+        if isinstance(locate, str):
+            return [row for place, stock in self._stocks.items() if stock == locate for row in self.at(place)]
         first, last = bisect.bisect_left(self._locates, locate), bisect.bisect_right(self._locates, locate)
         return [row for part in range(first, last) for row in self._rows(part)]
 
