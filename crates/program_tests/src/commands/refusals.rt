@@ -1,8 +1,9 @@
 //! The line and the status of each fault.
 
 use crate::equal::{Host, TestResult, same, same_in};
+use itch_checkpoints::Latest;
 use itch_codec::CodecFault;
-use itch_commands::snap::{Latest, Mark};
+use itch_commands::snap::Mark;
 use itch_commands::{
     Expected, FeedPart, Limit, Misfit, Source, ToolFault, Unmet, status, system_fault,
 };

@@ -100,7 +100,7 @@ fn a_response_has_its_head(rt: HostRuntime) -> TestResult {
 }
 
 // Requests, and what each is answered.
-const REQUESTS: [(&[u8], Answer); 10] = [
+const REQUESTS: [(&[u8], Answer); 11] = [
     (b"", Answer::More),
     (b"GET /metrics HTTP/1.1\r\nHost: a\r\n", Answer::More),
     (b"GET /metrics?a=b HTTP/1.1\r\nHost: a\r\n\r\nrest", PAGE),
@@ -108,21 +108,46 @@ const REQUESTS: [(&[u8], Answer); 10] = [
     (b"GET HTTP://[::1]/metrics HTTP/1.1\r\n\r\n", PAGE),
     (
         b"GET ftp://a/metrics HTTP/1.1\r\n\r\n",
-        Answer::Refused(Refusal::NotFound),
+        Answer::Refused {
+            refusal: Refusal::NotFound,
+            has_body: true,
+        },
+    ),
+    (
+        b"HEAD /metric HTTP/1.1\r\n\r\n",
+        Answer::Refused {
+            refusal: Refusal::NotFound,
+            has_body: false,
+        },
     ),
     (
         b"PUT /metrics HTTP/1.1\r\n\r\n",
-        Answer::Refused(Refusal::MethodNotAllowed),
+        Answer::Refused {
+            refusal: Refusal::MethodNotAllowed,
+            has_body: true,
+        },
     ),
     (
         b"GET /metric HTTP/1.1\r\n\r\n",
-        Answer::Refused(Refusal::NotFound),
+        Answer::Refused {
+            refusal: Refusal::NotFound,
+            has_body: true,
+        },
     ),
     (
         b"GET /metrics HTTP/3.0\r\n\r\n",
-        Answer::Refused(Refusal::BadRequest),
+        Answer::Refused {
+            refusal: Refusal::BadRequest,
+            has_body: true,
+        },
     ),
-    (&[b'a'; 8_192], Answer::Refused(Refusal::TooLarge)),
+    (
+        &[b'a'; 8_192],
+        Answer::Refused {
+            refusal: Refusal::TooLarge,
+            has_body: true,
+        },
+    ),
 ];
 
 const PAGE: Answer = Answer::Page {
