@@ -6,7 +6,7 @@ use crate::fault::{LiveFault, RecordFault};
 use crate::step::stop_of;
 use itch_book::OrderBook;
 use itch_codec::{CodecFault, MOST_MESSAGES, Message};
-use itch_day::{Limit, Mark, Marked, Sink, Stop as DayStop, read_part};
+use itch_day::{Limit, Mark, Sink, Stop as DayStop, read_part};
 use itch_frame::{BlockReader, Buffered, FrameFault};
 use itch_join::{JoinFault, Live};
 use itch_live::Follower;
@@ -34,20 +34,23 @@ pub fn next_stop(every: u64, count: u64) -> u64
     }
 }
 
-// What follows a feed, and takes the messages of a record, or says why a replay of the record stops.
+// What follows a feed, and takes the messages of a record, or says why a replay of the record stops; and the mark after those.
 #[derive(Drop)]
 struct Recorded<'x, B: OrderBook> {
     follower: &'x mut Follower<B>,
+    mark: Mark,
 }
 
 impl<'x, B: OrderBook> Sink for Recorded<'x, B> {
+    ghost use Rattle.std.specs.Prelude.{◌≡◌};
+
     type Fault = Stop;
 
     ghost is_ready = { λ _ _. Unit {0} };
 
-    ghost takes = { λ _ _ _ _. Unit {0} };
+    ghost takes = { λ s number payload t. t.follower.ghost_name ≡ s.follower.ghost_name };
 
-    ghost refuses = { λ _ _ _ _ _. Unit {0} };
+    ghost refuses = { λ s number payload why t. t.follower.ghost_name ≡ s.follower.ghost_name };
 
     fn take(
         &mut self,
@@ -56,11 +59,44 @@ impl<'x, B: OrderBook> Sink for Recorded<'x, B> {
         message: &Result<Message<'_>, CodecFault>,
     ) -> Result<(), Stop> {
         match self.follower.replay(number, payload, message) {
-            Ok(Live::Applied { .. }) => Ok(()),
+            Ok(Live::Applied { .. }) => {
+                self.mark = mark_after(self.mark, number, payload, message);
+                Ok(())
+            }
             Err(JoinFault::Halted { cause, .. }) => Err(stop_of(cause)),
             Err(JoinFault::OutOfMemory { .. }) => Err(Stop::Rule(Refusal::OutOfMemory)),
             _ => Err(Stop::TooManyMessages),
         }
+    }
+
+    fn take_payload(&mut self, number: u64, payload: &[u8]) -> bool {
+        let _number = number;
+        let _payload = payload;
+        false
+    }
+
+    fn look_ahead(&mut self, blocks: &[u8]) -> u64 {
+        let _blocks = blocks;
+        u64::MAX
+    }
+}
+
+// The mark after the message with this number, which comes after those of a mark.
+fn mark_after(
+    mark: Mark,
+    number: u64,
+    payload: &[u8],
+    message: &Result<Message<'_>, CodecFault>,
+) -> Mark {
+    let time = match message {
+        Ok(message) => message.time(),
+        Err(_fault) => None,
+    };
+    let size = (payload.len() as u64).saturating_add(2);
+    Mark {
+        count: number,
+        offset: mark.offset.saturating_add(size),
+        latest: mark.latest.max(time),
     }
 }
 
@@ -107,13 +143,13 @@ impl Replay {
         if count > MOST_MESSAGES {
             return Err(refused(count, Stop::TooManyMessages));
         }
-        let mut marked = Marked {
-            sink: Recorded { follower },
+        let mut recorded = Recorded {
+            follower,
             mark: self.mark,
         };
         let limit = Limit::counted(Some(most));
-        let stop = read_part(&mut self.blocks, &mut count, &mut marked, limit);
-        self.mark = marked.mark;
+        let stop = read_part(&mut self.blocks, &mut count, &mut recorded, limit);
+        self.mark = recorded.mark;
         match stop {
             DayStop::Full => Ok(true),
             DayStop::Late | DayStop::End | DayStop::Frame(FrameFault::Truncated { .. }) => {

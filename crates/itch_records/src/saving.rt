@@ -266,6 +266,9 @@ impl Saver {
         };
         let keep = usize::try_from(keep).unwrap_or(usize::MAX);
         for _ in keep..self.files.len() {
+            if self.files.is_empty() {
+                break;
+            }
             let oldest = self.files.remove(0);
             keep_lines(rt, self.folder.as_str(), KeptLines::AllBut(oldest))?;
             remove(rt, self.folder.as_str(), oldest)?;
