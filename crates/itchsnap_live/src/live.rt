@@ -108,11 +108,11 @@ pub struct Accounts<'a> {
 /// A first login to the feed that is not authorised, or is accepted in another session than the one that is named or recorded; a message that
 /// is refused; a record that is another day's, in use, changed by another process or cannot be written; a folder of snapshots that is in use or
 /// not there; `Socket` if the port cannot be listened on.
-pub fn serve_live<R, W: CountedWrite>(
+pub fn serve_live<'a, R, W: CountedWrite>(
     rt: &R,
-    servers: Servers<'_>,
-    serving: &Serving<'_>,
-    accounts: Accounts<'_>,
+    servers: Servers<'a>,
+    serving: &'a Serving<'a>,
+    accounts: Accounts<'a>,
     out: &mut W,
 ) -> Result<bool, DayFault>
 where
@@ -338,7 +338,8 @@ where
         match *step {
             Step::Taken(next) => {
                 self.latest = self.latest.max(self.feed.market_ns());
-                return self.save(next, self.record.length(), now_ms);
+                let length = self.record.length();
+                return self.save(next, length, now_ms);
             }
             Step::Accepted(_) => {
                 self.scout = None;

@@ -6,7 +6,7 @@ use itch_book::OrderBook;
 use itch_codec::Alpha;
 use itch_frame::tally::Failures;
 use itch_live::Follower;
-use itch_records::{LiveFault, Recording};
+use itch_records::{LiveFault, Record, Recording};
 use itch_sessions::log::Log;
 use itch_sessions::{Logins, SPARED, Servers, Spare, Turns};
 use itch_status::Figures;
@@ -60,6 +60,11 @@ where
             status: None,
             figures: Figures::new(),
         })
+    }
+
+    /// Takes note of what is recorded already.
+    pub(crate) fn note_record(&mut self, record: &Record) {
+        self.figures.recorded = record.figures();
     }
 
     /// Follows the feed until its session is known.

@@ -51,7 +51,7 @@ where
         joiner,
         session,
     } = begun;
-    start.figures.recorded = files.record.figures();
+    start.note_record(&files.record);
     let mut follower = follower_of(rt.alloc(), serving, &login, session, joiner)?;
     session_of(&mut start, &mut follower)?;
     let desk = Desk::new(rt.alloc(), follower, serving.clients)?;
@@ -69,15 +69,27 @@ where
     R: Net + Clock + Files<File = File> + Eprint + AllocGlobal,
 {
     let alloc = log.runtime().alloc();
-    *paths = paths_of(alloc, serving, &session.unwrap_or(current_session()))?;
+    *paths = paths_of(alloc, serving, session.as_ref())?;
     let begun = open_files(log, serving, paths, session)?;
-    if serving.has_days()
-        && let (Some(session), Some(record)) = (session, &paths.record)
-    {
+    if serving.has_days() {
+        say_begun(log, &begun, paths);
+    }
+    Ok(begun)
+}
+
+// Says which session begins, and where it is recorded.
+fn say_begun<R: Clock + Eprint, B: OrderBook>(
+    log: &mut Log<'_, R>,
+    begun: &Begun<B>,
+    paths: &DayPaths,
+) {
+    let Some(session) = begun.session else {
+        return;
+    };
+    if let Some(record) = &paths.record {
         let record = record.as_str();
         log.say(&DayBegun { session, record });
     }
-    Ok(begun)
 }
 
 // Opens the files of the day whose session the feed names. The feed is followed in a connection of its own from then on.
@@ -188,9 +200,12 @@ where
 fn paths_of(
     alloc: Global,
     serving: &Serving<'_>,
-    session: &Alpha<10>,
+    session: Option<&Alpha<10>>,
 ) -> Result<DayPaths, AllocError> {
-    let stem = stem_of(alloc, session)?;
+    let stem = match session {
+        Some(session) => stem_of(alloc, session)?,
+        None => stem_of(alloc, &current_session())?,
+    };
     let stem = str::from_utf8(&stem).unwrap_or("");
     let record = match serving.place() {
         Some(RecordPlace::File(path)) => Some(String::from_str(alloc, path)?),

@@ -25,6 +25,18 @@ pub(super) struct Tomorrow {
     found_ms: u64,
 }
 
+// The session that was found, if it is another than the present one.
+fn another(found: Option<Alpha<10>>, present: Option<Alpha<10>>) -> Option<Alpha<10>> {
+    let (Some(session), Some(present)) = (found, present) else {
+        return None;
+    };
+    if is_another(&present, &session) {
+        Some(session)
+    } else {
+        None
+    }
+}
+
 impl<'r, 'a, R, B: OrderBook<Alloc = Global>> Server<'r, 'a, R, B>
 where
     R: Net + Clock + Files<File = File> + Eprint + AllocGlobal,
@@ -56,15 +68,15 @@ where
         }
         let found = scout.turn(&self.turns, now_ms);
         let present = self.desk.follower().session();
-        match (found, present) {
-            (Some(session), Some(present)) if is_another(&present, &session) => {
+        match another(found, present) {
+            Some(session) => {
                 self.has_caught_up = true;
                 self.tomorrow = Some(Tomorrow {
                     session,
                     found_ms: now_ms,
                 });
             }
-            _ => self.scout = Some(scout),
+            None => self.scout = Some(scout),
         }
     }
 

@@ -2,7 +2,7 @@
 
 use super::{READING_MS, Server};
 use itch_book::OrderBook;
-use itch_records::{LiveFault, RecordLoss, RecordPart, next_stop};
+use itch_records::{DayPaths, LiveFault, RecordLoss, RecordPart, next_stop};
 use itch_status::Tally;
 use std::alloc::Global;
 use std::fs::File;
@@ -82,14 +82,8 @@ where
         let latest = self.latest;
         let saved = match (&mut self.saver, self.desk.follower().market()) {
             (Some(saver), Some(market)) => {
-                let part = match &self.paths.record {
-                    Some(path) if self.record.path().is_some() => Some(RecordPart {
-                        path: path.as_str(),
-                        offset,
-                        latest,
-                    }),
-                    _ => None,
-                };
+                let is_recorded = self.record.path().is_some();
+                let part = part_of(&self.paths, is_recorded, offset, latest);
                 let recording = &mut self.record.recording;
                 saver.save(&mut self.log, market, next, now_ms, recording, part)
             }
@@ -141,5 +135,22 @@ where
             Ok(()) => Ok(()),
             Err(error) => self.lose_record(RecordLoss::System(error)),
         }
+    }
+}
+
+// The part of a day's record up to an offset, if it is recorded.
+fn part_of(
+    paths: &DayPaths,
+    is_recorded: bool,
+    offset: u64,
+    latest: Option<u64>,
+) -> Option<RecordPart<'_>> {
+    match &paths.record {
+        Some(path) if is_recorded => Some(RecordPart {
+            path: path.as_str(),
+            offset,
+            latest,
+        }),
+        _ => None,
     }
 }
