@@ -46,16 +46,33 @@ where
         Some(begun) => begun,
         None => open_found(&mut start, serving, &login, paths)?,
     };
+    begin(rt.alloc(), serving, users, &login, start, callers, begun)
+}
+
+// Waits until the session of the feed is known. What a server works on is open.
+fn begin<'r, 'a, R, B: OrderBook<Alloc = Global>>(
+    alloc: Global,
+    serving: &'a Serving<'a>,
+    users: Logins<'a>,
+    login: &Login,
+    start: Start<'r, 'a, R>,
+    callers: Callers,
+    begun: Begun<B>,
+) -> Result<Server<'r, 'a, R, B>, LiveFault>
+where
+    R: Net + Clock + Files<File = File> + Eprint + AllocGlobal,
+{
+    let mut start = start;
     let Begun {
         files,
         joiner,
         session,
     } = begun;
     start.note_record(&files.record);
-    let mut follower = follower_of(rt.alloc(), serving, &login, session, joiner)?;
+    let mut follower = follower_of(alloc, serving, login, session, joiner)?;
     session_of(&mut start, &mut follower)?;
-    let desk = Desk::new(rt.alloc(), follower, serving.clients)?;
-    Ok(server_of(rt.alloc(), serving, users, start, desk, callers, files)?)
+    let desk = Desk::new(alloc, follower, serving.clients)?;
+    Ok(server_of(alloc, serving, users, start, desk, callers, files)?)
 }
 
 /// Opens the files of a day, which is said where each session has its own.
