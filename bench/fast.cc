@@ -1,7 +1,7 @@
 // What a strong engineer would write without proofs, with speed as the only goal: the yardstick for `snap` and `check`. Not part of
 // the product. It checks every order rule, and reads and writes the same bytes.
 //
-// Orders are found through a table of pages that the reference indexes, nodes have 32 bytes and 32-bit links and stand in one
+// Orders are found through a table of pages that the reference indexes, nodes have 32 bytes and 32-bit links and are in one
 // reserved run of addresses, each side of a book is a sorted vector of levels, and messages are looked at ahead so that what they
 // touch is fetched into the cache.
 //
@@ -42,7 +42,7 @@ static void *arena(size_t bytes, bool huge = true) {
 }
 
 // Nodes of 32 bytes with 32-bit links in one reserved run of addresses. A price level is a node of the same kind, and the orders
-// of its queue form a ring through it: putting in and taking out have no branches. Node 0 stands for none.
+// of its queue form a ring through it: putting in and taking out have no branches. Node 0 means none.
 struct Node {
     u64 ref;                    // of a level: all shares
     u32 shares;                 // of a level: the number of orders
@@ -70,7 +70,7 @@ static u32 *seqs; static u32 seq_; static u32 live;
 #endif
 
 // The order table: pages of 512 references, four bytes for each; page 0 is empty for ever. An empty page is used again.
-// References from 2^38 on stand in a map.
+// References from 2^38 on are in a map.
 static const u32 PB = 9, PN = 1 << PB; static const u64 DIRECT = (u64)1 << 38;
 static u32 *dir_, *slots; static u16 *in_page; static u32 pages = 1; static std::vector<u32> free_pages; static std::unordered_map<u64, u32> *far_;
 INL u32 *slot_of(u64 ref) { ref = ref < DIRECT ? ref : 0; return slots + ((u64)dir_[ref >> PB] << PB | (ref & (PN - 1))); }
@@ -171,7 +171,7 @@ INL void remove(u32 n) { drop(nodes.at[n].ref); nodes.at[n].shares = 0; nodes.gi
 INL void lessen(u32 n, u32 take) { nodes.at[n].shares -= take; }
 #endif
 
-// Faults and refusals: the slow path, with the very words.
+// Faults and refusals: the slow path, with the same texts.
 static u64 number; // of the message at hand
 [[noreturn]] static void refuse(const char *why) { fprintf(stderr, "itchsnap: message %llu: %s\n", (unsigned long long)number, why); exit(1); }
 [[noreturn]] static void refuse(const char *form, unsigned a, unsigned b = 0, unsigned c = 0) { char t[80]; snprintf(t, 80, form, a, b, c); refuse(t); }
@@ -267,7 +267,7 @@ static void __attribute__((noinline)) refill() {
     memmove(buf, buf + pos, have - pos); have -= pos; pos = 0;
     while (!ended && have < 65537 + 4096) { ssize_t r = read(0, buf + have, PIECE - have); if (r < 0) { perror("itchsnap: read"); exit(3); } if (r == 0) ended = true; else have += r; }
 }
-// The stages of the look-ahead have no branches: they take each message for one with a reference at 11 and a side at 19. What
+// The stages of the look-ahead have no branches: they treat each message as one with a reference at 11 and a side at 19. What
 // they read wrongly is a line that is fetched in vain.
 INL void warm_slot(const u8 *p) { PF(slot_of(be64(p + 11)));
 #ifndef LAZY
@@ -293,7 +293,7 @@ static u64 day() {
     u32 off[AHEAD], len[AHEAD], guess[AHEAD] = {};
     for (u64 count = 0;;) {
         if (have - pos < AHEAD * 64 + 65537 && !ended) refill();
-        // frame up to AHEAD messages that are whole
+        // frame up to AHEAD complete messages
         u32 n = 0, q = pos;
         while (n < AHEAD) {
             if (UNLIKELY(have - q < 2)) break;

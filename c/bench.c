@@ -11,6 +11,7 @@
 #include <stdbool.h>
 #include <stdio.h>
 #include <stdlib.h>
+#include <string.h>
 #include <time.h>
 
 enum { REFUSALS = 10000000, LOOKUPS = 2 * 65536, WINDOW = 1000 };
@@ -69,6 +70,28 @@ static uint64_t decode_all(const uint8_t *day, size_t len) {
     return count;
 }
 
+/* How many messages have their fields written, one by one. */
+static uint64_t decode_fields(const uint8_t *day, size_t len) {
+    uint64_t count = 0;
+    itchsnap_message message;
+    block it;
+    for (size_t at = 0; block_at(day, len, at, &it); at = it.next) {
+        count += itchsnap_decode(it.payload, it.size, &message).code == ITCHSNAP_OK;
+    }
+    return count;
+}
+
+/* How many messages blocks have, of which those of some types are written as rows, many at a time. */
+static uint64_t decode_rows(const uint8_t *day, size_t len, const char *types) {
+    static itchsnap_row rows[4096];
+    static const uint16_t no_locates[1];
+    itchsnap_decoded done = {0, 0, 0, 0, ITCHSNAP_NO_ROOM};
+    for (size_t at = 0; done.code == ITCHSNAP_NO_ROOM; at += done.len) {
+        done = itchsnap_decode_blocks(day + at, len - at, done.count, (const uint8_t *)types, strlen(types), no_locates, 0, rows, 4096);
+    }
+    return done.count;
+}
+
 /* The price levels of all locates of the directory. */
 static uint64_t list_levels(itchsnap_handle *market) {
     static uint16_t locates[65536];
@@ -116,6 +139,18 @@ static void round_of(const uint8_t *day, size_t len) {
     begun = now();
     uint64_t decoded = decode_all(day, len);
     report("decode_fault of each", now() - begun, decoded);
+
+    begun = now();
+    decoded = decode_fields(day, len);
+    report("itchsnap_decode of each", now() - begun, decoded);
+
+    begun = now();
+    decoded = decode_rows(day, len, "A");
+    report("itchsnap_decode_blocks of A, a message", now() - begun, decoded);
+
+    begun = now();
+    decoded = decode_rows(day, len, "");
+    report("itchsnap_decode_blocks of none, a message", now() - begun, decoded);
 
     uint64_t found = 0;
     begun = now();

@@ -1,4 +1,4 @@
-/* demo.c: a day file's messages applied one by one to a market, its look-ups, its snapshot, a joiner and a session.
+/* demo.c: a day file's messages decoded, and applied one by one to a market, its look-ups, its snapshot, a joiner and a session.
  *
  *   demo DAY SNAPSHOT    writes the snapshot of the day file DAY to SNAPSHOT, and what it finds to standard output
  *
@@ -12,6 +12,9 @@
 
 /* In nanoseconds since midnight. */
 #define NOON (UINT64_C(12) * 3600 * 1000000000)
+
+/* A list of no locates. */
+static const uint16_t no_locates[1];
 
 /* Ends the program where something is not as it must be. */
 static void must(bool holds, const char *what) {
@@ -81,12 +84,45 @@ static uint64_t apply_all(itchsnap_handle *market, buffer day) {
         must(itchsnap_decode_fault(message.bytes, message.len).code == ITCHSNAP_OK, "a payload is no message");
         itchsnap_answer answer = itchsnap_market_apply(market, message.bytes, message.len);
         if (answer.code != ITCHSNAP_OK) {
-            printf("message %" PRIu64 ": code %" PRIu32 ", detail %" PRIu64 "\n", count + 1, answer.code, answer.detail);
+            char text[ITCHSNAP_REASON_LEN];
+            must(itchsnap_reason_text(answer.code, text, sizeof text).code == ITCHSNAP_OK, "the text of a code");
+            printf("message %" PRIu64 ": %s, detail %" PRIu64 "\n", count + 1, text, answer.detail);
             exit(1);
         }
         count++;
     }
     return count;
+}
+
+/* Each message of a day file by its fields, and the same messages as rows, three at a time: those of all types, and those of new orders. */
+static void decode_all(buffer day, uint64_t count) {
+    const uint8_t types[] = "AF";
+    uint64_t orders = 0, number = 0;
+    itchsnap_row rows[3];
+    itchsnap_decoded done = {0, 0, 0, 0, ITCHSNAP_NO_ROOM};
+    size_t at = 0, passed = 0;
+    payload message;
+    while (next_payload(day, &at, &message)) {
+        itchsnap_message fields;
+        must(itchsnap_decode(message.bytes, message.len, &fields).code == ITCHSNAP_OK, "the fields of a message");
+        must(fields.message_type == message.bytes[0], "the type of a message");
+        number++;
+        if (fields.message_type != 'A' && fields.message_type != 'F') {
+            continue;
+        }
+        if (orders % 3 == 0) {
+            must(done.code == ITCHSNAP_NO_ROOM, "rows that are not the last");
+            passed += done.len;
+            done = itchsnap_decode_blocks(day.bytes + passed, day.len - passed, done.count, types, 2, no_locates, 0, rows, 3);
+        }
+        const itchsnap_row *row = &rows[orders++ % 3];
+        must(row->number == number && row->timestamp == fields.timestamp, "the number and the timestamp of a row");
+        must(passed + row->offset + message.len == at, "the place of a row");
+        must(memcmp(row->payload, message.bytes, message.len) == 0, "the payload of a row");
+    }
+    must(done.code == ITCHSNAP_OK || orders == 0, "the last row");
+    done = itchsnap_decode_blocks(day.bytes, day.len, 0, types, 0, no_locates, 0, rows, 0);
+    must(done.code == ITCHSNAP_OK && done.count == count && done.rows == 0, "the number of messages");
 }
 
 /* The snapshot of the market of a handle: the length first, and then the bytes. */
@@ -341,6 +377,7 @@ int main(int argc, char **argv) {
     for (uint16_t locate = 0; locate < 100; locate++) {
         print_book(&market, locate);
     }
+    decode_all(day, count);
     buffer snapshot = snapshot_of(&market, count + 1);
     apply_blocks(day, count, snapshot);
     whole_file(day, count, snapshot);

@@ -66,7 +66,7 @@ enum itchsnap_code {
 
     /* A call is refused. */
     ITCHSNAP_OUT_OF_MEMORY = 48,
-    ITCHSNAP_NO_ROOM = 49,      /* the caller's memory is too short, and is as it was; len: the bytes that are needed */
+    ITCHSNAP_NO_ROOM = 49,      /* the caller's memory is too short, and is as it was; len: what is needed. Rows: it is full */
     ITCHSNAP_WRONG_HANDLE = 50, /* the handle does not hold what the call is about */
     ITCHSNAP_IN_USE = 51,       /* the handle that a call would fill already holds something */
     ITCHSNAP_ABSENT = 52,       /* no such order, price, stock or message */
@@ -113,10 +113,102 @@ typedef struct {
     uint32_t code;
 } itchsnap_answer;
 
+/* What was written into the caller's memory. */
+typedef struct {
+    size_t len; /* OK and NO_ROOM: the bytes of the snapshot or the text, or the items of the list */
+    uint32_t code;
+} itchsnap_written;
+
+/* Writes the text of a code, such as "stock mismatch", and a zero byte after it to the front of out; len counts that byte too. No text
+ * has more than ITCHSNAP_REASON_LEN bytes. Codes: OK, or the first that fits of ABSENT (there is no such code), NO_ROOM. */
+itchsnap_written itchsnap_reason_text(uint32_t code, char *out, size_t len);
+
+#define ITCHSNAP_REASON_LEN 32u
+
 /* Messages ------------------------------------------------------------- */
 
 /* Whether a payload spells a message, and if not, its first fault: codes 0 to 5. */
 itchsnap_answer itchsnap_decode_fault(const uint8_t *payload, size_t len);
+
+/* The fields of a message, by the names of the standard. Those that its type does not have are 0. Prices have four implied decimals.
+ * Texts are padded with spaces. A code field has the byte of the message. */
+typedef struct {
+    uint64_t timestamp; /* in nanoseconds since midnight */
+    uint64_t order_reference_number;
+    uint64_t original_order_reference_number;
+    uint64_t new_order_reference_number;
+    uint64_t match_number;
+    uint64_t shares;
+    uint64_t sequence_number; /* End of Snapshot: the number of the first message that the snapshot does not contain */
+    uint32_t executed_shares;
+    uint32_t cancelled_shares;
+    uint32_t price;
+    uint32_t execution_price;
+    uint32_t cross_price;
+    uint32_t round_lot_size;
+    uint32_t etp_leverage_factor;
+    uint16_t stock_locate;
+    uint16_t tracking_number;
+    uint8_t stock[8];
+    uint8_t mpid[4];
+    uint8_t attribution[4];
+    uint8_t reason[4];
+    uint8_t issue_sub_type[2];
+    uint8_t message_type; /* the first byte of the payload */
+    uint8_t buy_sell_indicator;
+    uint8_t printable;
+    uint8_t cross_type;
+    uint8_t event_code;
+    uint8_t market_category;
+    uint8_t financial_status_indicator;
+    uint8_t round_lots_only;
+    uint8_t issue_classification;
+    uint8_t authenticity;
+    uint8_t short_sale_threshold_indicator;
+    uint8_t ipo_flag;
+    uint8_t luld_reference_price_tier;
+    uint8_t etp_flag;
+    uint8_t inverse_indicator;
+    uint8_t trading_state;
+    uint8_t reserved;
+    uint8_t reg_sho_action;
+    uint8_t market_code;
+    uint8_t operational_halt_action;
+    uint8_t primary_market_maker;
+    uint8_t market_maker_mode;
+    uint8_t market_participant_state;
+} itchsnap_message;
+
+/* Writes the fields of the message that a payload spells to out; if it spells none, out is as it was. A type that is not one of S R H Y h
+ * L A F E C X D U P Q B and G is not decoded: of such a message there is the type alone. Codes: 0 to 5. */
+itchsnap_answer itchsnap_decode(const uint8_t *payload, size_t len, itchsnap_message *out);
+
+/* A message of blocks. */
+typedef struct {
+    uint64_t number;    /* its number, counted from 1 */
+    uint64_t offset;    /* where its payload begins in the blocks; the two bytes before have its length */
+    uint64_t timestamp; /* in nanoseconds since midnight; 0 if it has no header, or is not decoded */
+    uint8_t payload[48]; /* its first bytes, with zeros after the last; only a message that is not decoded may be longer */
+} itchsnap_row;
+
+typedef struct {
+    uint64_t count; /* the number of the last message that was passed */
+    size_t rows;    /* the rows that were written */
+    size_t len;     /* the bytes of the blocks that were passed */
+    uint64_t detail;
+    uint32_t code;
+} itchsnap_decoded;
+
+/* Writes the messages of blocks, as a day file has them, side by side to the front of out: those of the listed types, such as "AF", and,
+ * if locates are listed, only those at one of them. No order rule is applied. before is the number of the last message before the blocks.
+ *
+ * OK: the bytes end after a block, or at an empty one. NO_ROOM: the message after those that were passed is wanted, and out is full: call
+ * again with the blocks from len on, and with count as before. TRUNCATED: the bytes end within a block, detail being its bytes that are
+ * there; in a piece of a day file these are the beginning of the next piece. 1 to 5: the message after those that were passed is of a
+ * listed type, and spells none. Others are not looked into; without a type in the list, the messages are counted. Codes: 0 to 5,
+ * TRUNCATED, TOO_MANY_MESSAGES, NO_ROOM, OUT_OF_MEMORY (then nothing was passed). */
+itchsnap_decoded itchsnap_decode_blocks(const uint8_t *blocks, size_t len, uint64_t before, const uint8_t *types, size_t types_len,
+                                        const uint16_t *locates, size_t locates_len, itchsnap_row *out, size_t out_len);
 
 /* Handles -------------------------------------------------------------- */
 
@@ -207,11 +299,6 @@ typedef struct {
 
 /* The number of live orders. Codes: OK. */
 itchsnap_count itchsnap_order_count(itchsnap_handle *handle);
-
-typedef struct {
-    size_t len; /* OK and NO_ROOM: the bytes of the snapshot, or the items of the list */
-    uint32_t code;
-} itchsnap_written;
 
 /* Lists: each is written to the front of out, which has room for len items; a call with length 0 returns their number. Codes: OK,
  * or the first that fits of OUT_OF_MEMORY, NO_ROOM. */

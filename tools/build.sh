@@ -1,6 +1,6 @@
 # Proves and builds the program and the C library from the sources that are here. For scripts that have read tools/release.sh.
 
-# Says on standard error how long proving may take: what it took the last time on this machine, if that is known.
+# Reports on standard error how long proving may take: the last time on this machine, if that is known.
 say_how_long() {
     local seconds
     if read -r seconds 2>/dev/null <"$(dirname "$built")/seconds"; then
@@ -10,7 +10,7 @@ say_how_long() {
     fi
 }
 
-# Runs a command quietly, and shows what it wrote where it fails.
+# Runs a command quietly, and shows its output if it fails.
 quietly() {
     local log status=0
     log=$(mktemp)

@@ -27,7 +27,7 @@ sums() {
     (cd "$room/$package" && find usr -type f -print0 | sort -z | xargs -0 md5sum)
 }
 
-# The size of a package as dpkg counts it, which is the same on each file system: whole kilobytes of each file, and one of anything else.
+# The size of a package as dpkg counts it, which is the same on each file system: each file in kilobytes, rounded up, and one for anything else.
 kilobytes() {
     find "$room/$package/usr" -printf '%y %s\n' | awk '{ sum += $1 == "f" ? int(($2 + 1023) / 1024) : 1 } END { print sum }'
 }
@@ -47,7 +47,7 @@ control() {
     echo "Description: $3"
 }
 
-# Ends a package: what every one has, and its archive.
+# Ends a package: the files that every package has, and its archive.
 finish() {
     local doc=share/doc/$package
     put 644 "$doc/copyright" cat "$top/LICENSE"
@@ -62,7 +62,7 @@ pack_program() {
     begin itchsnap
     lay_program
     gzip -9n "$prefix/share/man/man1/itchsnap.1"
-    prefix=$prefix/share/doc/itchsnap/examples units= lay_units
+    lay_service
     put 644 share/lintian/overrides/itchsnap echo "itchsnap: unstripped-binary-or-object [usr/bin/itchsnap]"
     finish net "libc6 (>= 2.34)" "market snapshots for Nasdaq TotalView-ITCH 5.0
  itchsnap turns a day file of an ITCH feed into the messages that rebuild the

@@ -4,10 +4,10 @@
 # Below the folder: where the libraries go, and the zsh completions.
 lib=lib
 zsh=share/zsh/site-functions
-# What the pkg-config file names as the folder: what is packed below one folder is installed below another.
+# The folder in the pkg-config file: packages are made below one folder and installed below another.
 home=
 
-# Writes what a command prints to a place below the folder, by way of a new file beside it, so that a program that runs is not written to.
+# Writes what a command prints to a place below the folder, through a new file next to it, so that a running program is not written to.
 put() {
     local mode=$1 to=$prefix/$2
     shift 2
@@ -28,7 +28,7 @@ put_link() {
     placed "$to"
 }
 
-# What is done with the name of a file that was put in its place: nothing, where the script says nothing else.
+# Called with the name of each installed file: by default it does nothing.
 placed() {
     :
 }
@@ -52,7 +52,7 @@ lay_shared() {
     put 644 "$lib/libitchsnap.so.0" cat "$libraries/libitchsnap.so"
 }
 
-# What programs are compiled with: the header, the static library, and what pkg-config and CMake read.
+# The files to compile programs with: the header, the static library, and the files of pkg-config and CMake.
 lay_development() {
     put 644 include/itchsnap.h cat "$top/c/itchsnap.h"
     put 644 "$lib/libitchsnap.a" cat "$libraries/libitchsnap.a"
@@ -62,10 +62,13 @@ lay_development() {
     put 644 "$lib/cmake/itchsnap/itchsnap-config-version.cmake" filled "$top/c/itchsnap-config-version.cmake.in"
 }
 
-# The systemd units of deploy/, where there are any, below a folder that may be another than that of systemd.
-lay_units() {
+# The page for operators and the files of deploy/: the unit and its user, which systemd finds below /usr and /usr/local, and the others as examples.
+lay_service() {
     local it
-    for it in "$top"/deploy/*.service; do
-        [ ! -e "$it" ] || put 644 "${units-lib/systemd/system/}${it##*/}" cat "$it"
+    put 644 "lib/systemd/system/itchsnap-live@.service" cat "$top/deploy/itchsnap-live@.service"
+    put 644 lib/sysusers.d/itchsnap.conf cat "$top/deploy/itchsnap.sysusers"
+    put 644 share/doc/itchsnap/OPERATING.md cat "$top/docs/OPERATING.md"
+    for it in itchsnap-live.env itchsnap.rules.yml prometheus.yml; do
+        put 644 "share/doc/itchsnap/examples/$it" cat "$top/deploy/$it"
     done
 }

@@ -1,4 +1,4 @@
-# What the released program and the sources say of each other. For scripts of this repository, which set `top` and read this file:
+# Compares the released program with the sources. For scripts of this repository, which set `top` and read this file:
 #   top=$(dirname "$(readlink -f "${BASH_SOURCE[0]}")"); . "$top/tools/release.sh"
 
 released_files=(itchsnap libitchsnap.a libitchsnap.so)
@@ -8,7 +8,7 @@ built=$top/crates/itch_tool/out/itch_tool
 # The text that a build has where a released program has `release` and the beginning of its sources' hash. Both are as long.
 unreleased="not a released build"
 
-# Sets `crates` to a crate and those of the repository that it stands on, lowest first: crates.txt has each after those.
+# Sets `crates` to a crate and those of the repository that it depends on, lowest first, as in crates.txt.
 find_crates() {
     local lines at line name it
     local -A needed=(["$1"]=yes)

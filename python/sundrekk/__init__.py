@@ -13,7 +13,11 @@ Day files, snapshots, payloads and packets are any buffers of bytes, such as `by
 Prices are integers of a ten-thousandth of a dollar; times of the day are nanoseconds since midnight; moments of sessions are
 milliseconds. What is refused raises `Refused`, which has the `Reason`.
 """
+from . import kinds
+from .columns import Columns
 from .days import Day
+from .executions import Execution
+from .following import follow
 from .joiners import Joiner, Step
 from .markets import Applied, Market
 from .messages import fault_of, payloads
@@ -24,5 +28,5 @@ from .tables import Level, Levels, Order, Orders
 from .times import nanoseconds
 
 __version__ = "0.1.0"
-__all__ = ["Applied", "ClientSession", "Day", "Event", "Joiner", "Level", "Levels", "Market", "Order", "Orders", "Reason",
-           "Received", "Refused", "ServerSession", "Snapshot", "Step", "fault_of", "nanoseconds", "payloads"]
+__all__ = ["Applied", "ClientSession", "Columns", "Day", "Event", "Execution", "Joiner", "Level", "Levels", "Market", "Order", "Orders", "Reason",
+           "Received", "Refused", "ServerSession", "Snapshot", "Step", "fault_of", "follow", "kinds", "nanoseconds", "payloads"]

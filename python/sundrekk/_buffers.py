@@ -1,4 +1,4 @@
-"""Memory that goes to the library, and numbers that fit."""
+"""Memory to pass to the library, and numbers that fit."""
 from __future__ import annotations
 
 import array
@@ -11,12 +11,12 @@ from typing import TYPE_CHECKING, Any, Iterable, Iterator, Tuple
 if TYPE_CHECKING:
     from _typeshed import ReadableBuffer
 
-# Pages that are there once they are written to, however much is asked for. Python has the name from 3.13 on.
+# Pages that are allocated when they are written to, however many are requested. Python has the name from 3.13 on.
 NO_RESERVE = getattr(mmap, "MAP_NORESERVE", 0x4000)
 
 
 class View(c.Structure):
-    """What Python tells of an object's bytes (Py_buffer)."""
+    """Python's description of an object's bytes (Py_buffer)."""
 
     _fields_ = [("buf", c.c_void_p), ("obj", c.c_void_p), ("len", c.c_ssize_t), ("itemsize", c.c_ssize_t), ("readonly", c.c_int),
                 ("ndim", c.c_int), ("format", c.c_char_p), ("shape", c.c_void_p), ("strides", c.c_void_p), ("suboffsets", c.c_void_p),
@@ -32,8 +32,8 @@ NOWHERE = c.addressof(_nothing)
 
 @contextlib.contextmanager
 def bytes_of(data: ReadableBuffer) -> Iterator[Tuple[int, int]]:
-    """The address and the length of a buffer's bytes, which stay where they are meanwhile. Raises TypeError for what is no buffer,
-    and BufferError for one whose bytes do not lie side by side."""
+    """The address and the length of a buffer's bytes, which stay in place meanwhile. Raises TypeError if it is not a buffer, and
+    BufferError if its bytes are not contiguous."""
     view = View()
     _get(data, view, 0)
     try:
@@ -44,13 +44,13 @@ def bytes_of(data: ReadableBuffer) -> Iterator[Tuple[int, int]]:
 
 @contextlib.contextmanager
 def room_for(size: int) -> Iterator[mmap.mmap]:
-    """So many bytes to write to, of which those that stay unwritten take no memory."""
+    """This many bytes to write to; those that stay unwritten take no memory."""
     with mmap.mmap(-1, size, flags=mmap.MAP_PRIVATE | mmap.MAP_ANONYMOUS | NO_RESERVE) as room:
         yield room
 
 
 def number(value: int, bits: int, what: str) -> int:
-    """A number that has room in so many bits. ctypes would cut it to them, and a truth value is a mistake."""
+    """A number that fits into this many bits. ctypes would truncate it, and a truth value is a mistake."""
     if isinstance(value, bool):
         raise TypeError(f"{what} is a number, and not {value}")
     value = operator.index(value)

@@ -1,4 +1,4 @@
-"""What the library keeps for Python."""
+"""Objects that the library keeps for Python."""
 from __future__ import annotations
 
 import threading
@@ -13,7 +13,7 @@ Self = TypeVar("Self", bound="Held")
 
 
 class Held:
-    """What the library holds until it is closed. It stays on the thread that made it, and is not copied."""
+    """An object in the library, until it is closed. It stays on the thread that made it, and is not copied."""
 
     def __init__(self) -> None:
         self._handle = _library.Handle()
@@ -27,7 +27,7 @@ class Held:
         return self._handle
 
     def close(self) -> None:
-        """Gives its memory back. After that each call raises `Refused` with `Reason.WRONG_HANDLE`; to close again does nothing."""
+        """Frees its memory. After that each call raises `Refused` with `Reason.WRONG_HANDLE`; closing it again does nothing."""
         library.free(self._own)
 
     def __enter__(self: Self) -> Self:

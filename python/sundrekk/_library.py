@@ -7,7 +7,7 @@ from types import SimpleNamespace
 
 INTERFACE = 1
 OK, TRUNCATED, NO_ROOM, WRONG_HANDLE, ABSENT = 0, 32, 49, 50, 52
-# What `snap` takes for all messages, and for any time.
+# The values for `snap` that mean all messages, and any time.
 ALL = 2**64 - 1
 
 
@@ -17,6 +17,14 @@ class Handle(c.Structure):
 
 class Answer(c.Structure):
     _fields_ = [("detail", c.c_uint64), ("code", c.c_uint32)]
+
+
+class Row(c.Structure):
+    _fields_ = [("number", c.c_uint64), ("offset", c.c_uint64), ("timestamp", c.c_uint64), ("payload", c.c_uint8 * 48)]
+
+
+class Decoded(c.Structure):
+    _fields_ = [("count", c.c_uint64), ("rows", c.c_size_t), ("len", c.c_size_t), ("detail", c.c_uint64), ("code", c.c_uint32)]
 
 
 class Loaded(c.Structure):
@@ -84,13 +92,14 @@ class AcceptancePacket(c.Structure):
     _fields_ = [("bytes", c.c_uint8 * 31), ("code", c.c_uint32)]
 
 
-# A pointer is an address: so what is listed may be written into the middle of an array.
+# A pointer is an address, so a list can be written into the middle of an array.
 HANDLE, MEMORY, LOCATES = c.POINTER(Handle), [c.c_void_p, c.c_size_t], [c.POINTER(c.c_uint16), c.c_size_t]
 
 # Each function's result and arguments.
 FUNCTIONS = {
     "version": (c.c_uint32, []),
     "decode_fault": (Answer, MEMORY),
+    "decode_blocks": (Decoded, [*MEMORY, c.c_uint64, c.c_char_p, c.c_size_t, *LOCATES, *MEMORY]),
     "free": (None, [HANDLE]),
     "market_new": (Answer, [HANDLE]),
     "market_load": (Loaded, [HANDLE, *MEMORY]),
@@ -132,7 +141,7 @@ FUNCTIONS = {
 
 
 def _loaded(path: Path) -> SimpleNamespace:
-    """Each function of `FUNCTIONS`. A call gives the interpreter's lock away until it returns."""
+    """Each function of `FUNCTIONS`. A call releases the interpreter's lock until it returns."""
     shared, found = c.CDLL(str(path)), SimpleNamespace()
     for name, (result, arguments) in FUNCTIONS.items():
         function = getattr(shared, f"itchsnap_{name}")

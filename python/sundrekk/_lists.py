@@ -1,17 +1,17 @@
-"""What the market of a handle has, written into memory of Python."""
+"""The contents of a handle's market, written into Python's memory."""
 from __future__ import annotations
 
 import ctypes as c
-from typing import Any, Callable, Dict, Iterable, List, Optional, Tuple
+from typing import Any, Callable, Dict, Iterable, List, Mapping, Optional, Tuple
 
 from . import _buffers, _library
 from ._handles import done, found
 from ._library import library
-from .tables import SIDES, Levels, Orders, Part
+from .tables import SIDES, Levels, Orders, Part, Stock
 
 
 def locates(handle: _library.Handle) -> List[int]:
-    """The locates of the directory, rising."""
+    """The locates of the directory, in ascending order."""
     out = (c.c_uint16 * (1 << 16))()
     return out[:done(library.locates(handle, out, len(out))).len]
 
@@ -25,6 +25,24 @@ def stock(handle: _library.Handle, locate: int) -> Optional[str]:
 def stocks(handle: _library.Handle) -> Dict[int, str]:
     """The stock of each locate in the directory."""
     return {locate: stock(handle, locate) or "" for locate in locates(handle)}
+
+
+def places(directory: Mapping[int, str]) -> Dict[str, List[int]]:
+    """The locates of each stock of a directory."""
+    found: Dict[str, List[int]] = {}
+    for locate, name in directory.items():
+        found.setdefault(name, []).append(locate)
+    return found
+
+
+def locate_in(directory: Mapping[str, List[int]], stock: Stock) -> int:
+    """The locate that is given, or the one that has the stock of this name."""
+    if not isinstance(stock, str):
+        return _buffers.locate_of(stock)
+    having = directory.get(stock, [])
+    if len(having) != 1:
+        raise ValueError(f"the directory has no stock {stock!r}" if not having else f"the locates {having} have the stock {stock!r}")
+    return having[0]
 
 
 def orders(handle: _library.Handle, locate: Optional[int]) -> Orders:
@@ -56,7 +74,7 @@ def snapshot(handle: _library.Handle, next_number: int, only: Optional[Iterable[
 
 
 def written(call: Callable[[int, int], Any], room: int) -> bytes:
-    """The bytes that a call writes, which is given an address and a length: in one call where the room is enough."""
+    """The bytes that a call writes to the address and length that it is given: in one call if there is enough room."""
     while True:
         with _buffers.room_for(room) as out, _buffers.bytes_of(out) as (at, size):
             answer = call(at, size)

@@ -1,18 +1,26 @@
 """Day files."""
 from __future__ import annotations
 
+import datetime
 import mmap
 import os
 import stat
 from types import TracebackType
-from typing import TYPE_CHECKING, Iterable, Iterator, Optional, Tuple, Type, Union
+from typing import TYPE_CHECKING, Callable, Iterable, Iterator, Optional, Tuple, Type, Union
 
-from . import _buffers, _library, _lists
+from . import _buffers, _library, _lists, reading
 from ._buffers import bytes_of
 from ._library import library
+from .books import books
+from .columns import Columns, columns_of
+from .executions import Execution, executions
+from .kinds import LAYOUTS, Message
+from .packed import is_packed, unpacked
+from .reading import Range, Stocks
 from .reasons import Refused
 from .snapshots import END_BLOCK, Snapshot
-from .times import Time, first_at, nanoseconds
+from .tables import Levels, Stock
+from .times import Time, distance, first_at, nanoseconds
 
 if TYPE_CHECKING:
     from _typeshed import ReadableBuffer
@@ -24,29 +32,36 @@ class Day:
         with Day("day.itch") as day:
             noon = day.snapshot(until="12:00")
 
-    A file is mapped and not copied: its pages are the system's cache, and a file of any size takes no memory but that of its market and
-    its snapshot. It must not be cut shorter meanwhile. A pipe is read into memory. Calls on a day may be made from any thread, and run
-    side by side.
+    A file is mapped, not copied: its pages are in the system's cache, and a file of any size needs only the memory of its market
+    and its snapshot. It must not be shortened meanwhile. A pipe is read into memory, and so is a file that gzip, bzip2, xz or
+    zstd compressed. Calls on a day may be made from any thread, and run side by side. A day may be pickled: one of a file is
+    opened again by its path.
     """
 
     def __init__(self, path: Union[str, os.PathLike[str]]) -> None:
+        self._path: Optional[str] = None
         with open(path, "rb") as file:
             status = os.fstat(file.fileno())
             if stat.S_ISREG(status.st_mode) and status.st_size:
-                self._view: Optional[memoryview] = memoryview(mmap.mmap(file.fileno(), 0, access=mmap.ACCESS_READ))
+                self._path = os.path.abspath(os.fsdecode(path))
+                view = memoryview(mmap.mmap(file.fileno(), 0, access=mmap.ACCESS_READ))
             else:
-                self._view = memoryview(file.read())
+                view = memoryview(file.read())
+        self._view: Optional[memoryview] = memoryview(unpacked(bytes(view))) if is_packed(bytes(view[:8])) else view
 
     @classmethod
     def of(cls, data: ReadableBuffer) -> Day:
         """A day whose bytes are in memory, in any buffer. They are not copied."""
         day = cls.__new__(cls)
-        day._view = memoryview(data).cast("B")
+        day._path, day._view = None, memoryview(data).cast("B")
         return day
+
+    def __reduce__(self) -> Tuple[Callable[..., Day], Tuple[Union[str, bytes]]]:
+        return (Day.of, (bytes(self.blocks),)) if self._path is None or self._view is None else (Day, (self._path,))
 
     @property
     def blocks(self) -> memoryview:
-        """The bytes of the file, of which slices are no copies."""
+        """The bytes of the file; slices are not copies."""
         if self._view is None:
             raise ValueError("the day is closed")
         return self._view
@@ -60,17 +75,20 @@ class Day:
             raise Refused(outcome.code, outcome.detail, outcome.count + 1)
         return outcome.count
 
-    def snapshot(self, *, after: Optional[int] = None, until: Optional[Time] = None, only: Optional[Iterable[int]] = None) -> Snapshot:
+    def snapshot(self, *, after: Optional[int] = None, until: Optional[Time] = None, only: Optional[Iterable[Stock]] = None) -> Snapshot:
         """The snapshot after the messages of the file.
 
-        after: after so many of them. Fewer are refused as `Reason.SHORT`.
+        after: after this many of them. Fewer are refused as `Reason.SHORT`.
         until: after those before the first whose timestamp is that time or later: nanoseconds since midnight, a text such as '10:30' or
             '10:30:00.000000001', or a `datetime.time`. With `after` too, whichever comes first.
-        only: cut down to these locates. Still every message has to follow the order rules.
+        only: cut down to these locates, or stocks by their names. Every message must still follow the order rules.
 
         The file is read once. For many times of a day, a market that takes its `pieces` is faster.
         """
-        some = None if only is None else _buffers.locates_of(only)
+        stocks = None if only is None else list(only)
+        if stocks is not None and any(isinstance(stock, str) for stock in stocks):
+            return self.snapshot(after=after, until=until).only(stocks)
+        some = None if stocks is None else _buffers.locates_of(stocks)
         # No file has as many messages as 2^64 - 1, which would mean all.
         most = _library.ALL if after is None else min(_buffers.number(after, 64, "a number of messages"), _library.ALL - 1)
         end = _library.ALL if until is None else nanoseconds(until)
@@ -84,14 +102,15 @@ class Day:
                 raise Refused(outcome.code, outcome.detail, outcome.count + 1)
             return outcome
 
-        # What a snapshot has comes each from a message of the day that is no shorter, so there is room, and the blocks are read once.
+        # Each message of a snapshot comes from one of the day that is not shorter, so there is room, and the blocks are read once.
         with bytes_of(self.blocks) as day:
             return Snapshot._canonical(_lists.written(call, day[1] + END_BLOCK))
 
     def pieces(self, times: Iterable[Time]) -> Iterator[Tuple[int, memoryview]]:
-        """The day cut at times that rise, for `Market.apply_blocks`: for each time, in nanoseconds since midnight, the blocks before the
-        first message at that time or later that are in no piece before. What follows the last time is in no piece. Takes one pass of about
-        25 ns a message: timestamps need not rise, so each one up to the last time is looked at."""
+        """The day cut at ascending times, for `Market.apply_blocks`: for each time, in nanoseconds since midnight, the blocks
+        before the first message at that time or later that are in no earlier piece. The messages after the last time are in no
+        piece. Takes one pass of about 25 ns per message: timestamps need not be in order, so each one up to the last time is
+        examined."""
         at, before = 0, 0
         for time in map(nanoseconds, times):
             if time < before:
@@ -101,9 +120,52 @@ class Day:
             yield time, self.blocks[at:end]
             at, before = end, time
 
+    def messages(self, *, types: Optional[Iterable[str]] = None, stock: Union[Stock, Iterable[Stock], None] = None, since: Optional[Time] = None,
+                 until: Optional[Time] = None) -> Iterator[Message]:
+        """The messages, one by one, as the named tuples of `sundrekk.kinds`. No order rule is applied.
+
+        types: those of these types, such as 'AF'.
+        stock: those of a stock, by its name or its locate, or of several. A name is that of the last Stock Directory message at a locate.
+        since: from the first one on whose timestamp is that time or later.
+        until: those before the first one whose timestamp is that time or later.
+
+        Raises `Refused` at a payload of one of the types that is no message. Other types are looked at no further than it takes.
+        """
+        return reading.messages(self.blocks, None if types is None else reading.types_of(types), _stocks(stock), Range.of(since, until))
+
+    def columns(self, type: str, *, stock: Union[Stock, Iterable[Stock], None] = None, since: Optional[Time] = None,
+                until: Optional[Time] = None) -> Columns:
+        """The messages of one type, such as 'A', as columns for numpy, Arrow and what reads it. `stock`, `since` and `until` are as in `messages`, and so
+        is what is refused.
+
+        type: one of S R H Y h L A F E C X D U P Q B.
+        """
+        if type not in LAYOUTS:
+            raise ValueError(f"a type with columns is one of {' '.join(LAYOUTS)}, and not {type!r}")
+        pieces = reading.pieces(self.blocks, type.encode(), _stocks(stock), Range.of(since, until))
+        return columns_of(type, pieces, len(self.blocks))
+
+    def executions(self, *, stock: Union[Stock, Iterable[Stock], None] = None, since: Optional[Time] = None,
+                   until: Optional[Time] = None) -> Iterator[Execution]:
+        """The executions of live orders, with the stock, the side and the price of the order. `stock`, `since` and `until` are as in `messages`.
+        Every message up to the end must follow the order rules."""
+        return executions(self.blocks, _stocks(stock), Range.of(since, until))
+
+    def book(self, every: Union[str, int, datetime.timedelta], *, stock: Optional[Stock] = None, since: Optional[Time] = None,
+             until: Optional[Time] = None) -> Iterator[Tuple[int, Levels]]:
+        """The price levels at regular intervals: each time, in nanoseconds since midnight, with the levels after the messages
+        before the first one at that time or later.
+
+        every: the interval: a text such as '30s', '1m' or '1h', a `datetime.timedelta`, or nanoseconds.
+        stock: the levels of a stock, by its name or its locate, and of no other.
+        since: the first time; without it, the first multiple of the interval after the first timestamp.
+        until: the last time at most; without it, the first one after which no message comes.
+        """
+        return books(self.blocks, distance(every), stock, Range.of(since, until))
+
     def compare(self, other: Day) -> Optional[int]:
-        """None if both days leave the same market, and otherwise the place, counted from 1, of the first message in which the snapshots of
-        the two markets differ. Raises `Refused` with the file that is refused, 1 for this one or 2."""
+        """None if both days lead to the same market, and otherwise the place, counted from 1, of the first message in which the
+        snapshots of the two markets differ. Raises `Refused` with the file that is refused, 1 for this one or 2."""
         with bytes_of(self.blocks) as first, bytes_of(other.blocks) as second:
             compared = library.compare(*first, *second)
         if compared.code != _library.OK:
@@ -111,8 +173,8 @@ class Day:
         return compared.place or None
 
     def close(self) -> None:
-        """Lets go of the file. Its mapping ends with the last piece of it that is in use. After that each call raises ValueError; to
-        close again does nothing."""
+        """Releases the file. Its mapping ends with the last piece of it that is in use. After that each call raises ValueError;
+        closing it again does nothing."""
         self._view = None
 
     def __enter__(self) -> Day:
@@ -121,3 +183,6 @@ class Day:
     def __exit__(self, kind: Optional[Type[BaseException]], error: Optional[BaseException], trace: Optional[TracebackType]) -> None:
         self.close()
 
+
+def _stocks(stock: Union[Stock, Iterable[Stock], None]) -> Optional[Stocks]:
+    return None if stock is None else Stocks(stock)

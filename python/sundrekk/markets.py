@@ -10,47 +10,52 @@ from ._library import library
 from .messages import is_ended
 from .reasons import Refused
 from .snapshots import Snapshot, load
-from .tables import SIDES, Level, Levels, Order, Orders
+from .tables import SIDES, Level, Levels, Order, Orders, Stock
 
 if TYPE_CHECKING:
     from _typeshed import ReadableBuffer
 
 
 class Applied(NamedTuple):
-    """What was taken of a piece of a day file: so many messages, and so many bytes of an unfinished block at its end are left."""
+    """The result of applying a piece of a day file: the number of its messages, and of the bytes of an unfinished block at its end."""
 
     messages: int
     unfinished: int
 
 
 class Lookups(Held):
-    """What can be asked of a market. Prices are in ten-thousandths of a dollar; a side is 'B' for bids or 'S' for asks."""
+    """Look-ups in a market. Prices are in ten-thousandths of a dollar; a side is 'B' for bids or 'S' for asks. A locate may be
+    given by the name of its stock; a name that the directory lacks, or has at several locates, raises ValueError."""
+
+    # The locates of each stock when the directory had this many entries. It only grows, and an entry keeps its stock.
+    _places: Dict[str, List[int]] = {}
+    _entries = 0
 
     @property
     def next_number(self) -> int:
         """The number of the next message of the feed, counted from 1."""
         raise NotImplementedError
 
-    def best(self, locate: int, side: str) -> Optional[Order]:
+    def best(self, locate: Stock, side: str) -> Optional[Order]:
         """The order that has priority at a locate and side, or None where there is none."""
-        return self._order(found(library.best(self._own, locate_of(locate), is_buy(side))))
+        return self._order(found(library.best(self._own, self._locate(locate), is_buy(side))))
 
     def order(self, reference: int) -> Optional[Order]:
         """The live order with a reference number, or None where there is none."""
         return self._order(found(library.order_by(self._own, _buffers.number(reference, 64, "a reference"))))
 
-    def level(self, locate: int, side: str, price: int) -> Optional[Level]:
+    def level(self, locate: Stock, side: str, price: int) -> Optional[Level]:
         """The shares and the orders at a price, or None where no order has it."""
-        words = locate_of(locate), is_buy(side), _buffers.number(price, 32, "a price")
-        total = done(library.level(self._own, *words))
+        locate = self._locate(locate)
+        total = done(library.level(self._own, locate, is_buy(side), _buffers.number(price, 32, "a price")))
         if not total.orders:
             return None
         return Level(locate, self.stock(locate) or "", side, price, total.shares_high << 64 | total.shares_low, total.orders)
 
-    def next_price(self, locate: int, side: str, after: Optional[int] = None) -> Optional[int]:
+    def next_price(self, locate: Stock, side: str, after: Optional[int] = None) -> Optional[int]:
         """The best price of a side, or the best that is worse than `after`; None where there is none."""
         last = _buffers.number(after or 0, 32, "a price")
-        price = found(library.next_price(self._own, locate_of(locate), is_buy(side), after is not None, last))
+        price = found(library.next_price(self._own, self._locate(locate), is_buy(side), after is not None, last))
         return None if price is None else price.price
 
     def order_count(self) -> int:
@@ -62,24 +67,30 @@ class Lookups(Held):
         return _lists.stock(self._own, locate_of(locate))
 
     def stocks(self) -> Dict[int, str]:
-        """The directory: the stock of each locate, by rising locate."""
+        """The directory: the stock of each locate, in ascending order of locate."""
         return _lists.stocks(self._own)
 
     def locates(self) -> List[int]:
-        """The locates of the directory, rising."""
+        """The locates of the directory, in ascending order."""
         return _lists.locates(self._own)
 
-    def orders(self, locate: Optional[int] = None) -> Orders:
+    def orders(self, locate: Optional[Stock] = None) -> Orders:
         """The live orders of all locates, or of one: bids before asks, each side by priority."""
-        return _lists.orders(self._own, None if locate is None else locate_of(locate))
+        return _lists.orders(self._own, None if locate is None else self._locate(locate))
 
-    def levels(self, locate: Optional[int] = None) -> Levels:
+    def levels(self, locate: Optional[Stock] = None) -> Levels:
         """The price levels of all locates, or of one: bids before asks, the best price of each side first."""
-        return _lists.levels(self._own, None if locate is None else locate_of(locate))
+        return _lists.levels(self._own, None if locate is None else self._locate(locate))
 
-    def snapshot(self, *, only: Optional[Iterable[int]] = None) -> Snapshot:
-        """The snapshot of the market, or of what it has at some locates, with the number of the next message."""
-        return Snapshot._canonical(_lists.snapshot(self._own, self.next_number, only))
+    def snapshot(self, *, only: Optional[Iterable[Stock]] = None) -> Snapshot:
+        """The snapshot of the market, or of its part at some locates, with the number of the next message."""
+        return Snapshot._canonical(_lists.snapshot(self._own, self.next_number, None if only is None else map(self._locate, only)))
+
+    def _locate(self, stock: Stock) -> int:
+        """The locate that is given, or that of the stock with this name."""
+        if isinstance(stock, str) and (entries := library.locates(self._own, None, 0).len) != self._entries:
+            self._places, self._entries = _lists.places(self.stocks()), entries
+        return _lists.locate_in(self._places, stock)
 
     def _order(self, order: Optional[_library.Order]) -> Optional[Order]:
         if order is None:
@@ -123,9 +134,9 @@ class Market(Lookups):
         self._next += 1
 
     def apply_blocks(self, blocks: ReadableBuffer) -> Applied:
-        """Applies the messages of a piece of a day file: blocks of two bytes with the length of a payload, and the payload. A piece may
-        end within a block: what is unfinished comes first in the next piece. At a block of length 0 the piece ends. A message that is
-        refused leaves the market of those before it."""
+        """Applies the messages of a piece of a day file: blocks of two bytes with the length of a payload, and the payload. A
+        piece may end within a block: begin the next piece with the unfinished bytes. At a block of length 0 the piece ends. A
+        message that is refused leaves the market of those before it."""
         with bytes_of(blocks) as (at, size):
             applied = library.market_apply_blocks(self._own, at, size)
         self._next += applied.count
@@ -134,9 +145,9 @@ class Market(Lookups):
         return Applied(applied.count, applied.detail if applied.code == _library.TRUNCATED else 0)
 
     def apply_file(self, file: BinaryIO, at_once: int = 1 << 20) -> int:
-        """Applies the messages that an open file has, such as one of `gzip.open`, up to its end or to a block of length 0, and returns how
-        many there are. `at_once` is how many bytes are read at a time. A file that ends within a block is refused as `Reason.TRUNCATED`
-        after the messages before it."""
+        """Applies the messages of an open file, such as one of `gzip.open`, up to its end or to a block of length 0, and returns
+        how many there are. `at_once` is how many bytes are read at a time. A file that ends within a block is refused as
+        `Reason.TRUNCATED` after the messages before it."""
         first, rest = self._next, b""
         while True:
             read = file.read(at_once)

@@ -1,7 +1,8 @@
 """Messages, one by one."""
 from __future__ import annotations
 
-from typing import TYPE_CHECKING, Iterator, Optional
+import struct
+from typing import TYPE_CHECKING, Iterator, Optional, Tuple
 
 from ._buffers import bytes_of
 from ._library import OK, TRUNCATED, library
@@ -9,6 +10,9 @@ from .reasons import Refused
 
 if TYPE_CHECKING:
     from _typeshed import ReadableBuffer
+
+# The length of a block, and the type of its message.
+BEGINNING = struct.Struct(">HB")
 
 
 def fault_of(payload: ReadableBuffer) -> Optional[Refused]:
@@ -18,20 +22,29 @@ def fault_of(payload: ReadableBuffer) -> Optional[Refused]:
     return None if answer.code == OK else Refused(answer.code, answer.detail)
 
 
+def places(blocks: memoryview) -> Iterator[Tuple[int, int, int, int]]:
+    """The number, the type, the beginning and the end of each payload, up to the end of the blocks or to one of length 0. Raises `Refused` with
+    `Reason.TRUNCATED` at an unfinished one."""
+    unpack, at, number, size = BEGINNING.unpack_from, 0, 0, len(blocks)
+    while at + 2 < size:
+        length, kind = unpack(blocks, at)
+        if not length:
+            return
+        number, begin, at = number + 1, at + 2, at + 2 + length
+        if at > size:
+            raise Refused(TRUNCATED, size - begin + 2, number)
+        yield number, kind, begin, at
+    if bytes(blocks[at:]) not in (b"", b"\0\0"):
+        raise Refused(TRUNCATED, size - at, number + 1)
+
+
 def payloads(blocks: ReadableBuffer) -> Iterator[memoryview]:
     """The payloads of blocks, up to their end or to one of length 0; none is copied. Raises `Refused` with `Reason.TRUNCATED` at an
     unfinished one."""
-    view, at, number = memoryview(blocks).cast("B"), 0, 1
-    while at < len(view):
-        end = at + 2 + int.from_bytes(view[at:at + 2], "big")
-        if end > len(view):
-            raise Refused(TRUNCATED, len(view) - at, number)
-        if end == at + 2:
-            return
-        yield view[at + 2:end]
-        at, number = end, number + 1
+    view = memoryview(blocks).cast("B")
+    return (view[at:end] for _, _, at, end in places(view))
 
 
 def is_ended(blocks: bytes) -> bool:
-    """Whether blocks, the last of which is whole, have one of length 0."""
+    """Whether blocks, the last of them complete, include one of length 0."""
     return sum(2 + len(payload) for payload in payloads(blocks)) < len(blocks)

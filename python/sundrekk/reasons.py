@@ -8,7 +8,7 @@ from typing import Optional
 class Reason(enum.IntEnum):
     """The reasons for which a call is refused, with their codes in itchsnap.h, where each is explained.
 
-    EMPTY to BAD_NUMBER: a payload spells no message, or a block no packet.
+    EMPTY to BAD_NUMBER: the payload is not a valid message, or the block is not a valid packet.
     UNKNOWN_LOCATE to UNEXPECTED_END: an order rule refuses a message.
     TRUNCATED to SHORT: a file is refused.
     OUT_OF_MEMORY to NO_NUMBER: a call is refused, such as one on a market that is closed (WRONG_HANDLE).
@@ -62,7 +62,7 @@ class Reason(enum.IntEnum):
     BROKEN_SESSION = 101
 
 
-# The words of a reason, where they are not those of its name. `detail` is what the header says.
+# The text of a reason, if it is not that of its name. `detail` is as in the header.
 WORDS = {
     Reason.EMPTY: "empty message",
     Reason.WRONG_LENGTH: "wrong length: want {detail}",
@@ -81,11 +81,11 @@ WORDS = {
 
 
 class Refused(ValueError):
-    """A file, a message, a packet or a call is refused. Its text is that of the program's line, but for a wrong length, of which it has
-    only the one that is wanted.
+    """A file, a message, a packet or a call is refused. Its text is the program's error line, except that a wrong length states
+    only the expected length.
 
     reason: why. A reason of order rules or of a payload is the first that applies.
-    detail: what itchsnap.h says of the reason, such as the shares that remain; otherwise 0.
+    detail: as itchsnap.h specifies for the reason, such as the shares that remain; otherwise 0.
     number: that of the message that is refused, unfinished or missing, counted from 1; None where no numbered message is.
     cause: for a joiner that has halted or has a bad snapshot, why that message is refused.
     file: where two day files are compared, the one that is refused, 1 or 2.

@@ -1,6 +1,6 @@
-"""The two ends of a SoupBinTCP session, without sockets: packets and moments go in, and what they mean comes out.
+"""The two ends of a SoupBinTCP session, without sockets: packets and times go in, and their meanings come out.
 
-Packets go in and out without the two bytes of their length. Moments are in milliseconds since a time of the caller's choice.
+Packets go in and out without the two bytes of their length. Times are in milliseconds since a point of the caller's choice.
 """
 from __future__ import annotations
 
@@ -18,7 +18,7 @@ if TYPE_CHECKING:
 
 
 class Event(enum.IntEnum):
-    """What a packet or a moment means for a session.
+    """The meaning of a packet or a time for a session.
 
     NOTHING: nothing.
     ACCEPTED: the login is accepted, and messages come from `number` on.
@@ -41,7 +41,7 @@ class Event(enum.IntEnum):
 
 
 class Received(NamedTuple):
-    """What a packet means. `number` is that of a message, counted from 1; `code` is 'A' or 'S', or another that a server sent."""
+    """The meaning of a packet. `number` is that of a message, counted from 1; `code` is 'A' or 'S', or another that a server sent."""
 
     event: Event
     number: Optional[int] = None
@@ -49,13 +49,13 @@ class Received(NamedTuple):
 
 
 class Session(Held):
-    """What both ends of a session have."""
+    """The part that both ends of a session share."""
 
     _packet: Any
 
     def receive(self, packet: ReadableBuffer, now_ms: int) -> Received:
-        """What a packet of the other side means. Raises `Refused` where it is none, which leaves the session as it was, and where it breaks
-        the protocol, which closes it."""
+        """The meaning of a packet of the other side. Raises `Refused` if it is not a packet, which leaves the session as it was,
+        or if it breaks the protocol, which closes it."""
         with bytes_of(packet) as (at, size):
             act = self._packet(self._own, at, size, _moment(now_ms))
         if act.code not in Event.__members__.values():
@@ -65,21 +65,21 @@ class Session(Held):
         return Received(event, act.number if numbered else None, chr(act.detail) if event is Event.REJECTED else None)
 
     def tick(self, now_ms: int) -> Event:
-        """What there is to do at this moment without a packet: `NOTHING`, `HEARTBEAT` or `LOST`."""
+        """What to do at this time without a packet: `NOTHING`, `HEARTBEAT` or `LOST`."""
         answer = library.session_tick(self._own, _moment(now_ms))
         if answer.code not in Event.__members__.values():
             raise Refused(answer.code)
         return Event(answer.code)
 
     def sent(self, now_ms: int) -> None:
-        """Records that this end sent something at this moment."""
+        """Records that this end sent something at this time."""
         done(library.session_sent(self._own, _moment(now_ms)))
 
 
 class ClientSession(Session):
-    """A client that asks for the messages from number `start` on, counted from 1; 0 asks for all.
+    """A client that requests the messages from number `start` on, counted from 1; 0 requests all.
 
-    username: up to 6 printable characters; password, session: up to 10. A blank session asks for the current one.
+    username: up to 6 printable characters; password, session: up to 10. A blank session requests the current one.
     """
 
     HEARTBEAT = b"R"

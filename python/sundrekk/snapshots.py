@@ -11,7 +11,7 @@ from ._buffers import bytes_of
 from ._handles import Held
 from ._library import OK, library
 from .reasons import Refused
-from .tables import Levels, Orders
+from .tables import Levels, Orders, Stock
 
 if TYPE_CHECKING:
     from _typeshed import ReadableBuffer
@@ -21,10 +21,11 @@ END_BLOCK, END_DIGITS = 23, 20
 
 
 class Snapshot:
-    """The market at one message of a feed: what rebuilds it, as canonical bytes.
+    """The market at one message of a feed, as the canonical bytes that rebuild it.
 
-    Two snapshots are equal if and only if their markets are the same and they stand at the same message. `Snapshot(data)` reads a
-    snapshot file from any buffer, whose messages may be in any order that follows the order rules, and puts them into canonical order.
+    Two snapshots are equal if and only if their markets are the same and they were taken at the same message number.
+    `Snapshot(data)` reads a snapshot file from any buffer, whose messages may be in any order that follows the order rules, and
+    puts them into canonical order.
     """
 
     def __init__(self, data: ReadableBuffer) -> None:
@@ -41,12 +42,11 @@ class Snapshot:
 
     @classmethod
     def read(cls, path: Union[str, os.PathLike[str]]) -> Snapshot:
-        """Reads a snapshot file. Raises `Refused` with the reason if it is none."""
+        """Reads a snapshot file. Raises `Refused` with the reason if it is not one."""
         return cls(Path(path).read_bytes())
 
     def write(self, path: Union[str, os.PathLike[str]]) -> None:
-        """Writes a snapshot file. It is written beside, as `PATH.part`, and gets its name once it is whole; nothing is left of it where
-        that fails."""
+        """Writes a snapshot file: first `PATH.part`, which is renamed when it is complete, and removed if that fails."""
         part = Path(f"{os.fspath(path)}.part")
         try:
             part.write_bytes(self._data)
@@ -71,11 +71,13 @@ class Snapshot:
             raise TypeError(f"a Snapshot is compared with a Snapshot, and not with {other!r}")
         return self._data[:-END_BLOCK] == other._data[:-END_BLOCK]
 
-    def only(self, locates: Iterable[int]) -> Snapshot:
-        """The snapshot cut down to these locates."""
+    def only(self, locates: Iterable[Stock]) -> Snapshot:
+        """The snapshot cut down to these locates, or stocks by their names. A name that no locate has, or several have, raises ValueError."""
         with Held() as held:
             next_number = load(held, self._data)
-            return self._canonical(_lists.snapshot(held._own, next_number, locates))
+            directory = _lists.places(_lists.stocks(held._own))
+            some = [_lists.locate_in(directory, locate) for locate in locates]
+            return self._canonical(_lists.snapshot(held._own, next_number, some))
 
     @functools.cached_property
     def stocks(self) -> Dict[int, str]:
@@ -115,7 +117,7 @@ class Snapshot:
 
 
 def load(held: Held, snapshot: ReadableBuffer) -> int:
-    """Fills what is held with the market of a snapshot file, and returns the number of the next message."""
+    """Fills the handle with the market of a snapshot file, and returns the number of the next message."""
     with bytes_of(snapshot) as (at, size):
         loaded = library.market_load(held._own, at, size)
     if loaded.code != OK:

@@ -1,7 +1,7 @@
 """Orders and price levels as rows, as numpy arrays, and as frames.
 
-A table holds what the library wrote, and makes rows of it one by one. With numpy, pandas or pyarrow its columns go there whole.
-Prices are integers of a ten-thousandth of a dollar everywhere, so that equal prices are equal: 1500500 is 150.0500.
+A table holds what the library wrote, and makes rows of it one by one. numpy, pandas and pyarrow get complete columns. Prices are
+integers of a ten-thousandth of a dollar everywhere, so that equal prices are equal: 1500500 is 150.0500.
 """
 from __future__ import annotations
 
@@ -9,7 +9,7 @@ import bisect
 import ctypes as c
 import itertools
 import struct
-from typing import TYPE_CHECKING, Any, Dict, Iterator, List, Mapping, NamedTuple, Optional, Sequence, Tuple, TypeVar
+from typing import TYPE_CHECKING, Any, Dict, Iterator, List, Mapping, NamedTuple, Optional, Sequence, Tuple, TypeVar, Union
 
 if TYPE_CHECKING:
     import numpy
@@ -17,6 +17,8 @@ if TYPE_CHECKING:
     import pyarrow
 
 Row = TypeVar("Row")
+# A stock by its name, or an object that has it by its locate.
+Stock = Union[str, int]
 SIDES = ("B", "S")
 
 
@@ -53,7 +55,7 @@ class Part(NamedTuple):
 
 
 class Table(Sequence[Row]):
-    """Rows by rising locate: bids before asks, the best price first.
+    """Rows in ascending order of locate: bids before asks, the best price first.
 
     It is a sequence of named tuples, and `to_numpy`, `to_pandas` and `to_arrow` have the same rows. `array` is what the library wrote,
     as a ctypes array of structures with named fields, which is a buffer too.
@@ -84,8 +86,10 @@ class Table(Sequence[Row]):
     def __repr__(self) -> str:
         return f"<{len(self)} {type(self).__name__.lower()}>"
 
-    def at(self, locate: int) -> List[Row]:
-        """The rows of one locate."""
+    def at(self, locate: Stock) -> List[Row]:
+        """The rows of one locate, or of the locates that have the stock of this name."""
+        if isinstance(locate, str):
+            return [row for place, stock in self._stocks.items() if stock == locate for row in self.at(place)]
         first, last = bisect.bisect_left(self._locates, locate), bisect.bisect_right(self._locates, locate)
         return [row for part in range(first, last) for row in self._rows(part)]
 
@@ -135,8 +139,9 @@ class Orders(Table[Order]):
     _layout = struct.Struct("=QIIH??4s4x4x")
 
     def to_numpy(self) -> numpy.ndarray:
-        """A structured array over the same memory, which is not to be written to: `reference`, `price` in ten-thousandths of a dollar,
-        `shares`, `locate`, `buy`, `attributed`, and `mpid`, which is of zeros where an order is not attributed. Needs numpy."""
+        """A structured array over the same memory, which must not be written to: `reference`, `price` in ten-thousandths of a
+        dollar, `shares`, `locate`, `buy`, `attributed`, and `mpid`, which is of zeros where an order is not attributed. Needs
+        numpy."""
         return _over(self.array, {"reference": "u8", "price": "u4", "shares": "u4", "locate": "u2", "buy": "?", "attributed": "?",
                                   "mpid": "S4"})
 

@@ -203,7 +203,7 @@ class Check(Job):
 
 @dataclass(frozen=True)
 class Merge(Job):
-    """The whole snapshot of a day, laid together from parts that have all locates, once the day was checked, which no part does."""
+    """The complete snapshot of a day, laid together from parts that have all locates, once the day was checked, which no part does."""
 
     parts: tuple = ()
     kind = "merge"

@@ -16,14 +16,14 @@ EMPTY = end_block(1)
 
 
 def parts_of(count, locates):
-    """All locates, in so many ranges: those up to `locates` are shared alike, and the last range has all above them too."""
+    """All locates, in this many ranges: those up to `locates` are shared alike, and the last range has all above them too."""
     ends = [locates * part // count for part in range(1, count)] + [LAST_LOCATE]
     begins = [0] + [end + 1 for end in ends[:-1]]
     return tuple(f"{begin}-{end}" for begin, end in zip(begins, ends))
 
 
 def are_whole(parts):
-    """Whether these ranges have every locate once, in rising order."""
+    """Whether these ranges have every locate once, in ascending order."""
     bounds = [tuple(map(int, part.split("-"))) for part in parts]
     begins = [0] + [last + 1 for _, last in bounds]
     return begins == [first for first, _ in bounds] + [LAST_LOCATE + 1] and all(first <= last for first, last in bounds)
@@ -61,7 +61,7 @@ def copy_body(part, event, number, whole):
 
 
 def lay_together(parts, number, made):
-    """Writes the whole snapshot out of parts in rising order: their event, the rest of each, and one End of Snapshot."""
+    """Writes the complete snapshot out of parts in ascending order: their event, the rest of each, and one End of Snapshot."""
     with open(parts[0], "rb") as snapshot:
         event = event_of(snapshot)
     with open(made, "wb") as whole:

@@ -1,4 +1,4 @@
-"""What a job leaves: a file that is put in place whole, and beside it a manifest of what it was made of.
+"""What a job leaves: a file that is put in place whole, and next to it a manifest of what it was made of.
 
 A result is there if its manifest says that it was made of the same day, point, part and program, and if the file has the SHA-256 of
 the manifest. The file is put in place first, so a job that ends in between leaves a result that is not there yet. A refused day has a

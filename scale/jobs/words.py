@@ -90,7 +90,7 @@ def add_plan(words):
 
 
 def reader():
-    # No word stands for a longer one, so nothing but --help and -h has usage printed where an adapter wants the lines of a plan.
+    # Options cannot be abbreviated, so only --help and -h print usage where an adapter expects the lines of a plan.
     exact = functools.partial(argparse.ArgumentParser, allow_abbrev=False)
     words = exact(description="Does a job over a day file, or says which jobs a number of days comes to.")
     words.add_argument("--with-parent", action="store_true", help="end when the process that started this one ends")

@@ -1,7 +1,7 @@
-"""A Debian 12 with nothing but its base system, or with a compiler and Python: the packages are installed, used and removed.
+"""A bare Debian 12, with or without a compiler and Python: the packages are installed, used and removed.
 
 Each run unpacks a system of its own. What is unpacked was made by debootstrap and is kept, outside of the checkout, below
-$XDG_CACHE_HOME/sundrekk, or ~/.cache/sundrekk. RUNS has a function for each run, named for what it shows; it yields what differs.
+$XDG_CACHE_HOME/sundrekk, or ~/.cache/sundrekk. RUNS lists the runs. Each is a function that yields the differences.
 """
 import contextlib
 import os
@@ -32,7 +32,7 @@ class System:
         return ran("unshare", "--mount", "sh", "-c", enter, self.root, *plain, *words, timeout=1800)
 
     def script(self, label, text):
-        """What a script says, where it does not end well."""
+        """What a script says, where it does not end well. A `grep -q` in it would end before what writes to it, which then fails."""
         status, said = self.ran("bash", "-euo", "pipefail", "-c", text)
         if status:
             yield f"{label}: status {status}\n{said}".rstrip()
@@ -116,7 +116,7 @@ def the_program_installs_runs_and_goes_without_a_trace():
         yield from system.script("run", "cd /srv/day; itchsnap snap opening.itch >out.snap; test \"$(which itchsnap)\" = /usr/bin/itchsnap")
         yield from snapshot_differs("the snapshot", system.root / "srv/day/out.snap")
         yield from differs("version", system.ran("itchsnap", "--version")[1].split()[:2], ["itchsnap", VERSION])
-        yield from system.script("manual page", "zcat /usr/share/man/man1/itchsnap.1.gz | grep -q '^.TH ITCHSNAP 1'")
+        yield from system.script("manual page", "zcat /usr/share/man/man1/itchsnap.1.gz | grep -c '^.TH ITCHSNAP 1'")
         yield from system.script("completions", """
             source /usr/share/bash-completion/completions/itchsnap
             COMP_WORDS=(itchsnap sn) COMP_CWORD=1
@@ -134,7 +134,7 @@ def a_program_in_c_builds_with_pkg_config():
     with debian("building") as system:
         yield from system.script("install", "dpkg --install /srv/day/libitchsnap*.deb")
         yield from system.script("build", "cd /srv/day; gcc -std=c99 demo.c $(pkg-config --cflags --libs itchsnap) -o demo")
-        yield from system.script("run", "cd /srv/day; ./demo opening.itch out.snap; ldd demo | grep -q libitchsnap.so.0")
+        yield from system.script("run", "cd /srv/day; ./demo opening.itch out.snap; ldd demo | grep -c libitchsnap.so.0")
         yield from snapshot_differs("the snapshot", system.root / "srv/day/out.snap")
         yield from system.script("purge", "dpkg --purge libitchsnap-dev libitchsnap0; ! ls /usr/lib/*/*itchsnap* /usr/include/*itchsnap*")
 

@@ -1,6 +1,6 @@
-"""The header and both C libraries: no compiler warns of the header, and only its names are exported.
+"""The header and both C libraries: compilers give no warnings, and only the header's names are exported.
 
-RUNS has a function for each run, named for what it shows; it yields what differs.
+RUNS lists the runs. Each is a function that yields the differences.
 """
 import re
 import shutil

@@ -1,6 +1,6 @@
 """The crates for cargo.
 
-RUNS has a function for each run, named for what it shows; it yields what differs.
+RUNS lists the runs. Each is a function that yields the differences.
 """
 import contextlib
 import re

@@ -1,6 +1,6 @@
 """The packages: they are those of the release, and lintian finds no error in them.
 
-RUNS has a function for each run, named for what it shows; it yields what differs.
+RUNS lists the runs. Each is a function that yields the differences.
 """
 import os
 import re
@@ -16,6 +16,10 @@ DIST = RELEASE / "dist"
 ARCHIVE = f"itchsnap-{VERSION}-x86_64-linux"
 NAMES = [f"{ARCHIVE}.tar.gz", f"itchsnap_{VERSION}_amd64.deb", f"libitchsnap-dev_{VERSION}_amd64.deb", f"libitchsnap0_{VERSION}_amd64.deb",
          f"sundrekk-{VERSION}-py3-none-manylinux_2_17_x86_64.whl"]
+# Where the files for a service are, and of which files they are copies.
+SERVICE = {"lib/systemd/system/itchsnap-live@.service": "deploy/itchsnap-live@.service", "lib/sysusers.d/itchsnap.conf": "deploy/itchsnap.sysusers",
+           "share/doc/itchsnap/OPERATING.md": "docs/OPERATING.md",
+           **{f"share/doc/itchsnap/examples/{it}": f"deploy/{it}" for it in ("itchsnap-live.env", "itchsnap.rules.yml", "prometheus.yml")}}
 
 
 def the_packages_are_those_of_the_release():
@@ -76,12 +80,24 @@ def lintian_finds_no_error():
 def the_archive_has_the_program_and_what_belongs_to_it():
     with tarfile.open(packed() / f"{ARCHIVE}.tar.gz") as archive:
         files = {it.name.removeprefix(f"{ARCHIVE}/"): archive.extractfile(it).read() for it in archive if it.isfile()}
-    units = sorted(f"lib/systemd/system/{it.name}" for it in TOP.glob("deploy/*.service"))
-    yield from differs("files", sorted(files), ["LICENSE", "bin/itchsnap", *units, "share/bash-completion/completions/itchsnap",
-                                                "share/fish/vendor_completions.d/itchsnap.fish", "share/man/man1/itchsnap.1",
-                                                "share/zsh/site-functions/_itchsnap"])
+    yield from differs("files", sorted(files), sorted(["LICENSE", "bin/itchsnap", "share/bash-completion/completions/itchsnap",
+                                                       "share/fish/vendor_completions.d/itchsnap.fish", "share/man/man1/itchsnap.1",
+                                                       "share/zsh/site-functions/_itchsnap", *SERVICE]))
+    yield from differs("others", [it for it, file in SERVICE.items() if files.get(it) != (TOP / file).read_bytes()], [])
     if files["bin/itchsnap"] != (RELEASE / "itchsnap").read_bytes():
         yield "the program is not that of release/"
+
+
+def the_package_has_a_unit_and_starts_nothing():
+    """It has no script that dpkg runs, and no unit but that of `deploy/`, which has to be enabled by name."""
+    need("dpkg-deb")
+    package = packed() / NAMES[1]
+    _, held = ran("sh", "-c", 'dpkg-deb --ctrl-tarfile "$0" | tar -t', package)
+    yield from differs("control files", sorted(held.split()), ["./", "./control", "./md5sums"])
+    _, listed = ran("sh", "-c", 'dpkg-deb --fsys-tarfile "$0" | tar -t', package)
+    names = {it.removeprefix("./usr/") for it in listed.split()}
+    yield from differs("missing", sorted(SERVICE.keys() - names), [])
+    yield from differs("units", [it for it in names if "systemd" in it and not it.endswith("/")], ["lib/systemd/system/itchsnap-live@.service"])
 
 
 def needed(file):
@@ -98,7 +114,7 @@ def the_packages_ask_for_the_glibc_of_their_symbols():
     for name, file in ((NAMES[1], RELEASE / "itchsnap"), (NAMES[3], RELEASE / "libitchsnap.so")):
         newest = ".".join(map(str, max(needed(file))))
         yield from differs(name, ran("dpkg-deb", "--field", packed() / name, "Depends")[1], f"libc6 (>= {newest})\n")
-    late = {(2, 33): {"__x86_get_cpuid_feature_leaf"}, (2, 34): {"__libc_start_main"}}
+    late = {(2, 30): {"getdents64"}, (2, 33): {"__x86_get_cpuid_feature_leaf"}, (2, 34): {"__libc_start_main"}}
     yield from differs("after 2.28", {it: names for it, names in needed(RELEASE / "itchsnap").items() if it > (2, 28)}, late)
 
 
@@ -123,6 +139,7 @@ RUNS = [
     packages_are_the_same_whoever_packs_them,
     lintian_finds_no_error,
     the_archive_has_the_program_and_what_belongs_to_it,
+    the_package_has_a_unit_and_starts_nothing,
     the_packages_ask_for_the_glibc_of_their_symbols,
     every_package_has_the_licence,
 ]

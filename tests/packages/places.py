@@ -1,6 +1,6 @@
-"""`./install --library`, and programs that are built with the installed files.
+"""`./install --library`, and programs built with the installed files.
 
-RUNS has a function for each run, named for what it shows; it yields what differs.
+RUNS lists the runs. Each is a function that yields the differences.
 """
 import contextlib
 import tempfile

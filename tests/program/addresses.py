@@ -1,7 +1,6 @@
-"""`live`, `follow` and `fetch` at a host that has two addresses, in a mount namespace whose /etc/hosts says so: the first refuses, does not
-answer, or is lost repeatedly.
+"""`live`, `follow` and `fetch` at a host with two addresses: the first refuses, is silent, or is lost repeatedly; and a status port there.
 
-RUNS has a function for each run, named for what it shows; it is given the program, and yields what differs.
+RUNS lists the runs. Each is a function that is given the program and yields the differences.
 """
 import contextlib
 import socket
@@ -102,9 +101,20 @@ def a_host_whose_addresses_refuse_is_named(program):
             yield from differs(f"{words}", got, (3, b"", error))
 
 
+def the_status_port_is_at_the_first_address(program):
+    """Of the name that it is given by."""
+    with named("a status port at two addresses") as known:
+        if not known:
+            return
+        with Running(*known, program, "live", "--feed", "127.0.0.1:9", "--port", "0", *WORDS, "--status", "two.test:0") as server:
+            said = server.said("status on ")
+    yield from differs("status", said.rpartition(":")[0], f"status on {FIRST}")
+
+
 RUNS = [
     the_next_address_is_tried_where_one_refuses,
     after_the_last_address_comes_the_first_again,
     a_snapshot_is_fetched_from_the_address_that_answers,
     a_host_whose_addresses_refuse_is_named,
+    the_status_port_is_at_the_first_address,
 ]

@@ -1,7 +1,7 @@
-"""The limits of `live`, `feed` and `follow`: how many clients at a time, and how long a message or a packet may be; and more than a million
-waiting messages in a joiner of the released C library.
+"""The limits of `live`, `feed` and `follow`: clients at a time, and lengths of messages and packets; and over a million waiting messages in
+a joiner of the C library.
 
-RUNS has a function for each run, named for what it shows; it is given the program, and yields what differs.
+RUNS lists the runs. Each is a function that is given the program and yields the differences.
 """
 import contextlib
 import subprocess
@@ -53,7 +53,7 @@ class Crowd:
 
 
 def places_differ(label, port, places):
-    """What differs where a server has so many places for clients of one address: one more is accepted once one leaves."""
+    """What differs where a server has this many places for clients of one address: one more is accepted once one leaves."""
     with contextlib.ExitStack() as held:
         crowd = Crowd(port, places + 2, held)
         for count in places, places + 1:

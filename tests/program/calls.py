@@ -1,6 +1,6 @@
-"""`live`, `follow` and `feed` while each system call that is not a read, a write or an allocation fails in turn (calls.c).
+"""`live`, `follow` and `feed` while each system call other than a read, a write or an allocation fails in turn (calls.c).
 
-RUNS has a function for each run, named for what it shows; it is given the program, and yields what differs.
+RUNS lists the runs. Each is a function that is given the program and yields the differences.
 """
 import contextlib
 import functools
@@ -24,7 +24,7 @@ KEPT_BEFORE, LOST_AT, EVERY, CLIENTS = 10, 30, 40, 2
 REASON = "Input/output error (os error 5)"
 # How long a client may wait for its answer before it tries again, and a server for all that it is to do.
 SECONDS = 10
-# So many runs are made side by side.
+# This many runs are made at the same time.
 BESIDE = 8
 
 
@@ -78,10 +78,12 @@ def refused_to_start(server):
 
 
 def unwritten(status, lines, record, kind):
-    """What differs in the ending of a server that could not write the name of its session beside its record, or sync the record or look at it: nothing
-    else ends it."""
+    """What differs in the ending of a server that could not cut its record or write the name of its session next to it, or sync the record or look at it:
+    nothing else ends it."""
     name = re.escape(str(record))
     wanted = rf"cannot open\n  {name}\.session"
+    if kind == "ftruncate":
+        wanted = rf"cannot open\n  {name}"
     if kind in ("sync", "statx"):
         wanted = rf"({wanted}|message \d+: write failed\n  {name})"
     wanted = rf"itchsnap: {wanted}: {re.escape(REASON)}\n"
@@ -96,7 +98,7 @@ def numbered(output):
 
 
 class Kept:
-    """A server of one place that goes on with a record, whose feed is lost once, and writes snapshots; and what it is to end with."""
+    """A server of one place that continues with a record, whose feed is lost once, and writes snapshots; and what it is to end with."""
 
     def __init__(self, program, library):
         self.program, self.library = program, library
@@ -154,13 +156,13 @@ def a_server_goes_on_where_a_call_at_a_socket_fails(program):
 
 
 def a_server_goes_on_where_a_call_at_a_file_fails(program):
-    """The record and the snapshots are whole, but for one snapshot that is said not to be written; or it ends, and names the record."""
+    """The record and the snapshots are complete, but for one snapshot that is said not to be written; or it ends, and names the record."""
     with shim() as library:
         yield from failing_in_turn(Kept(program, library).attempt, KEPT)
 
 
 def a_record_that_cannot_be_looked_at_is_lost(program):
-    """It is looked at each second: the server ends, or says so and goes on where the record is optional."""
+    """It is looked at each second: the server ends, or says so and continues where the record is optional."""
     day, snapshot = day_of(20)
     for words in [], ["--record-optional"]:
         end = threading.Event()
@@ -202,6 +204,33 @@ def what_gets_its_name_is_on_disk(program):
             line = f"  {folder}/record.session: {REASON}\n"
             yield from differs("a session file", (status, lines[-2:]), (3, ["itchsnap: cannot open\n", line]))
             yield from differs("its name", (folder / "record.session").exists(), False)
+
+
+def an_index_that_gets_its_name_is_on_disk(program):
+    """Where it cannot be synced without the line of an old snapshot, both stay, and that is said."""
+    day, _ = day_of(60)
+    # One sync of the session file, one of each snapshot, and then that of the index.
+    with shim() as library, folder_with() as folder, Feed(plays(day, then=ENDED)) as feed:
+        (folder / "snapshots").mkdir()
+        words = "--record", folder / "record", "--sync", "no", "--snapshots", folder / "snapshots", "--every", EVERY, "--keep", "1"
+        with live(program, feed.port, *words, LD_PRELOAD=str(library), FAIL="sync:4", FAILED=str(folder / "failed")) as server:
+            status, _, lines = server.ended()
+        said = [it for it in lines if not it.startswith("feed: ")]
+        yield from differs("said", (status, said), (0, [f"snapshots: cannot remove an old one in {folder}/snapshots: {REASON}\n"]))
+        listed = [line.split(",")[0] for line in (folder / "snapshots/index.jsonl").read_text().splitlines()]
+        left = sorted(it.name for it in (folder / "snapshots").glob("*.snap"))
+        yield from differs("kept", (left, len(listed)), (["40.snap", "80.snap"], 2))
+
+
+def a_connection_that_cannot_be_made_has_its_own_cause(program):
+    """A call that fails is not a server that refuses."""
+    with shim() as library, folder_with() as folder, Feed(plays(day_of(20)[0], then=ENDED)) as feed:
+        words = "--feed", f"127.0.0.1:{feed.port}", "--port", "0", *WORDS, "--log", "text"
+        environment = {"LD_PRELOAD": str(library), "FAIL": "connect:1", "FAILED": str(folder / "failed")}
+        with Running(program, "live", *words, listens=False, **environment) as server:
+            status, _, lines = server.ended()
+        causes = re.findall(r' feed_lost next=1 cause="(.*?)"', "".join(lines))
+        yield from differs("causes", (status, causes), (0, ["socket failed"]))
 
 
 def a_feed_goes_on_where_a_call_fails(program):
@@ -249,6 +278,8 @@ RUNS = [
     a_server_goes_on_where_a_call_at_a_file_fails,
     a_record_that_cannot_be_looked_at_is_lost,
     what_gets_its_name_is_on_disk,
+    an_index_that_gets_its_name_is_on_disk,
+    a_connection_that_cannot_be_made_has_its_own_cause,
     a_feed_goes_on_where_a_call_fails,
     a_follower_goes_on_where_a_call_fails,
 ]

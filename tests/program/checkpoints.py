@@ -1,6 +1,6 @@
-"""`at` with an index that does not fit the point or the feed: it refuses whatever would lead to a wrong answer.
+"""`at` with an index that does not fit the point or the feed.
 
-RUNS has a function for each run, named for what it shows; it is given the program, and yields what differs.
+RUNS lists the runs. Each is a function that is given the program and yields the differences.
 """
 import contextlib
 import gzip
@@ -99,7 +99,7 @@ def a_line_with_other_members_is_no_checkpoint(program):
     with folder_of(program, "--after", "4") as folder:
         index = folder / "d/index.jsonl"
         line = json.loads(index.read_text())
-        # The snapshot is not there: it is not wanted.
+        # The snapshot does not exist, and is not needed.
         (folder / "d/4.snap").unlink()
         for member in ({"only": 7}, {"only": None}, {"first": 7}, {"last": None}, {"first": "7"}, {"last": line["last"] + "0"}):
             index.write_text(json.dumps({**line, **member}) + "\n")
@@ -116,7 +116,7 @@ def partial_snapshots_answer_for_their_locates_only(program):
             yield from differs(words, ended_in(folder, program, "at", "d", "day.itch", "5", *words), wanted)
         for words in ((), ("--only", "2"), ("--only", "1-3"), ("--only", "0-65535"), ("--stock", "AAPL")):
             yield from differs(words, ended_in(folder, program, "at", "d", "day.itch", "5", *words), fewer)
-            # Before the first checkpoint the whole day is read.
+            # Before the first checkpoint the complete day is read.
             wanted = 0, snapped(folder, program, "--after", "2", *words), b""
             yield from differs(words, ended_in(folder, program, "at", "d", "day.itch", "2", *words), wanted)
         index = folder / "d/index.jsonl"
@@ -168,7 +168,7 @@ def a_long_line_is_passed_over_and_not_held(program):
             yield f"{taken}"
         wanted = 0, snapped(folder, program, "--after", "5"), b""
         yield from differs("after", ended_in(folder, program, "at", "d", "day.itch", "5"), wanted)
-        # What comes after half a megabyte of a line is of that line, and no line of its own: the snapshot that it names is not there.
+        # The rest of a line after half a megabyte belongs to that line, and is not a line of its own: the snapshot that it names does not exist.
         index.write_bytes(lines[0] + b" " * (1 << 19) + lines[1])
         (folder / "d/4.snap").unlink()
         yield from differs("the rest of a line", ended_in(folder, program, "at", "d", "day.itch", "5"), wanted)

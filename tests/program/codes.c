@@ -96,6 +96,94 @@ static void payloads(void) {
     answers(fault(spelled("G                   0")), ITCHSNAP_BAD_NUMBER, 0, "BAD_NUMBER");
 }
 
+/* A payload that is refused leaves the fields as they were. */
+static void fields(void) {
+    itchsnap_message message, before;
+    text good = at(7, order(3, 9, 'S', 5)), bad = order(1, 1, 'X', 1);
+    memset(&message, 0xa5, sizeof message);
+    memset(&before, 0xa5, sizeof before);
+    answers(itchsnap_decode(good.bytes, 0, &message), ITCHSNAP_EMPTY, 0, "EMPTY of fields");
+    answers(itchsnap_decode(good.bytes, 35, &message), ITCHSNAP_WRONG_LENGTH, 36, "WRONG_LENGTH of fields");
+    answers(itchsnap_decode(bad.bytes, bad.len, &message), ITCHSNAP_BAD_SIDE, 19, "BAD_SIDE of fields");
+    must(memcmp(&message, &before, sizeof message) == 0, "fields that are as they were");
+    answers(itchsnap_decode(good.bytes, good.len, &message), ITCHSNAP_OK, 0, "OK of fields");
+    must(message.message_type == 'A' && message.stock_locate == 3 && message.timestamp == 7, "the header");
+    must(message.order_reference_number == 9 && message.buy_sell_indicator == 'S' && message.shares == 5, "the order");
+    must(message.price == 1500000 && memcmp(message.stock, "AAPL    ", 8) == 0 && message.match_number == 0, "its price, and no match number");
+    text other = spelled("?!");
+    answers(itchsnap_decode(other.bytes, other.len, &message), ITCHSNAP_OK, 0, "a type that is not decoded");
+    must(message.message_type == '?' && message.stock_locate == 0 && message.timestamp == 0, "its type alone");
+}
+
+static itchsnap_decoded rows_of(text file, const char *types, uint16_t locate, itchsnap_row *rows, size_t room) {
+    return itchsnap_decode_blocks(file.bytes, file.len, 0, (const uint8_t *)types, strlen(types), &locate, locate != 0, rows, room);
+}
+
+static void decodes(itchsnap_decoded done, uint32_t code, uint64_t detail, uint64_t count, size_t rows, size_t len, const char *what) {
+    must(done.code == code && done.detail == detail && done.count == count && done.rows == rows && done.len == len, what);
+}
+
+static void rows(void) {
+    itchsnap_row out[3], before;
+    text file = {{0}, 0};
+    add_block(&file, at(7, directory(1, "AAPL    ")));
+    add_block(&file, at(8, order(1, 1, 'B', 5)));
+    add_block(&file, at(9, cancel(2, 1, 5)));
+    add_block(&file, spelled("?"));
+    memset(out, 0xa5, sizeof out);
+    memset(&before, 0xa5, sizeof before);
+    decodes(rows_of(file, "AX", 0, out, 3), ITCHSNAP_OK, 0, 4, 2, file.len, "OK of rows");
+    must(out[0].number == 2 && out[0].offset == 43 && out[0].timestamp == 8 && out[0].payload[0] == 'A' && out[0].payload[36] == 0, "a row");
+    must(out[1].number == 3 && memcmp(&out[2], &before, sizeof before) == 0, "the last row");
+    decodes(rows_of(file, "AX", 2, out, 3), ITCHSNAP_OK, 0, 4, 1, file.len, "the rows of a locate");
+    must(out[0].number == 3, "the row of a locate");
+    decodes(rows_of(file, "AX?", 3, out, 3), ITCHSNAP_OK, 0, 4, 0, file.len, "the rows of a locate without any");
+    decodes(rows_of(file, "?", 0, out, 3), ITCHSNAP_OK, 0, 4, 1, file.len, "a type that is not decoded");
+    must(out[0].timestamp == 0 && out[0].payload[0] == '?' && out[0].payload[1] == 0, "its row");
+    decodes(rows_of(file, "", 0, out, 0), ITCHSNAP_OK, 0, 4, 0, file.len, "the number of messages");
+    decodes(rows_of(file, "AX", 0, out, 1), ITCHSNAP_NO_ROOM, 0, 2, 1, 79, "NO_ROOM for rows");
+    decodes(rows_of(file, "R", 0, out, 0), ITCHSNAP_NO_ROOM, 0, 0, 0, 0, "NO_ROOM for any row");
+    file.len -= 1;
+    decodes(rows_of(file, "", 0, out, 3), ITCHSNAP_TRUNCATED, 2, 3, 0, 104, "TRUNCATED rows");
+    file.len = 80;
+    decodes(rows_of(file, "X", 0, out, 3), ITCHSNAP_TRUNCATED, 1, 2, 0, 79, "TRUNCATED after a byte");
+    const uint8_t type = 'R';
+    itchsnap_decoded done = itchsnap_decode_blocks(file.bytes, 79, most - 1, &type, 1, &(uint16_t){0}, 0, out, 3);
+    decodes(done, ITCHSNAP_TOO_MANY_MESSAGES, 0, most, 1, 41, "TOO_MANY_MESSAGES of rows");
+    must(out[0].number == most, "the greatest number");
+    done = itchsnap_decode_blocks(file.bytes, 0, UINT64_MAX, &type, 1, &(uint16_t){0}, 0, out, 3);
+    decodes(done, ITCHSNAP_OK, 0, UINT64_MAX, 0, 0, "no blocks");
+    file.bytes[41 + 21] = 'X';
+    decodes(rows_of(file, "RA", 0, out, 3), ITCHSNAP_BAD_SIDE, 19, 1, 1, 41, "BAD_SIDE of rows");
+    decodes(rows_of(file, "RA", 9, out, 3), ITCHSNAP_BAD_SIDE, 19, 1, 0, 41, "BAD_SIDE at another locate");
+    file.len = 79;
+    decodes(rows_of(file, "R", 0, out, 3), ITCHSNAP_OK, 0, 2, 1, 79, "a fault of another type");
+    file.bytes[41] = file.bytes[42] = 0;
+    decodes(rows_of(file, "RA", 0, out, 3), ITCHSNAP_OK, 0, 1, 1, 41, "an empty block after rows");
+}
+
+static void texts(void) {
+    char out[ITCHSNAP_REASON_LEN];
+    size_t longest = 0;
+    for (uint32_t code = 0; code < 120; code++) {
+        memset(out, '#', sizeof out);
+        itchsnap_written written = itchsnap_reason_text(code, out, sizeof out);
+        if (written.code == ITCHSNAP_ABSENT) {
+            must(written.len == 0 && out[0] == '#', "the text of no code");
+            continue;
+        }
+        must(written.code == ITCHSNAP_OK && written.len > 2 && strlen(out) == written.len - 1, "a text and its length");
+        longest = written.len > longest ? written.len : longest;
+        memset(out, '#', sizeof out);
+        itchsnap_written refused = itchsnap_reason_text(code, out, written.len - 1);
+        must(refused.code == ITCHSNAP_NO_ROOM && refused.len == written.len && out[0] == '#', "NO_ROOM for a text");
+    }
+    must(longest > 20 && longest < ITCHSNAP_REASON_LEN, "the longest text");
+    must(itchsnap_reason_text(ITCHSNAP_STOCK_MISMATCH, out, sizeof out).len == 15 && strcmp(out, "stock mismatch") == 0, "a text");
+    must(itchsnap_reason_text(ITCHSNAP_BROKEN_SESSION, out, sizeof out).code == ITCHSNAP_OK, "the last text");
+    must(itchsnap_reason_text(UINT32_MAX, out, sizeof out).code == ITCHSNAP_ABSENT, "ABSENT of a text");
+}
+
 static itchsnap_answer apply(itchsnap_handle *market, text payload) {
     return itchsnap_market_apply(market, payload.bytes, payload.len);
 }
@@ -362,6 +450,9 @@ static void clients(const itchsnap_login *login) {
 int main(void) {
     itchsnap_login login = login_of("desk  secret              ");
     payloads();
+    fields();
+    rows();
+    texts();
     rules();
     files();
     times();

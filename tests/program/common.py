@@ -30,7 +30,7 @@ def file(words):
 
 
 def readable(sources, seconds):
-    """Those of some files and sockets that can be read, as soon as one can, or none after so many seconds. (select.select takes no number
+    """Those of some files and sockets that can be read, as soon as one can, or none after this many seconds. (select.select takes no number
     above 1023.)"""
     poll = select.poll()
     numbers = {it.fileno(): it for it in sources}

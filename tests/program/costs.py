@@ -1,6 +1,6 @@
-"""Comparisons of costs: the memory of order references far apart, and the instructions of `compare --first`.
+"""Costs: the memory of order references far apart, and the instructions of `compare --first`.
 
-RUNS has a function for each run, named for what it shows; it is given the program, and yields what differs.
+RUNS lists the runs. Each is a function that is given the program and yields the differences.
 """
 import re
 import shutil
@@ -14,7 +14,7 @@ from common import differs
 from living import folder_with
 
 ORDERS = 300_000
-# A process of little memory starts the program and tells what that took: the memory of the one that starts it counts too.
+# A process of little memory starts the program and reports its memory, since that of the starting process counts too.
 MEASURE = """
 import resource, subprocess, sys
 status = subprocess.run(sys.argv[1:], stdout=subprocess.DEVNULL).returncode
@@ -39,13 +39,13 @@ def cost(*words):
 def orders_apart(step):
     """A day of orders that stay, with references so far apart."""
     start, end = large.block(b"A", 1, bytes(8))[:13], b"B" + struct.pack(">I8sI", 100, large.stock(1), 10_000)
-    # The length is that of the whole.
+    # The length is that of the complete block.
     start = struct.pack(">H", len(start) + 8 + len(end) - 2) + start[2:]
     return large.entry(1) + b"".join(start + struct.pack(">Q", step * place) + end for place in range(1, ORDERS + 1))
 
 
 def references_far_apart_take_little_memory(program):
-    """With a page of the table of references for each order, or for each order and seven more pages beside it."""
+    """With a page of the table of references for each order, or for each order and seven more pages next to it."""
     dense, *sparse = (orders_apart(step) for step in (1, 128, 1024))
     with folder_with(dense=dense, pages=sparse[0], eighths=sparse[1]) as folder:
         least = cost(program, "snap", folder / "dense")

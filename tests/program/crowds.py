@@ -1,6 +1,6 @@
-"""`live` with many clients at once, with a feed that is cut at every byte, and with Wireshark's dissector, where that is installed.
+"""`live` with many clients at once, with a feed that is cut at every byte, and with Wireshark's dissector.
 
-RUNS has a function for each run, named for what it shows; it is given the program, and yields what differs.
+RUNS lists the runs. Each is a function that is given the program and yields the differences.
 """
 import collections
 import contextlib
@@ -26,7 +26,7 @@ PORT = 5100
 
 
 def told_at_a_byte_a_second(port, seconds):
-    """What a client is told that takes a byte a second, for so long at most."""
+    """What a client is told that takes a byte a second, for this long at most."""
     got = b""
     with connect(port, 4096) as peer, contextlib.suppress(OSError):
         peer.sendall(LOGIN)

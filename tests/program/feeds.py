@@ -1,6 +1,6 @@
-"""`feed` and `follow`, a row of `feed`, `live` and `follow`, and the reasons why each ends.
+"""`feed` and `follow`, a chain of `feed`, `live` and `follow`, and the reasons why each ends.
 
-RUNS has a function for each run, named for what it shows; it is given the program, and yields what differs.
+RUNS lists the runs. Each is a function that is given the program and yields the differences.
 """
 import contextlib
 import re
@@ -70,7 +70,7 @@ def a_feed_stays_with_heartbeats(program):
 
 
 def a_feed_is_played_at_a_rate(program):
-    """200 messages at 100 a second take 2 seconds, and at ten times the clock the timestamps do."""
+    """200 messages at 100 per second take 2 seconds, and at ten times the clock the timestamps do."""
     day, _ = day_of(180)
     timed = b"".join(it[:7] + struct.pack(">Q", n * 50_000_000)[2:] + it[13:] for n, it in enumerate(split(day)))
     for words, least, data in ((("--rate", "100"), 1.99, day), (("--clock", "5"), 1.99, timed), ((), 0, day)):
@@ -136,7 +136,7 @@ def all_three_in_a_row(program):
 
 
 def a_follower_writes_at_once(program):
-    """Each message is written before the feed sends the next one, as blocks, as JSON, and after the whole snapshot."""
+    """Each message is written before the feed sends the next one, as blocks, as JSON, and after the complete snapshot."""
     day, _ = day_of(30)
     blocks, begins = split(day), 10
     early = snapshot_after(program, day, begins)
@@ -220,6 +220,8 @@ def words_that_do_not_go_together_are_refused(program):
     follow_words = ["follow", "--feed", "h:1", "--glimpse", "h:2", *WORDS]
     feed_words = ["feed", "day", "--port", "0", *WORDS]
     rows = [[*live_words, "--record", "r", "--glimpse", "h:2"], [*live_words, "--snapshots", "d"], [*live_words, "--every", "5"],
+            [*live_words, "--record", "r", "--records", "d"], [*live_words, "--records", "d", "--glimpse", "h:2"], [*live_words, "--sync", "no"],
+            [*live_words, "--keep", "3"], [*live_words, "--snapshots", "d", "--every", "5", "--keep", "0"], [*live_words, "--ready", "later"],
             [*live_words, "--clients", "0"], [*live_words, "--clients", "1001"], ["live", *WORDS, "--port", "0"],
             *([*live_words, "--snapshot-memory", size] for size in ("0", "0K", "", "M", "+1", "1.5M", "256MB", "256m", "0x10", "17179869184G")),
             [*live_words, *["--feed", "h:2"] * 8],

@@ -1,6 +1,6 @@
-"""`fetch` from a server of the test, and `serve` with clients of the test: each call failing in turn, and the answers.
+"""`fetch` from a test server, and `serve` with test clients: each call failing in turn, and the answers.
 
-RUNS has a function for each run, named for what it shows; it is given the program, and yields what differs.
+RUNS lists the runs. Each is a function that is given the program and yields the differences.
 """
 import contextlib
 import queue

@@ -1,6 +1,6 @@
 """Refused files, and the laws of snapshots over worked files.
 
-RUNS has a function for each run, named for what it shows; it is given the program, and yields what differs.
+RUNS lists the runs. Each is a function that is given the program and yields the differences.
 """
 import tempfile
 

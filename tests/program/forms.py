@@ -1,6 +1,6 @@
-"""JSON and comma-separated values, parsed by Python's own modules, for every character that a stock may have.
+"""JSON and comma-separated values for every character that a stock may have, parsed by Python's own modules.
 
-RUNS has a function for each run, named for what it shows; it is given the program, and yields what differs.
+RUNS lists the runs. Each is a function that is given the program and yields the differences.
 """
 import csv
 import io

@@ -1,6 +1,6 @@
-"""Runs of `live` among clients that try to take it from the others, with side outputs that fail, and at feeds that refuse it once or hurry it.
+"""`live` with hostile clients, with side outputs that fail, and at feeds that refuse it once or hurry it.
 
-RUNS has a function for each run, named for what it shows; it is given the program, and yields what differs.
+RUNS lists the runs. Each is a function that is given the program and yields the differences.
 """
 import contextlib
 import fcntl
@@ -26,14 +26,14 @@ from living import (BEAT, CLIENT_BEAT, ENDED, LOGIN, PATIENCE, SILENCE, Feed, ac
 
 ACCEPTED = len(acceptance(1))
 ORDERS, SYMBOLS, RATE = 200_000, 1000, 20_000
-# What a client may have to wait beside what is asked of the server, on a machine that does other work.
+# How long a client may have to wait in addition, on a machine that does other work.
 SLACK = 1
-# What a thousand connections need here and in the server.
+# The descriptors that a thousand connections need here and in the server.
 DESCRIPTORS = 4096
 # A client hears something each second: for how long nothing may come, on such a machine.
 PAUSE = 1.9
 
-# Clients that log in, take an acceptance, leave and come again, until the process is ended: of a port, and so many at a time.
+# Clients that log in, take an acceptance, leave and come again, until the process is ended: of a port, and this many at a time.
 HAMMER = """
 import socket, sys, threading
 port, count, login = int(sys.argv[1]), int(sys.argv[2]), bytes.fromhex(sys.argv[3])
@@ -81,7 +81,7 @@ def market():
 
 
 class Steady:
-    """A script: the day of the market at once, and then RATE messages a second, until an event is set."""
+    """A script: the day of the market at once, and then RATE messages per second, until an event is set."""
 
     def __init__(self):
         self.end = threading.Event()
@@ -111,7 +111,7 @@ class Told(NamedTuple):
 
 
 def told_within(port, seconds=PATIENCE):
-    """What a client is told that logs in, until it is told all, or for so many seconds."""
+    """What a client is told that logs in, until it is told all, or for this many seconds."""
     pieces, pause = [], 0
     with connect(port) as peer:
         begun = last = time.monotonic()
@@ -130,7 +130,7 @@ def told_within(port, seconds=PATIENCE):
 
 @contextlib.contextmanager
 def busy_server(program, *words):
-    """A server of the market, whose feed goes on at RATE."""
+    """A server of the market, whose feed continues at RATE."""
     last, steady = market().count, Steady()
     with Feed(steady) as feed, live(program, feed.port, *words) as server:
         while (got := fetch(program, server.port))[0] != 0 or number_of(got[1]) <= last:
@@ -186,7 +186,7 @@ def hammered(port, count):
 
 
 def clients_that_come_again_and_again_hinder_no_other(program):
-    """One, and then eight, log in, take an acceptance, leave and come again, beside a feed of 20,000 messages a second."""
+    """One, and then eight, log in, take an acceptance, leave and come again, beside a feed of 20,000 messages per second."""
     with busy_server(program) as (server, feed):
         alone = []
         for _ in range(3):
@@ -204,9 +204,10 @@ def clients_that_come_again_and_again_hinder_no_other(program):
                 yield f"beside {count} the feed was more than a second behind for {behind.longest:.2f} seconds"
 
 
-def until_closed(peers, beats):
-    """When each of these peers is closed, in seconds after the first one came; those of `beats` send a heartbeat each three seconds."""
+def until_closed(came, beats):
+    """How long each of these peers was served, in seconds, of the time that each one came; those of `beats` send a heartbeat every three seconds."""
     closed, begun, next_beat = {}, time.monotonic(), 3
+    peers = list(came)
     with selectors.DefaultSelector() as waiting:
         for peer in peers:
             waiting.register(peer, selectors.EVENT_READ)
@@ -215,7 +216,7 @@ def until_closed(peers, beats):
                 with contextlib.suppress(OSError):
                     if key.fileobj.recv(4096):
                         continue
-                closed[key.fileobj] = time.monotonic() - begun
+                closed[key.fileobj] = time.monotonic() - came[key.fileobj]
                 waiting.unregister(key.fileobj)
             if time.monotonic() > begun + next_beat:
                 next_beat += 3
@@ -236,9 +237,12 @@ def a_thousand_that_never_log_in_hinder_nobody(program):
     with Feed(plays(day, wait=end, held=ENDED)) as feed, live(program, feed.port) as server, contextlib.ExitStack() as held:
         while number_of(fetch(program, server.port)[1]) < number_of(wanted):
             time.sleep(0.05)
-        peers = [held.enter_context(connect(server.port)) for _ in range(1000)]
+        came = {}
+        for _ in range(1000):
+            at = time.monotonic()
+            came[held.enter_context(connect(server.port))] = at
         closing = []
-        waiting = threading.Thread(target=lambda: closing.extend(until_closed(peers, peers[::2])))
+        waiting = threading.Thread(target=lambda: closing.extend(until_closed(came, list(came)[::2])))
         waiting.start()
         told = told_within(server.port, 5)
         yield from differs("a client beside them is told", without_beats(told.data), answer(wanted))
@@ -262,7 +266,7 @@ def started_by(folder, program, before=":", output=""):
 
 
 def goes_on_differs(program, server, wanted):
-    """A client has the whole market before long, and the process runs."""
+    """A client has the complete market before long, and the process runs."""
     begun = time.monotonic()
     with contextlib.suppress(subprocess.TimeoutExpired):
         while (got := fetch(program, server.port, "--timeout", "2"))[0] == 0 and number_of(got[1]) < number_of(wanted):
@@ -274,7 +278,7 @@ def goes_on_differs(program, server, wanted):
 
 
 def in_two(day, half, goes, end):
-    """A script: so many messages of a day, and after an event the others; after another one it ends."""
+    """A script: this many messages of a day, and after an event the others; after another one it ends."""
     blocks = [packet(block) for block in split(day)]
 
     def script(peer, login):

@@ -1,12 +1,14 @@
-"""Runs that would take minutes, by a clock that goes faster (hurry.c): two feeds that fail in turn, each in a network namespace of its own, and a feed that
-stays for a minute.
+"""Runs that would take minutes, by a faster clock (hurry.c): feeds that fail in turn, stay for a minute or stay away, names that are found
+late, and what is said once a minute.
 
-RUNS has a function for each run, named for what it shows; it is given the program, and yields what differs. `hurried.py PROGRAM SHIM`, in a user
-and a network namespace of its own, prints what differs where two feeds fail in turn.
+RUNS lists the runs. Each is a function that is given the program and yields the
+differences. `hurried.py PROGRAM SHIM`, in a user and a network namespace of its own, prints what differs where two feeds fail in turn.
 """
 import contextlib
 import ctypes
+import fcntl
 import os
+import re
 import shutil
 import socket
 import struct
@@ -18,15 +20,19 @@ import time
 
 from common import differs, split
 from failing import build_shim
-from living import BEAT, ENDED, PATIENCE, SESSION, WORDS, Feed, Running, acceptance, day_of, folder_with, number_in, packet, plays, session_in
+from living import (BEAT, CLIENT_BEAT, ENDED, LOGIN, PATIENCE, SESSION, SILENCE, WORDS, Feed, Running, acceptance, answer, connect, day_of, folder_with,
+                    number_in, packet, plays, received, recorded, session_in, told, without_first_beats)
+from scraping import figures
 
 TIMES = 20
-# So many times the other feed is asked at least, of so many failures; and so many messages are sent before each.
+# How often the other feed is asked at least, how many failures there are, and how many messages are sent before each.
 CHANGES, TURNS, EACH = 200, 210, 3
 APART = ["unshare", "--user", "--map-root-user", "--net", "--mount"]
 NETWORKS = {"a": "10.87.1", "b": "10.87.2"}
 PORT = 5000
 NEW_NETWORK = 0x40000000
+# The longest pause of a feed that fails, in seconds, and how often it fails in a minute and some pauses more.
+LONGEST_PAUSE, FAILURES = 5, 21
 
 
 def hurried(shim):
@@ -163,9 +169,148 @@ def a_minute_of_success_makes_the_pauses_short_again(program):
     yield f"pauses of {[round(it, 1) for it in pauses]} seconds"
 
 
+def a_feed_that_stays_away_is_asked_less_often_however_long_it_does(program):
+    """A login was accepted once, over a minute ago: the pause is still five seconds."""
+    day, _ = day_of(20)
+    times, enough = [], threading.Event()
+
+    def stays_away(peer, login):
+        times.append(time.monotonic())
+        if len(times) == FAILURES:
+            enough.set()
+
+    with tempfile.TemporaryDirectory() as folder, Feed(plays(day), stays_away) as feed, \
+            Running(program, "live", "--feed", f"127.0.0.1:{feed.port}", "--port", "0", *WORDS, **hurried(build_shim(folder, "hurry.c"))):
+        enough.wait(PATIENCE)
+    pauses = [(after - before) * TIMES for before, after in zip(times, times[1:])]
+    if len(times) < FAILURES or sum(pauses[-4:]) < 4 * LONGEST_PAUSE / 2:
+        yield f"pauses of {[round(it, 1) for it in pauses]} seconds"
+
+
+def a_name_that_is_found_late_leaves_the_server_its_time(program):
+    """It has fifteen seconds to answer from when it is connected to: to find its name took longer than that."""
+    day, _ = day_of(20)
+    with tempfile.TemporaryDirectory() as folder, Feed(plays(day, then=ENDED)) as feed:
+        environment = {**hurried(build_shim(folder, "hurry.c")), "LOOKUP": str(1000 * (SILENCE + 5) // TIMES)}
+        with Running(program, "live", "--feed", f"localhost:{feed.port}", "--port", "0", *WORDS, **environment) as server:
+            yield from differs("said", server.said("feed: accepted", PATIENCE / 4), "feed: accepted from 1\n")
+
+
+def each_missed_snapshot_is_counted_in_one_line(program):
+    """A line says how many were not written since the line before, once a minute."""
+    day, _ = day_of(400)
+    stop = threading.Event()
+
+    def one_by_one(peer, login):
+        peer.sendall(acceptance(1))
+        for block in split(day):
+            if stop.wait(0.02):
+                return
+            peer.sendall(packet(block))
+
+    with folder_with() as folder, Feed(one_by_one) as feed:
+        (folder / "snapshots").mkdir()
+        words = "--snapshots", folder / "snapshots", "--every", "1"
+        with Running(program, "live", "--feed", f"127.0.0.1:{feed.port}", "--port", "0", *WORDS, *words, **hurried(build_shim(folder, "hurry.c"))) as server:
+            (folder / "snapshots").rename(folder / "elsewhere")
+            line = rf"snapshots: (\d+) not written, the last one {folder}/snapshots/(\d+).snap: "
+            first = re.match(line, server.said("snapshots: "))
+            server.said(rf"snapshots: (?!{first[1]} not written)")
+            stop.set()
+            found = [re.match(line, it) for it in server.lines if it.startswith("snapshots: ")]
+    counts, last = [int(it[1]) for it in found], int(found[-1][2])
+    yield from differs("lines, and those that were not written", (len(found), sum(counts)), (2, last - int(first[2]) + int(first[1])))
+
+
+def lines_that_are_lost_stay_counted(program):
+    """In the status, also after the line that says how many were lost."""
+    day, _ = day_of(20)
+    with folder_with() as folder, Feed(plays(day, wait=threading.Event())) as feed:
+        reader, writer = os.pipe()
+        words = "live", "--feed", f"127.0.0.1:{feed.port}", "--port", "0", *WORDS, "--status", "127.0.0.1:0", "--log", "text"
+        environment = {**os.environ, **hurried(build_shim(folder, "hurry.c"))}
+        server = subprocess.Popen([program, *words], stdin=subprocess.DEVNULL, stdout=subprocess.DEVNULL, stderr=writer, env=environment)
+        os.close(writer)
+        patience = threading.Timer(PATIENCE, server.kill)
+        patience.start()
+        with open(reader, encoding="ascii") as lines:
+            try:
+                yield from lost_lines_differ(server, lines)
+            finally:
+                patience.cancel()
+                server.kill()
+                server.wait()
+
+
+def lost_lines_differ(server, lines):
+    """The lines of a server are not read for a while, after the first two, which say where it listens. There is room for a page of them."""
+    server.status, port = (int(re.search(r' on="127.0.0.1:(\d+)"', lines.readline())[1]) for _ in range(2))
+    fcntl.fcntl(lines, fcntl.F_SETPIPE_SZ, 4096)
+    while not (lost := figures(server)["log_lines_lost_total"]):
+        told(port, LOGIN)
+    said = next(line for line in lines if " lines_lost " in line)
+    count = int(re.search(r"count=(\d+)", said)[1])
+    yield from differs("counted in the line, and then in the status", (count >= lost, figures(server)["log_lines_lost_total"] >= count), (True, True))
+
+
+def a_record_that_was_cut_is_looked_at_by_its_new_length(program):
+    """Each second, while its feed sends more: it was cut to its complete messages, and nobody else has cut it."""
+    day, _ = day_of(20)
+    blocks = split(day)
+
+    def one_by_one(peer, login):
+        first = number_in(login)
+        peer.sendall(acceptance(first))
+        for block in blocks[first - 1:]:
+            peer.sendall(packet(block))
+            time.sleep(0.3 / TIMES)
+        peer.sendall(ENDED)
+
+    with folder_with(**recorded(b"".join(blocks[:10]) + blocks[10][:7])) as folder, Feed(one_by_one) as feed:
+        words = "--feed", f"127.0.0.1:{feed.port}", "--port", "0", *WORDS, "--record", folder / "record"
+        with Running(program, "live", *words, **hurried(build_shim(folder, "hurry.c"))) as server:
+            status, _, lines = server.ended()
+        said = [it for it in lines if not it.startswith("feed: ")]
+        wanted = 0, ["record: dropped 7 bytes after message 10\n"], True
+        yield from differs("ended", (status, said, (folder / "record").read_bytes() == day), wanted)
+
+
+def a_client_that_waited_has_its_time_after_the_answer_too(program):
+    """It waits for a market for twenty seconds, and its connection is open for fifteen more once it is told all."""
+    day, snapshot = day_of(20)
+    begin, accepted = threading.Event(), len(acceptance(1))
+
+    def late(peer, login):
+        peer.sendall(acceptance(1))
+        while not begin.wait(1 / TIMES):
+            peer.sendall(BEAT)
+        peer.sendall(answer(snapshot)[accepted:])
+
+    with folder_with() as folder, Feed(late) as glimpse, Feed(plays(day, wait=begin)) as feed:
+        words = "--feed", f"127.0.0.1:{feed.port}", "--glimpse", f"127.0.0.1:{glimpse.port}"
+        with Running(program, "live", *words, "--port", "0", *WORDS, **hurried(build_shim(folder, "hurry.c"))) as server, connect(server.port) as client:
+            client.sendall(LOGIN)
+            received(client, accepted)
+            for _ in range(20):
+                client.sendall(CLIENT_BEAT)
+                time.sleep(1 / TIMES)
+            begun = time.monotonic()
+            begin.set()
+            yield from differs("told", without_first_beats(acceptance(1) + received(client)) == answer(snapshot), True)
+            server.has_lines(1)
+            if (seconds := (time.monotonic() - begun) * TIMES) < SILENCE / 2:
+                yield f"it was closed {seconds:.1f} seconds after it was told all"
+
+
 RUNS = [
     two_feeds_in_two_namespaces_fail_in_turn,
     a_minute_of_success_makes_the_pauses_short_again,
+    a_feed_that_stays_away_is_asked_less_often_however_long_it_does,
+    a_name_that_is_found_late_leaves_the_server_its_time,
+    each_missed_snapshot_is_counted_in_one_line,
+    lines_that_are_lost_stay_counted,
+    a_record_that_was_cut_is_looked_at_by_its_new_length,
+    a_client_that_waited_has_its_time_after_the_answer_too,
 ]
 
 if __name__ == "__main__":

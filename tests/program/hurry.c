@@ -1,9 +1,12 @@
-/* For tests, loaded into the program by LD_PRELOAD: its time goes as many times as fast as HURRY says. */
+/* For tests, loaded into the program by LD_PRELOAD: its time goes as many times as fast as HURRY says, and to look up a name takes as many
+ * milliseconds longer as LOOKUP says. */
 #define _GNU_SOURCE
 #include <dlfcn.h>
+#include <netdb.h>
 #include <stdlib.h>
 #include <sys/epoll.h>
 #include <time.h>
+#include <unistd.h>
 
 static long times(void) {
     const char *text = getenv("HURRY");
@@ -29,4 +32,14 @@ int epoll_wait(int poll, struct epoll_event *events, int most, int milliseconds)
     if (!next)
         next = (int (*)(int, struct epoll_event *, int, int))dlsym(RTLD_NEXT, "epoll_wait");
     return next(poll, events, most, milliseconds > 0 ? (milliseconds + (int)times() - 1) / (int)times() : milliseconds);
+}
+
+int getaddrinfo(const char *name, const char *service, const struct addrinfo *hints, struct addrinfo **found) {
+    static int (*next)(const char *, const char *, const struct addrinfo *, struct addrinfo **);
+    if (!next)
+        next = (int (*)(const char *, const char *, const struct addrinfo *, struct addrinfo **))dlsym(RTLD_NEXT, "getaddrinfo");
+    const char *text = getenv("LOOKUP");
+    if (text)
+        usleep(1000 * (useconds_t)atol(text));
+    return next(name, service, hints, found);
 }

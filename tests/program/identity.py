@@ -1,6 +1,6 @@
 """Sessions and records: records of another day, in use, changed or cut, and how much of a record is on disk.
 
-RUNS has a function for each run, named for what it shows; it is given the program, and yields what differs.
+RUNS lists the runs. Each is a function that is given the program and yields the differences.
 """
 import subprocess
 import tempfile
@@ -54,7 +54,7 @@ def a_feed_that_rejects_the_session_of_a_record_is_asked_for_its_own(program):
             got = live_in(folder, program, feed.port, "--record", "record")
             yield from differs("of this program", got, (1, b"", b"feed: rejected S\n" + line))
         yield from differs("the record", (folder / "record").read_bytes(), kept)
-        # One that is in the same session, or does not say, is asked again for that of the record.
+        # If it is in the same session, or does not say, it is asked again for that of the record.
         with Feed(rejected, sends(acceptance(1, b"DAY1")), rejected, plays(day, until=30, session=b"DAY1"), rejected, plays(day, then=ENDED, session=b"DAY1")) as feed:
             got = live_in(folder, program, feed.port, "--record", "record")
             yield from differs("the same", got[:2], (0, b""))
@@ -119,6 +119,18 @@ def a_record_without_a_session_file_is_refused(program):
         got = live_in(folder, program, feed.port, "--record", "record")
         yield from differs("no name", got, (1, b"", b"itchsnap: record: its session file names no session\n  record.session\n"))
         yield from differs("asked", [session_in(it).strip() for it in feed.logins], [b"DAY2", b"DAY1"])
+
+
+def a_session_file_that_cannot_be_read_is_named(program):
+    """Also where the session is named: what is in the file may be another one."""
+    day, _ = day_of(20)
+    kept = b"".join(split(day)[:5])
+    with folder_with(record=kept) as folder, Feed(plays(day, then=ENDED)) as feed:
+        (folder / "record.session").mkdir()
+        for words in ((), ("--session", "ITCHSNAP")):
+            got = live_in(folder, program, feed.port, "--record", "record", *words)
+            line = b"itchsnap: cannot open\n  record.session: Is a directory (os error 21)\n"
+            yield from differs(f"{words}", (got, feed.asked(), (folder / "record").read_bytes()), ((3, b"", line), [], kept))
 
 
 def an_empty_record_is_of_no_day(program):
@@ -227,7 +239,7 @@ def a_record_that_is_changed_ends_it(program):
 
 
 def what_is_checked_is_gone_on_with(program):
-    """What follows the last whole message of a record is dropped, and how much that is said: zeros, a block of length 0, half a block."""
+    """What follows the last complete message of a record is dropped, and how much that is said: zeros, a block of length 0, half a block."""
     day, _ = day_of(30)
     blocks = split(day)
     kept = b"".join(blocks[:20])
@@ -276,7 +288,7 @@ def a_record_is_on_disk(program):
 
 
 def a_record_may_be_optional(program):
-    """Then the server goes on without it where it cannot be written."""
+    """Then the server continues without it where it cannot be written."""
     day, wanted = day_of(300)
     end = threading.Event()
     with folder_with() as folder, Feed(plays(day, until=200, wait=end), plays(day, then=ENDED)) as feed, \
@@ -290,7 +302,7 @@ def a_record_may_be_optional(program):
 
 
 def an_optional_record_needs_no_session_file(program):
-    """Where that cannot be written the server says so, and goes on without the record; one that is not optional ends it."""
+    """Where that cannot be written the server says so, and continues without the record; one that is not optional ends it."""
     day, wanted = day_of(30)
     with folder_with() as folder, Feed(plays(day, then=ENDED)) as feed:
         (folder / "record.session.part").mkdir()
@@ -320,6 +332,7 @@ RUNS = [
     a_feed_that_rejects_the_session_of_a_record_is_asked_for_its_own,
     a_record_keeps_its_session,
     a_record_without_a_session_file_is_refused,
+    a_session_file_that_cannot_be_read_is_named,
     an_empty_record_is_of_no_day,
     a_snapshot_of_another_session_is_not_joined,
     a_feed_names_its_day,

@@ -1,6 +1,6 @@
-"""Servers that have nothing to do, or that can do nothing for a while: they use next to no processor time, and continue afterwards.
+"""Servers that have nothing to do, or can do nothing for a while, use next to no processor time.
 
-RUNS has a function for each run, named for what it shows; it is given the program, and yields what differs.
+RUNS lists the runs. Each is a function that is given the program and yields the differences.
 """
 import contextlib
 import socket
@@ -13,12 +13,12 @@ from common import differs, split
 from living import ENDED, LOGIN, WORDS, Feed, Running, acceptance, answer, connect, day_of, feeding, folder_with, live, packet, plays, received
 from standby import closed_port, waits_for
 
-# The share of a processor that a server may take, also where a message is to be due soon, and for how long it is looked at.
+# The share of a processor that a server may take, even if a message is due soon, and for how long it is measured.
 SHARE, SHARE_BEFORE_A_MESSAGE = 0.01, 0.05
 LOOK = 1
 # For how long a record is left alone.
 IDLE = 3
-# So many clients come while a call fails: more than the server has places.
+# This many clients come while a call fails: more than the server has slots.
 FEW, MANY = 2, 70
 
 

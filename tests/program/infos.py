@@ -1,6 +1,6 @@
-"""`info` of random days, and of days that are refused, against a reader of the messages written from the tables of TotalView-ITCH 5.0.
+"""`info` of random and of refused days, against a reader of its own.
 
-RUNS has a function for each run, named for what it shows; it is given the program, and yields what differs.
+RUNS lists the runs. Each is a function that is given the program and yields the differences.
 """
 import json
 import random
@@ -15,7 +15,7 @@ from messages import characters, clock
 
 DAYS = 60
 STOCKS = [b"AAPL    ", b"MSFT    ", b"BRK.A   ", b"ZVZZT   "]
-# Types that are not decoded, one of which is no printable character.
+# Types that are not decoded, one of which is not a printable character.
 OTHERS = [b"I", b"N", b"'", b'"', b"\\", b"\x00", b"\xff"]
 
 
@@ -118,7 +118,7 @@ class RandomDay:
 
 
 def summary(payloads):
-    """What these messages are, all of which follow the order rules: read anew, by the offsets of the standard."""
+    """What these messages are, all of which follow the order rules: read again, by the offsets of the standard."""
     times, events, stocks, shares, peak = [], [], set(), {}, 0
     for number, payload in enumerate(payloads, 1):
         kind, time = chr(payload[0]), int.from_bytes(payload[5:11], "big")

@@ -1,6 +1,6 @@
-"""`join` and `at` from each snapshot of a day to each part of the day: the output is that of `snap`.
+"""`join` and `at` from each snapshot to each part of a day: the output is that of `snap`.
 
-RUNS has a function for each run, named for what it shows; it is given the program, and yields what differs.
+RUNS lists the runs. Each is a function that is given the program and yields the differences.
 """
 import json
 import subprocess
@@ -63,7 +63,7 @@ def joins_until_each_time_are_snapshots_of_the_day(program):
 
 
 def write_checkpoints(folder, program, counts):
-    """Writes the snapshots after so many messages into a folder of their own, with their index."""
+    """Writes the snapshots after this many messages into a folder of their own, with their index."""
     snapshots = Path(folder) / "snapshots"
     snapshots.mkdir(exist_ok=True)
     lines = []

@@ -1,6 +1,6 @@
 """`live` with a record and snapshots, killed at each call in turn, by SIGTERM, or with a write that fails: a restart continues with both.
 
-RUNS has a function for each run, named for what it shows; it is given the program, and yields what differs.
+RUNS lists the runs. Each is a function that is given the program and yields the differences.
 """
 import signal
 import time
@@ -52,14 +52,14 @@ class Keeping:
 
 
 def the_record_has_what_each_snapshot_has(program):
-    """Wherever the process is killed, and wherever a write fails; and it goes on with both when it is started again."""
+    """Wherever the process is killed, and wherever a write fails; and it continues with both when it is started again."""
     with shim() as library:
         yield from failing_in_turn(Keeping(program, library, KILLS="1").attempt, "open write sync rename".split())
         yield from failing_in_turn(Keeping(program, library).attempt, ["write"])
 
 
 def sigterm_loses_nothing_that_a_client_was_sent(program):
-    """The record has each message of the snapshot that was fetched before, and a restart goes on with it to the whole day."""
+    """The record has each message of the snapshot that was fetched before, and a restart continues with it to the complete day."""
     day, _ = day_of(2000)
     blocks = split(day)
     with folder_with(day=day) as folder, feeding(program, folder / "day", "--rate", "4000") as feed:
@@ -68,7 +68,11 @@ def sigterm_loses_nothing_that_a_client_was_sent(program):
                 time.sleep(0.02 * nth)
                 status, snapshot, _ = fetch(program, server.port)
                 server.process.terminate()
-                yield from differs(f"{nth}", (status, server.ended()[0]), (0, -signal.SIGTERM))
+                ended, _, lines = server.ended()
+                # On a busy machine the day may be over before all eight were killed.
+                if ended == 0 and lines[-1].startswith("feed: ended"):
+                    break
+                yield from differs(f"{nth}", (status, ended), (0, -signal.SIGTERM))
             record = (folder / "record").read_bytes()
             if not day.startswith(record) or len(record) < len(b"".join(blocks[:number_of(snapshot) - 1])):
                 yield f"{nth}: a record of {len(record)} bytes, after a snapshot up to {number_of(snapshot)}"

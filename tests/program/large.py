@@ -61,7 +61,7 @@ def deleted(reference):
 
 
 def ladder(count):
-    """One side with `count` prices, which come in rising order; then all but the last thousand go, the worst in the middle first."""
+    """One side with `count` prices, which come in ascending order; then all but the last thousand go, the worst in the middle first."""
     day = [added(price, price) for price in range(1, count + 1)]
     gone = count - 1000
     middle = gone // 2

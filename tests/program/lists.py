@@ -1,6 +1,6 @@
-"""Lists of locates on the command line or in a file of any size, lists of stocks, and faults that are found before a file is opened.
+"""Lists of locates on the command line or in files of any size, lists of stocks, and faults found before a file is opened.
 
-RUNS has a function for each run, named for what it shows; it is given the program, and yields what differs.
+RUNS lists the runs. Each is a function that is given the program and yields the differences.
 """
 import os
 import tempfile
@@ -12,7 +12,7 @@ from large import entry, stock
 
 DAY = file("START AAPL BUY_1")
 BAD_LIST = 2, b"", b"itchsnap: bad locate list\n"
-# The words of a command that has a list, but for the list.
+# The arguments of a command that has a list, without the list.
 COMMANDS = (
     ("snap", "no.itch", "--only", "LIST", "--output", "no/out"),
     ("snap", "day.itch", "--only", "LIST", "--output", "no/out"),
@@ -74,7 +74,7 @@ def a_list_that_is_no_text_is_no_list(program):
 
 
 def directory(count):
-    """The Stock Directory messages of so many locates, each with a stock of its own."""
+    """The Stock Directory messages of this many locates, each with a stock of its own."""
     return b"".join(map(entry, range(count)))
 
 

@@ -1,6 +1,6 @@
 """`live`: a feed that is lost and comes back, clients of all kinds, records and snapshots.
 
-RUNS has a function for each run, named for what it shows; it is given the program, and yields what differs.
+RUNS lists the runs. Each is a function that is given the program and yields the differences.
 """
 import contextlib
 import re
@@ -20,7 +20,7 @@ from living import (BEAT, CLIENT_BEAT, ENDED, LOGIN, PATIENCE, SILENCE, WORDS, F
 
 
 def what_is_followed_is_served(program):
-    """Two clients at the whole market, and the end of the feed: the program ends once they are gone, and says how each ended."""
+    """Two clients at the complete market, and the end of the feed: the program ends once they are gone, and says how each ended."""
     day, wanted = day_of(300)
     end = threading.Event()
     with Feed(plays(day, wait=end, held=ENDED)) as feed, live(program, feed.port) as server:
@@ -37,7 +37,7 @@ def what_is_followed_is_served(program):
 
 
 def a_login_waits_for_a_market(program):
-    """A server that begins with a snapshot accepts a login at once, and answers it once that is whole, and not before: with heartbeats meanwhile."""
+    """A server that begins with a snapshot accepts a login at once, and answers it once that is complete, and not before: with heartbeats meanwhile."""
     day, wanted = day_of(50)
     begin, end = threading.Event(), threading.Event()
 
@@ -125,7 +125,7 @@ def a_record_that_is_no_day_file_is_refused(program):
         with folder_with(**recorded(kept)) as folder, Feed(plays(day, then=ENDED)) as feed:
             words = "--feed", f"127.0.0.1:{feed.port}", "--port", "0", *WORDS, "--record", "record"
             status, output, error = ended_in(folder, program, "live", *words)
-            lines = error.decode().splitlines()
+            lines = error.decode().splitlines()[1:]
             if (status, output, lines[1:]) != (1, b"", ["  record"]) or not lines[0].startswith(f"itchsnap: record: message {number}: "):
                 yield f"{kept!r}: {status}, {output!r}, {error!r}"
             yield from differs("record", (folder / "record").read_bytes(), kept)
@@ -133,7 +133,7 @@ def a_record_that_is_no_day_file_is_refused(program):
 
 
 def a_snapshot_is_where_it_begins(program):
-    """Its server is cut within it once, and asked for the whole again. Then all is as from the first message on."""
+    """Its server is cut within it once, and asked for all of it again. Then all is as from the first message on."""
     day, wanted = day_of(200)
     early, end = snapshot_after(program, day, 120), threading.Event()
     whole = answer(early)
@@ -288,7 +288,7 @@ def a_client_that_takes_nothing_hinders_no_other(program):
 
 
 def a_client_reads_to_the_end_before_it_is_closed(program):
-    """It has its whole answer although it goes on sending heartbeats, and the connection is open until it closes it."""
+    """It has its complete answer although it continues sending heartbeats, and the connection is open until it closes it."""
     day, wanted = day_of(2000)
     end = threading.Event()
     with Feed(plays(day, wait=end, held=ENDED)) as feed, live(program, feed.port) as server:
@@ -454,7 +454,7 @@ def a_folder_that_is_not_there_ends_it(program):
 
 
 def a_record_that_cannot_be_written_ends_it(program):
-    """A file may have so many bytes and no more: what was written of it is kept."""
+    """A file may have this many bytes and no more: what was written of it is kept."""
     day, _ = day_of(50)
     room = 500
 

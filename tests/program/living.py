@@ -47,13 +47,13 @@ def session_in(login):
 
 
 def block_in(peer):
-    """A whole block that a peer sends, or what there is before its end."""
+    """A complete block that a peer sends, or what there is before its end."""
     block = received(peer, 2)
     return block + received(peer, int.from_bytes(block, "big")) if len(block) == 2 else block
 
 
 def received(peer, count=None):
-    """So many bytes of a peer, or all that it sends before its end."""
+    """This many bytes of a peer, or all that it sends before its end."""
     pieces, left = [], float("inf") if count is None else count
     while left > 0 and (piece := peer.recv(int(min(left, 1 << 16)))):
         pieces.append(piece)
@@ -62,7 +62,7 @@ def received(peer, count=None):
 
 
 class Feed:
-    """A server of a feed: each connection is one of these scripts, called with the socket and the login; the last one goes on for ever.
+    """A server of a feed: each connection is one of these scripts, called with the socket and the login; the last one continues for ever.
     `logins` has what was asked, and `closing` is set once it is to end."""
 
     def __init__(self, *scripts, address="127.0.0.1", port=0):
@@ -157,7 +157,7 @@ class Running:
         return b"".join(self.output).count(b"\n")
 
     def has_lines(self, count):
-        """Waits for so many lines."""
+        """Waits for this many lines."""
         begun = time.monotonic()
         while self.count() < count and time.monotonic() < begun + PATIENCE:
             time.sleep(0.02)
@@ -245,7 +245,7 @@ def day_of(count, symbols=20):
 
 
 def recorded(record, session="ITCHSNAP"):
-    """A record, and the file beside it that names its session, as `folder_with` takes them."""
+    """A record, and the file next to it that names its session, as `folder_with` takes them."""
     return {"record": record, "record.session": f"{session}\n".encode()}
 
 

@@ -1,12 +1,15 @@
-"""Files of passwords and of users, which `live`, `follow` and `feed` read again when they change.
+"""Files of passwords and of users, which `live`, `follow` and `feed` read again when they change: their lengths, and their paths in the log.
 
-RUNS has a function for each run, named for what it shows; it is given the program, and yields what differs.
+RUNS lists the runs. Each is a function that is given the program and yields the differences.
 """
+import json
+import re
 import threading
 import time
 
 from common import differs, ended_in
 from living import ENDED, LOGIN, PATIENCE, WORDS, Feed, Running, acceptance, answer, connect, day_of, folder_with, plays, received, told
+from standby import waits_for
 
 ACCEPTED, REJECTED = b"A", b"J"
 USER = "--user", "user"
@@ -160,6 +163,32 @@ def wrong_files_of_users_are_told(program):
         yield from differs("nowhere", got, (3, b"", b"itchsnap: cannot open\n  nowhere: No such file or directory (os error 2)\n"))
 
 
+def a_file_of_users_may_have_65536_bytes(program):
+    """And not one more."""
+    users = b"user:secret\n".ljust(65_536, b"\n")
+    with folder_with(users=users, longer=users + b"\n", day=day_of(20)[0]) as folder:
+        with Running(program, "feed", folder / "day", "--port", "0", "--users", folder / "users") as server:
+            yield from differs("65,536 bytes", server.port and answered(server.port, "user", "secret"), ACCEPTED)
+        got = ended_in(folder, program, "feed", "day", "--port", "0", "--users", "longer")
+        yield from differs("65,537 bytes", got, (2, b"", b"itchsnap: bad users\n  longer: more than 65536 bytes\n"))
+
+
+def a_path_of_any_characters_is_in_the_log(program):
+    """Those that have a meaning there are spelled out: each line is still one object, with the path."""
+    day, _ = day_of(20)
+    name = 'a "word"\\of\tus\n'
+    for form in ("json", "text"):
+        with folder_with(**{name: b"secret\n"}) as folder, Feed(plays(day, wait=threading.Event())) as feed, \
+                Running(program, "live", "--feed", f"127.0.0.1:{feed.port}", "--port", "0", *USER, "--pass-file", folder / name, "--log", form,
+                        listens=False) as server:
+            waits_for(lambda: any("feed_accepted" in line for line in server.lines))
+            (folder / name).write_bytes(b"another\n")
+            waits_for(lambda: any("logins_reloaded" in line for line in server.lines))
+            line = next(it for it in server.lines if "logins_reloaded" in it)
+        path = json.loads(line)["file"] if form == "json" else json.loads(re.search(r'file=("(?:[^"\\]|\\.)*")', line)[1])
+        yield from differs(form, path, str(folder / name))
+
+
 def words_of_users_are_read(program):
     """One user or a file of them, and then a login for the feed."""
     with folder_with() as folder:
@@ -192,6 +221,8 @@ RUNS = [
     a_file_of_users_lets_each_of_them_in,
     a_file_that_is_wrong_changes_nothing,
     wrong_files_of_users_are_told,
+    a_file_of_users_may_have_65536_bytes,
+    a_path_of_any_characters_is_in_the_log,
     words_of_users_are_read,
     a_password_file_may_end_in_a_carriage_return,
 ]

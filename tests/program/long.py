@@ -1,6 +1,6 @@
 """Long inputs and unusual arguments: a list of many locates, the longest message, arguments that are not text.
 
-RUNS has a function for each run, named for what it shows; it is given the program, and yields what differs.
+RUNS lists the runs. Each is a function that is given the program and yields the differences.
 """
 import importlib
 import struct

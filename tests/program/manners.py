@@ -1,6 +1,6 @@
 """The program at a shell: its version, terminals, closed pipes, progress, `examples/parts`, and the manual page.
 
-RUNS has a function for each run, named for what it shows; it is given the program, and yields what differs.
+RUNS lists the runs. Each is a function that is given the program and yields the differences.
 """
 import os
 import pty
@@ -153,7 +153,7 @@ def progress_is_shown_every_64_mib(program):
                 if (ran.returncode, ran.stdout) != (0, output) or not re.fullmatch(error, ran.stderr):
                     yield f"{words[0]} {name}: status {ran.returncode}, {ran.stdout[:80]!r}, {ran.stderr!r}"
             yield from what_is_wrongly_shown(done.stderr, len(day))
-        # (of files that are read side by side the sum is shown, of which each may end within a message)
+        # (for files that are read side by side the sum is shown, and each may end within a message)
         both = subprocess.run([program, "compare", "--first", "--progress", file.name, file.name], capture_output=True, timeout=120)
         if (both.returncode, both.stdout) != (0, b"same\n") or not re.fullmatch(rb"(%s%s){4}\n" % (SHOWN, LEFT), both.stderr):
             yield f"side by side: status {both.returncode}, {both.stdout[:80]!r}, {both.stderr!r}"

@@ -355,6 +355,16 @@ static void play_time(const day *of, list wanted) {
     (void)wanted;
 }
 
+/* The messages at the locates that are wanted; where memory for these is refused, none is passed. */
+static void play_rows(const day *of, list wanted) {
+    itchsnap_row row;
+    buffer file = of->feed.file;
+    const uint8_t type = 'S';
+    itchsnap_decoded done = itchsnap_decode_blocks(file.bytes, file.len, 5, &type, 0, wanted.locates, wanted.count, &row, 1);
+    bool is_whole = granted(done.code, ITCHSNAP_OK, "rows");
+    must(done.count == 5 + (is_whole ? of->feed.count : 0) && done.len == (is_whole ? file.len : 0) && done.rows == 0, "the count of rows");
+}
+
 /* Two day files that are compared; where one is refused, it is the one which memory was refused for. */
 static void play_compare(const day *of, list wanted) {
     buffer file = of->feed.file;
@@ -452,6 +462,7 @@ int main(int argc, char **argv) {
         play(play_blocks, &of, lists[k]);
         play(play_load, &of, lists[k]);
         play(play_file, &of, lists[k]);
+        play(play_rows, &of, lists[k]);
         play(play_joiner, &of, lists[k]);
     }
     play(play_time, &of, all);

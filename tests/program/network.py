@@ -1,7 +1,7 @@
-"""`serve` and `fetch` at addresses and ports of all kinds, with a password from a file or the environment, in a session, with a time limit,
-and with peers of other protocols.
+"""`serve` and `fetch` at addresses of all kinds, with passwords from a file or the environment, sessions, time limits, and peers of other
+protocols.
 
-RUNS has a function for each run, named for what it shows; it is given the program, and yields what differs.
+RUNS lists the runs. Each is a function that is given the program and yields the differences.
 """
 import contextlib
 import os

@@ -1,8 +1,9 @@
-"""Unusual files: pipes, unreadable files, a day file that disappears, and an index with wrong numbers.
+"""Unusual files: pipes, packed and unreadable files, a day file that disappears, closed standard streams, and an index with wrong numbers.
 
-RUNS has a function for each run, named for what it shows; it is given the program, and yields what differs.
+RUNS lists the runs. Each is a function that is given the program and yields the differences.
 """
 import contextlib
+import gzip
 import json
 import os
 import shutil
@@ -102,6 +103,18 @@ def at_believes_no_number_that_is_not_of_its_file(program):
             yield from differs(f"file {name!r}", ended_in(folder, program, "at", "snapshots", "day", "7"), wanted)
 
 
+def a_shell_takes_the_hint_for_a_packed_file(program):
+    """Whatever its name is."""
+    day, _ = day_of(20)
+    for name in ("day.itch.gz", "a day.gz", "it's 'a' day.gz", "$(day) \\`*`.gz", 'a "day".gz'):
+        with folder_with(**{name: gzip.compress(day)}) as folder:
+            status, _, error = ended_in(folder, program, "check", name)
+            (folder / "itchsnap").symlink_to(program)
+            hint = error.decode().split(": this is a gzip file: ")[-1]
+            done = subprocess.run(["sh", "-c", f"PATH=.:$PATH; {hint}"], cwd=folder, capture_output=True, timeout=60)
+            yield from differs(name, (status, done.returncode, done.stdout, done.stderr), (1, 0, b"ok 40 messages\n", b""))
+
+
 def a_record_that_may_not_be_read_stays_as_it_is(program):
     """One that may only be appended to, one that may only be read, and one whose session may not be read: the feed is not asked."""
     day, _ = day_of(20)
@@ -144,10 +157,24 @@ def a_day_file_that_goes_away_is_played_to_those_who_have_it(program):
         yield from differs("endings", endings, [f"accepted from 1, {len(blocks)} packets"] * 2 + ["fault"] * 2)
 
 
+def no_file_takes_the_place_of_a_closed_stream(program):
+    """Where standard output or standard error is closed at the start, the lines for it go nowhere, and not into the record."""
+    day, _ = day_of(20)
+    for closed in "2>&-", ">&-":
+        command = "sh", "-c", f'exec "$0" "$@" {closed}', program
+        with folder_with() as folder, Feed(plays(day, then=ENDED)) as feed:
+            words = "--feed", f"127.0.0.1:{feed.port}", "--port", "0", *WORDS, "--record", "record"
+            done = subprocess.run([*command, "live", *words], cwd=folder, stdin=subprocess.DEVNULL, stdout=subprocess.DEVNULL,
+                                  stderr=subprocess.DEVNULL, timeout=60)
+            yield from differs(closed, (done.returncode, (folder / "record").read_bytes() == day), (0, True))
+
+
 RUNS = [
     at_reads_pipes_as_files,
     at_believes_no_offset_that_is_not_of_its_day,
     at_believes_no_number_that_is_not_of_its_file,
+    a_shell_takes_the_hint_for_a_packed_file,
     a_record_that_may_not_be_read_stays_as_it_is,
+    no_file_takes_the_place_of_a_closed_stream,
     a_day_file_that_goes_away_is_played_to_those_who_have_it,
 ]

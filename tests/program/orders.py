@@ -1,6 +1,6 @@
-"""`show --orders` on random days, beside a reader of its own: the live orders in a dictionary, after TotalView-ITCH 5.0.
+"""`show --orders` on random days, against a reader of its own.
 
-RUNS has a function for each run, named for what it shows; it is given the program, and yields what differs.
+RUNS lists the runs. Each is a function that is given the program and yields the differences.
 """
 import csv
 import io

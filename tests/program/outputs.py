@@ -1,6 +1,6 @@
-"""Snapshots that are written to a file, a device or a pipe: the file appears only when it is complete.
+"""Snapshots written to a file, a device or a pipe: the file appears only when it is complete.
 
-RUNS has a function for each run, named for what it shows; it is given the program, and yields what differs.
+RUNS lists the runs. Each is a function that is given the program and yields the differences.
 """
 import contextlib
 import os
@@ -101,7 +101,7 @@ def each_allocation_and_write_fails_in_turn(program):
 
 
 def nothing_is_left_of_a_file_that_gets_no_name(program):
-    """Where the file that is whole cannot be renamed, by each command that writes one."""
+    """Where the file that is complete cannot be renamed, by each command that writes one."""
     with folder_of_files() as folder, tempfile.TemporaryDirectory() as apart:
         environment = {"LD_PRELOAD": str(failing.build_shim(apart, "calls.c")), "FAIL": "rename:1", "FAILED": str(Path(apart) / "failed")}
         (folder / "out").mkdir()
@@ -134,7 +134,7 @@ def what_is_fetched_is_written_to_a_file(program):
             yield from differs(f"fetch {words}", got, (0, b"", b""))
             yield from differs(f"fetch {words}", ((folder / "out.snap").read_bytes(), names(folder)), (snapshot(program, DAY), ["out.snap"]))
             (folder / "out.snap").unlink()
-        # No server is there.
+        # There is no server.
         status, output, error = ended_in(folder, program, "fetch", "--port", "1", *LOGIN, "--output", "out.snap")
         if (status, output, names(folder)) != (3, b"", []) or not error.startswith(b"itchsnap: socket failed\n"):
             yield f"no server: {status}, {output}, {error}, {names(folder)}"

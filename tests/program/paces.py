@@ -1,6 +1,6 @@
-"""Times: the pauses before a lost feed is tried again, and messages that are played at a rate or by the clock.
+"""Times: the pauses before a lost feed is tried again, and messages played at a rate, by the clock, or from a late number on.
 
-RUNS has a function for each run, named for what it shows; it is given the program, and yields what differs.
+RUNS lists the runs. Each is a function that is given the program and yields the differences.
 
 A busy machine makes each thing late now and then, and nothing early. So nothing may be early, and in one of some attempts little may be late.
 """
@@ -16,13 +16,13 @@ from concurrent.futures import ThreadPoolExecutor
 
 from common import differs, split
 from living import (ENDED, LOGIN, Feed, acceptance, answer, block_in, connect, day_of, feeding, folder_with, follow, live, number_in, packet, plays,
-                    received, sends, snapshot_after, told)
+                    received, sends, snapshot_after, told, without_first_beats)
 from standby import closed_port, waits_for
 
-# What a clock in milliseconds may be off at either end.
+# How much a clock in milliseconds may be off at either end.
 TICK = 0.003
 ATTEMPTS = 3
-# The pauses before a server's turn comes again; the moment is looked at ten times a second.
+# The pauses before a server's turn comes again; the time is checked ten times per second.
 PAUSES = [0.1, 0.2, 0.4, 0.8]
 LATE = 0.25
 RATE, MESSAGES = 10, 20
@@ -159,6 +159,18 @@ def messages_are_played_one_by_one(program):
         yield from each_in_some_attempt([lambda row=row: spacing_differs(row[0], arrivals(row[1].port, row[2]), row[2]) for row in rows])
 
 
+def a_late_number_of_a_long_day_is_played_at_once(program):
+    """What comes before it is passed over in turns, which follow each other without a pause."""
+    count = 500_000
+    with folder_with(day=b"\0\1z" * count) as folder, feeding(program, folder / "day") as server:
+        begun = time.monotonic()
+        got = without_first_beats(told(server.port, LOGIN[:-20] + b"%20d" % count))
+        yield from differs("told", got, acceptance(count) + packet(b"\0\1z") + ENDED)
+        # A hundred and twenty turns, which would take ten times as long as a moment each.
+        if (seconds := time.monotonic() - begun) > 6:
+            yield f"told after {seconds:.1f} seconds"
+
+
 def one_of_many_who_guess_waits_longer_each_time(program):
     """256 addresses are known. Where there are more, the one that was quiet for longest is forgotten, and so not one that has just guessed."""
     day, _ = day_of(20)
@@ -220,6 +232,7 @@ RUNS = [
     a_refused_feed_is_asked_again_after_longer_and_longer_pauses,
     a_wrong_password_is_told_later_each_time,
     one_of_many_who_guess_waits_longer_each_time,
+    a_late_number_of_a_long_day_is_played_at_once,
     no_packet_waits_for_the_next_one,
     messages_are_played_one_by_one,
 ]

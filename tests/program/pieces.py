@@ -1,7 +1,6 @@
 """Each command over files with pieces of one byte: each read, write and allocation failing in turn, and each beginning of each file.
 
-What is wanted is worked out from the blocks of the files. RUNS has a function for each run, named for what it shows; it is given the
-program, and yields what differs.
+What is wanted is worked out from the blocks of the files. RUNS lists the runs. Each is a function that is given the program and yields the differences.
 """
 import bisect
 import contextlib
@@ -48,11 +47,11 @@ class Input:
         return list(itertools.accumulate(map(len, split(self.data)), initial=0))
 
     def whole(self, held):
-        """How many whole blocks so many bytes have."""
+        """How many complete blocks this many bytes have."""
         return bisect.bisect_right(self.starts(), held) - 1
 
     def line(self, held, fault):
-        """The line of a fault after so many bytes."""
+        """The line of a fault after this many bytes."""
         place = "" if self.is_snapshot else f"message {self.whole(held) + 1}: "
         return f"itchsnap: {self.prefix}{place}{fault}\n"
 
@@ -73,7 +72,7 @@ class Command:
         return not (self.words[0] == "join" and it.is_snapshot)
 
     def shown(self, held):
-        """What is written where the file fails after so many bytes: of `show` a line for each whole message."""
+        """What is written where the file fails after this many bytes: of `show` a line for each complete message."""
         lines = self.output.splitlines(keepends=True) if self.words[0] == "show" else []
         return b"".join(lines[:self.inputs[0].whole(held)])
 

@@ -1,6 +1,6 @@
 """`snap --to`: the snapshots of several points of a day file, and their index.
 
-RUNS has a function for each run, named for what it shows; it is given the program, and yields what differs.
+RUNS lists the runs. Each is a function that is given the program and yields the differences.
 """
 import contextlib
 import hashlib
@@ -27,7 +27,7 @@ def line_of(blocks, count, timestamp, **members):
 
 
 LINES = [line_of(split(DAY), count, timestamp) for count, timestamp in enumerate((None, 1, 2, 3))]
-# The words of the points, and after how many messages they are.
+# The arguments for the points, and after how many messages they are.
 POINTS = {
     "": [3],
     "--after 0": [0],

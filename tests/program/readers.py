@@ -1,6 +1,6 @@
-"""Runs of `live` among clients that read slowly: they have room as long as there is memory, and the slowest makes room where there is none.
+"""`live` with clients that read slowly: they have room while there is memory, and then the slowest makes room.
 
-RUNS has a function for each run, named for what it shows; it is given the program, and yields what differs.
+RUNS lists the runs. Each is a function that is given the program and yields the differences.
 """
 import contextlib
 import re
@@ -12,12 +12,12 @@ from hostile import ACCEPTED, PAUSE, SLACK, busy_server, market, told_within
 from living import BEAT, LOGIN, PATIENCE, SILENCE, block_in, connect, received
 from standby import waits_for
 
-# For how long a client waits for room before another one makes room, and by when one that takes 100 KB a second is slow.
+# For how long a client waits for room before another one makes room, and when one that takes 100 KB per second is slow.
 ROOM, SLOW = 0.5, 6
 
 
 class Reader:
-    """A client that takes so many bytes a second, as long as it is let."""
+    """A client that takes this many bytes per second, as long as it is let."""
 
     def __init__(self, port, rate, room=None):
         self.peer, self.rate, self.count, self.is_open, self.leaves = connect(port, room), rate, 0, True, threading.Event()
@@ -94,7 +94,7 @@ def twelve_slow_readers_have_room(program):
 
 
 def a_snapshot_waits_for_memory(program):
-    """Where no two fit, the second client hears that the server is there until the first has its own, and each has a whole one."""
+    """Where no two fit, the second client hears that the server is there until the first has its own, and each has a complete one."""
     with busy_server(program, "--snapshot-memory", "1M") as (server, _), Reader(server.port, 1_500_000, 1 << 18) as first:
         first.has_begun()
         told = told_within(server.port)
@@ -110,7 +110,7 @@ def the_reader_that_was_slow_for_longest_makes_room(program):
     with busy_server(program, "--snapshot-memory", "20M") as (server, _), contextlib.ExitStack() as held:
         for _ in range(2):
             held.enter_context(Reader(server.port, 100_000, 4096)).has_begun()
-        # By now each has taken less than a megabyte a second, what the system holds for it included.
+        # By now each has taken less than a megabyte per second, what the system holds for it included.
         time.sleep(SLOW)
         with Coming(server.port).peer as early:
             # It waits for less than half a second.

@@ -1,6 +1,6 @@
 """`serve` and `fetch` in two processes, and `serve` with peers that misbehave.
 
-RUNS has a function for each run, named for what it shows; it is given the program, and yields what differs.
+RUNS lists the runs. Each is a function that is given the program and yields the differences.
 """
 import contextlib
 import itertools
@@ -21,7 +21,7 @@ from common import readable
 
 EXAMPLES = Path(__file__).resolve().parent.parent.parent / "examples"
 LOGIN = b"\0\x2fLuser  secret    " + b" " * 10 + b"1".rjust(20)
-# A server has its whole file to read before it listens.
+# A server has to read its complete file before it listens.
 STARTING = 60
 PORTS = itertools.count(random.randrange(12_000))
 
@@ -30,7 +30,7 @@ def free_port():
     """A port below those that the system hands out, and another one at each call, so that no other run has it meanwhile."""
     while True:
         port = 20_000 + next(PORTS) % 12_000
-        # It does not listen: a process that another thread starts meanwhile holds it for a moment more, which does not hinder a server so.
+        # It does not listen: a process that another thread starts meanwhile holds it a little longer, which does not hinder a server.
         with contextlib.suppress(OSError), socket.socket() as probe:
             probe.setsockopt(socket.SOL_SOCKET, socket.SO_REUSEADDR, 1)
             probe.bind(("127.0.0.1", port))
@@ -238,7 +238,7 @@ def a_peer_killed_in_mid_answer_ends_nothing_else(program):
 
 
 def a_peer_that_breaks_the_protocol_is_not_waited_for(program):
-    """It says no packet, and goes on holding its connection: the next one is served at once."""
+    """It says no packet, and continues holding its connection: the next one is served at once."""
     wanted = snapshot(program, EXAMPLES / "opening.itch")
     with Server(program, EXAMPLES / "opening.itch", 2) as server, connect(server.port) as peer:
         begun = time.monotonic()

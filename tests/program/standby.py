@@ -1,6 +1,6 @@
 """`live` and `follow` with several servers of a feed, and with names that are looked up again.
 
-RUNS has a function for each run, named for what it shows; it is given the program, and yields what differs.
+RUNS lists the runs. Each is a function that is given the program and yields the differences.
 """
 import contextlib
 import socket
@@ -43,7 +43,7 @@ def waits_for(condition, seconds=PATIENCE):
 
 
 def a_feed_that_is_killed_is_gone_on_with_at_the_next(program):
-    """By `live`, whose record is the day, and which says where it goes on; by `follow` behind the same two, whose output is the rest of the day."""
+    """By `live`, whose record is the day, and which says where it continues; by `follow` behind the same two, whose output is the rest of the day."""
     day, wanted = day_of(400)
     early = snapshot_after(program, day, 10)
     with folder_with(day=day) as folder, contextlib.ExitStack() as held:
@@ -129,7 +129,7 @@ def a_refused_message_names_its_server(program):
 
 
 def a_name_that_is_not_found_is_looked_up_again(program):
-    """By `live`, which says so once, and goes on with the next server."""
+    """By `live`, which says so once, and continues with the next server."""
     day, wanted = day_of(20)
     with live(program, UNKNOWN, **QUICK) as server:
         yield from differs("said", server.said("feed: "), f"feed: not found ({UNKNOWN})\n")
@@ -157,7 +157,7 @@ def a_name_that_is_not_found_is_looked_up_again(program):
 
 
 def a_name_whose_address_changes_is_looked_up_again(program):
-    """Once its server is lost: the feed goes on at the new address."""
+    """Once its server is lost: the feed continues at the new address."""
     day, _ = day_of(20)
     if subprocess.run([*ALONE, "true"], stderr=subprocess.DEVNULL).returncode != 0:
         print("skipped: a name whose address changes: no namespaces of its own here")

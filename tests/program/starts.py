@@ -1,6 +1,6 @@
 """`./itchsnap` and `./install` in a fresh copy of the checkout: which program they choose and report.
 
-RUNS has a function for each run, named for what it shows; it is given the program, and yields what differs.
+RUNS lists the runs. Each is a function that is given the program and yields the differences.
 """
 import contextlib
 import os
@@ -15,14 +15,14 @@ from pathlib import Path
 TOP = Path(__file__).resolve().parent.parent.parent
 # Where no toolchain is.
 PLAIN = "/usr/bin:/bin"
-NAMES = ("itch_frame itch_codec itch_day itch_book itch_market itch_snapshot itch_soup itch_join itch_live itch_commands itchsnap_live "
-         "itchsnap_cli itch_tool").split()
+NAMES = ("itch_frame itch_codec itch_status itch_day itch_checkpoints itch_book itch_market itch_snapshot itch_soup itch_join itch_live itch_commands "
+         "itch_sessions itch_records itch_clients itchsnap_live itchsnap_cli itch_tool").split()
 CHANGED = "crates/itch_frame/src/lib.rt"
-# Where ./install puts the program and what belongs to it, in its order.
+# Where ./install puts the program and its other files, in its order.
 PLACES = ["bin/itchsnap", "share/man/man1/itchsnap.1", "share/bash-completion/completions/itchsnap", "share/zsh/site-functions/_itchsnap",
           "share/fish/vendor_completions.d/itchsnap.fish"]
 OTHER = "itchsnap: the sources are not those of the released program"
-# Builds nothing: the program that it makes prints its words. It takes a moment, and notes what it was called with.
+# Builds nothing: the program that it makes prints its arguments. It takes a little time, and notes its own arguments.
 FAKE_RT = """#!/bin/sh
 [ "$1" != "$FAILS" ] || { echo "rt: not proved"; exit 1; }
 echo "$1" >>"$CALLS"
@@ -170,7 +170,7 @@ def a_changed_definition_is_proved_and_built(_program):
 
 
 def a_release_that_is_not_proved_is_not_made(_program):
-    """What is released stays, and nothing is left beside it."""
+    """What is released stays, and nothing is left next to it."""
     with checkout() as copy:
         if subprocess.run([copy.top / "tools/pack", "--tools"], capture_output=True).returncode:
             print("skipped: a release that is not proved: no tools for its packages here")
@@ -232,7 +232,7 @@ def all_may_use_what_is_installed(_program):
 
 
 def a_program_that_runs_may_be_installed_over(_program):
-    """It goes on as it was."""
+    """It continues as it was."""
     with checkout() as copy:
         prefix = copy.folder / "prefix"
         copy.start(prefix, script="install")

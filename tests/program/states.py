@@ -1,6 +1,6 @@
-"""Clients that stop sending, or leave, before there is a market or a place for them, and clients that wait while descriptors are short.
+"""Clients that stop sending or leave before they are served, log in bit by bit, or wait while descriptors are short.
 
-RUNS has a function for each run, named for what it shows; it is given the program, and yields what differs.
+RUNS lists the runs. Each is a function that is given the program and yields the differences.
 """
 import contextlib
 import socket
@@ -10,6 +10,7 @@ from common import differs, readable, split
 from hostile import started_by, without_beats
 from idle import share_differs
 from living import CLIENT_BEAT, ENDED, LOGIN, Feed, acceptance, answer, connect, day_of, feeding, folder_with, live, packet, plays, received, told
+from standby import waits_for
 
 ACCEPTED = len(acceptance(1))
 LEFT = b"\0\x01O"
@@ -29,7 +30,7 @@ class Late:
 
 @contextlib.contextmanager
 def before_a_market(program, *words):
-    """A server that has no market yet, what a client is told in the end, and what lets the market come."""
+    """A server that has no market yet, what a client is told at the end, and what lets the market come."""
     day, snapshot = day_of(50)
     late, end = Late(snapshot), threading.Event()
     with Feed(late) as glimpse, Feed(plays(day, wait=end, held=ENDED)) as feed, \
@@ -49,7 +50,7 @@ def asks(port, held, more=b""):
 
 
 def rest_differs(label, clients, wanted):
-    """What differs where each of these clients is told this in the end, beside heartbeats, and after what was read before. Each goes then."""
+    """What differs where each of these clients is told this at the end, beside heartbeats, and after what was read before. Each goes then."""
     for place, (client, before) in enumerate(clients):
         with contextlib.suppress(ConnectionError):
             before += received(client)
@@ -90,6 +91,25 @@ def a_client_that_sends_no_more_waits_for_a_place(program):
         yield from rest_differs("client", heard, wanted)
 
 
+def a_long_packet_before_a_login_may_come_in_pieces(program):
+    """It is passed over, and the login after it is answered. Of `live` and of `feed`."""
+    day, snapshot = day_of(50)
+    whole = acceptance(1) + b"".join(map(packet, split(day))) + ENDED
+    rest, end = b"x" * 3000, threading.Event()
+    with folder_with(day=day) as folder, Feed(plays(day, wait=end, held=ENDED)) as feed, live(program, feed.port) as server, \
+            feeding(program, folder / "day") as other, contextlib.ExitStack() as held:
+        waits_for(lambda: told(server.port, LOGIN) == answer(snapshot))
+        for port, wanted in (server.port, answer(snapshot)), (other.port, whole):
+            client = held.enter_context(connect(port))
+            for piece in (len(rest).to_bytes(2, "big") + b"+", rest[:1000], rest[1000:2000]):
+                client.sendall(piece)
+                # When a later one is answered, these bytes have been read.
+                told(port, LEFT)
+            client.sendall(rest[2001:] + LOGIN)
+            yield from differs(f"{port}", received(client) == wanted, True)
+        end.set()
+
+
 def clients_wait_before_the_session_is_known(program):
     """They call before the feed has accepted a login, and nobody comes afterwards: each is told all there is."""
     day, _ = day_of(20)
@@ -115,7 +135,7 @@ def places_are_given_in_the_order_of_those_who_come(program):
         first = asks(server.port, held)
         yield from differs("first", received(first, ACCEPTED), acceptance(1))
         others = [asks(server.port, held) for _ in range(4)]
-        # By the time that this one is told, the logins of the others were heard.
+        # When this one is answered, the logins of the others have been read.
         yield from differs("rejected", told(server.port, LOGIN.replace(b"secret", b"wrong ")), b"\0\x02JA")
         for place, other in enumerate(others):
             first.close()
@@ -126,7 +146,7 @@ def places_are_given_in_the_order_of_those_who_come(program):
 
 
 def clients_wait_while_descriptors_are_short(program):
-    """More than there are descriptors for wait for a market: all are told it in the end, and meanwhile the server takes no time."""
+    """More than there are descriptors for wait for a market: all are told it at the end, and meanwhile the server takes no time."""
     with folder_with() as folder, before_a_market(started_by(folder, program, "ulimit -n 20")) as (server, wanted, begin, _), \
             contextlib.ExitStack() as held:
         clients = [(asks(server.port, held), b"") for _ in range(40)]
@@ -136,7 +156,7 @@ def clients_wait_while_descriptors_are_short(program):
 
 
 def clients_of_a_feed_wait_while_descriptors_are_short(program):
-    """More than there are descriptors for, of which each is played a file that is opened for it: all have the whole day in the end."""
+    """More than there are descriptors for, of which each is played a file that is opened for it: all have the complete day at the end."""
     day, _ = day_of(50)
     wanted = acceptance(1) + b"".join(map(packet, split(day))) + ENDED
     with folder_with(day=day) as folder, feeding(started_by(folder, program, "ulimit -n 20"), folder / "day") as server, \
@@ -152,6 +172,7 @@ def clients_of_a_feed_wait_while_descriptors_are_short(program):
 RUNS = [
     a_client_that_sends_no_more_waits_for_a_market,
     a_client_that_sends_no_more_waits_for_a_place,
+    a_long_packet_before_a_login_may_come_in_pieces,
     clients_wait_before_the_session_is_known,
     places_are_given_in_the_order_of_those_who_come,
     clients_wait_while_descriptors_are_short,

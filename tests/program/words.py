@@ -1,6 +1,6 @@
 """Help with its examples, completions, and usage errors.
 
-RUNS has a function for each run, named for what it shows; it is given the program, and yields what differs.
+RUNS lists the runs. Each is a function that is given the program and yields the differences.
 """
 import re
 import shutil
@@ -173,7 +173,7 @@ def each_command_has_an_example(program):
         if not example:
             yield f"{command} has none"
             continue
-        if command in ("serve", "fetch", "live", "follow", "feed"):
+        if command in ("serve", "fetch", "live", "follow", "feed", "status"):
             continue
         with tempfile.TemporaryDirectory() as folder:
             for name, blocks in FILES.items():
@@ -195,7 +195,7 @@ def completed(program, *typed):
 
 def bash_completes_what_is_typed(program):
     rows = {
-        ("itchsnap", "c"): ["check", "compare", "canon", "completions"],
+        ("itchsnap", "c"): ["check", "compare", "canon", "cut", "completions"],
         ("itchsnap", ""): [*commands(program), "help", "--help", "--version"],
         ("itchsnap", "snap", "--"): ["--after", "--until", "--every", "--to", "--only", "--stock", "--output", "--progress", "--help"],
         ("itchsnap", "fetch", "--host", "h", "--p"): ["--port", "--pass", "--pass-file"],

@@ -1,6 +1,6 @@
 """`Day`: times, numbers of messages, pieces, files of all kinds, memory, threads, and closed days.
 
-RUNS has a function for each run, named for what it shows; it yields what differs.
+RUNS lists the runs. Each is a function that yields the differences.
 """
 import array
 import datetime

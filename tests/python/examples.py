@@ -1,6 +1,6 @@
 """The examples of the package, against the program's output.
 
-RUNS has a function for each run, named for what it shows; it yields what differs.
+RUNS lists the runs. Each is a function that yields the differences.
 """
 import functools
 import itertools
@@ -23,7 +23,7 @@ SVG = "{http://www.w3.org/2000/svg}"
 STOCKS = ("AAPL", "MSFT", "NVDA")
 
 
-# What the first of the symbols is called, in a day of a crossed book.
+# The name of the first symbol, in a day of a crossed book.
 CROSSED = "S0000001"
 
 

@@ -1,6 +1,6 @@
 """The package as pip installs it, away from the checkout.
 
-RUNS has a function for each run, named for what it shows; it yields what differs.
+RUNS lists the runs. Each is a function that yields the differences.
 """
 import re
 import shutil
@@ -14,7 +14,7 @@ import sundrekk
 from common import differs
 
 PACKAGE = samples.TOP / "python"
-# What pip needs where it may not load anything.
+# The packages that pip needs if it may not download any.
 NEEDED = ("pip", "setuptools", "wheel")
 SNAP = """
 import sys

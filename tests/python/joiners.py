@@ -1,6 +1,6 @@
 """`Joiner`: feeds in any order, its answer to each message, and refused input.
 
-RUNS has a function for each run, named for what it shows; it yields what differs. No run reaches `TAKEN_NO_MEMORY`: it needs memory that is
+RUNS lists the runs. Each is a function that yields the differences. No run reaches `TAKEN_NO_MEMORY`: it needs memory that is
 refused, as tests/program/memory.c does for the library.
 """
 import random

@@ -1,6 +1,6 @@
 """`Market`: buffers of all kinds, pieces, look-ups against lists, refusals, and closed markets.
 
-RUNS has a function for each run, named for what it shows; it yields what differs.
+RUNS lists the runs. Each is a function that yields the differences.
 """
 import array
 import copy
@@ -22,7 +22,7 @@ from sundrekk import Applied, Day, Level, Market, Order, Reason, Refused, Snapsh
 
 DAY, SNAPSHOT = example("first_order.itch"), example("first_order.snap")
 CLOSED = ("WRONG_HANDLE", 0, None)
-# Every call of a market that is open, with words that it takes.
+# Every call of a market that is open, with arguments that it takes.
 CALLS = {
     "apply": (b"S",), "apply_blocks": (DAY,), "apply_file": (io.BytesIO(DAY),), "best": (1, "B"), "level": (1, "B", 1), "levels": (),
     "locates": (), "next_price": (1, "S"), "order": (1,), "order_count": (), "orders": (), "snapshot": (), "stock": (1,), "stocks": (),
@@ -81,7 +81,7 @@ def a_day_may_be_cut_at_each_byte():
 
 
 def a_file_is_read_in_pieces():
-    """However many bytes are read at a time: a whole file, one with an end block and bytes after it, one that ends within a block, and one
+    """However many bytes are read at a time: a complete file, one with an end block and bytes after it, one that ends within a block, and one
     that is refused."""
     for size in (1, 2, 3, 7, 14, 57, 64, 95, 96, 1 << 20):
         for after in (b"", b"\0\0", b"\0\0\0\1S" + DAY):
@@ -175,7 +175,7 @@ def payload_of(name):
 
 
 def messages_before_a_refusal_count():
-    """A piece is taken up to the message that is refused, whose number is that of the whole feed."""
+    """A piece is taken up to the message that is refused, whose number is that of the complete feed."""
     day = common.file("AAPL BUY_1 BUY_2 BUY_1 DELETE_1")
     with Market() as market:
         market.apply_blocks(common.file("START"))

@@ -1,6 +1,6 @@
 """The examples of python/README.md, and that each public name is explained.
 
-RUNS has a function for each run, named for what it shows; it yields what differs.
+RUNS lists the runs. Each is a function that yields the differences.
 """
 import doctest
 import inspect

@@ -1,7 +1,7 @@
 """The rows of tests/program/runs.ini for `snap`, `check`, `compare`, `canon`, `book` and `join`, by the package: the same bytes and refusals.
 Rows with arguments that the package has no call for are left out.
 
-RUNS has a function for each run, named for what it shows; it yields what differs.
+RUNS lists the runs. Each is a function that yields the differences.
 """
 import csv
 import io
@@ -11,7 +11,7 @@ import re
 import common
 from sundrekk import Day, Joiner, Level, Reason, Refused, Snapshot, Step, nanoseconds, payloads
 
-# What the package answers, by command: the options with a value, and the flags.
+# What the package supports, by command: the options with a value, and the flags.
 OPTIONS = {
     "snap": ({"--after", "--until", "--only"}, set()),
     "check": (set(), {"--json"}),
@@ -22,7 +22,7 @@ OPTIONS = {
 }
 # A row about files, streams and terminals is one of the program alone, and a large day has tests of its own.
 OTHERS = re.compile(r"^(day|snapshot) of |^folder$|^itchsnap: unknown stock$")
-# There are a few more. What leaves out rows by mistake is seen.
+# There are a few more. So rows that are left out by mistake are noticed.
 LEAST_ROWS = 200
 
 
@@ -120,7 +120,7 @@ def book(files, options):
 
 
 def best_of(levels, depth):
-    """The best prices of each side, at most so many."""
+    """The best prices of each side, at most this many."""
     bids, asks = ([it for it in levels if it.side == side] for side in "BS")
     return bids[:depth] + asks[:depth]
 

@@ -2,7 +2,7 @@
 
 A packet of the wrong side is none for the library, and leaves a session as it was.
 
-RUNS has a function for each run, named for what it shows; it yields what differs.
+RUNS lists the runs. Each is a function that yields the differences.
 """
 import samples
 from common import differs

@@ -1,6 +1,6 @@
 """`Snapshot`: as a value, as a file, and limited to some locates.
 
-RUNS has a function for each run, named for what it shows; it yields what differs.
+RUNS lists the runs. Each is a function that yields the differences.
 """
 import copy
 import pickle

@@ -1,6 +1,6 @@
-"""Orders and levels as tables: against the program's output, as sequences, and in numpy, pandas and pyarrow, where these are installed.
+"""Orders and levels as tables: against the program's output, as sequences, and in numpy, pandas and pyarrow, if installed.
 
-RUNS has a function for each run, named for what it shows; it yields what differs.
+RUNS lists the runs. Each is a function that yields the differences.
 """
 import csv
 import ctypes
@@ -139,7 +139,7 @@ def frames_of_pandas():
     for table, kind in ((snapshot.orders, Order), (snapshot.levels, Level)):
         frame = table.to_pandas()
         yield from differs("columns", tuple(frame.columns), kind._fields)
-        # What is missing is not equal to itself.
+        # A missing value is not equal to itself.
         rows = [kind(*(None if value != value else value for value in row)) for row in frame.itertuples(index=False)]
         yield from differs("rows", rows, list(table))
 

@@ -1,6 +1,6 @@
-"""The adapters, over GNU parallel and Dask where they are installed, and over stand-ins for the parts of them that are used.
+"""The adapters, over GNU parallel and Dask if installed, and over stand-ins for the parts of them that are used.
 
-RUNS has a function for each run of each engine, named for what it shows; it is given a folder, and yields what differs.
+RUNS lists the runs of each engine. Each is a function that is given a folder and yields the differences.
 """
 import contextlib
 import csv
@@ -235,7 +235,7 @@ def each_script_prints_its_usage(folder):
             done = subprocess.run(words, env=environment, capture_output=True, text=True, timeout=PATIENCE)
             if (done.returncode, done.stdout[:7], done.stderr) != (0, "usage: ", "") or "made" in done.stdout:
                 yield f"{words}: {done}"
-    # What is not understood is no line of a plan, and an engine is given none.
+    # A usage error prints no line of a plan, so the engine gets none.
     for words in [TOP / "scale/job", "plan"], [TOP / "scale/on-parallel"], [TOP / "scale/on-dask"]:
         done = subprocess.run([*words, "--he", "--out", out, day], env=parallel.environment, capture_output=True, text=True)
         yield from differs(f"{words} --he", (done.returncode, done.stdout), (USAGE, ""))

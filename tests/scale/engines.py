@@ -1,6 +1,6 @@
 """Jobs of many days at a time, by `xargs` and by processes of Python's own, which are killed and resumed.
 
-RUNS has a function for each run, named for what it shows; it is given a folder, and yields what differs.
+RUNS lists the runs. Each is a function that is given a folder and yields the differences.
 """
 import os
 import random
@@ -31,7 +31,7 @@ def whole_results(out):
 
 
 def torn_results(out):
-    """Results whose size is not that of their manifest: under a name there is a whole file or none."""
+    """Results whose size is not that of their manifest: under a name there is a complete file or none."""
     return [path.name for path in out.glob("*/*.snap") if path.with_name(f"{path.name}.json").exists()
             and manifest(path)["result"]["bytes"] != path.stat().st_size]
 
@@ -47,7 +47,7 @@ def xargs_does_a_plan(folder):
 
 
 class Workers:
-    """An engine of three workers, each of which does a job as a command and tries one that fails up to so many times."""
+    """An engine of three workers, each of which does a job as a command and tries one that fails up to this many times."""
 
     def __init__(self, tries):
         self.tries, self.running, self.tried = tries, set(), 0
@@ -69,7 +69,7 @@ class Workers:
 
 
 def workers_that_are_killed_lose_nothing(folder):
-    """Jobs are killed at moments of chance, in whatever they do, about one in two. Meanwhile no result is torn."""
+    """Jobs are killed at times of chance, in whatever they do, about one in two. Meanwhile no result is torn."""
     days, out = days_in(folder, 12, orders=3000), folder / "out"
     begin = time.monotonic()
     job("snapshots", "--out", folder / "tried", [*days][0])
@@ -126,7 +126,7 @@ def a_driver_that_is_killed_is_gone_on_with(folder):
 
 
 def a_job_that_goes_on_beside_its_retry_does_no_harm(folder):
-    """The engine takes a job for lost, and does it again, while it goes on."""
+    """The engine takes a job for lost, and does it again, while it continues."""
     [(day, snapshot)] = days_in(folder, 1).items()
     watched = Watched(folder)
     line = job("plan", "--out", folder / "out", "--program", watched.path, day).output

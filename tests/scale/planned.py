@@ -1,6 +1,6 @@
 """Plans of jobs, reports on them, and usage errors.
 
-RUNS has a function for each run, named for what it shows; it is given a folder, and yields what differs.
+RUNS lists the runs. Each is a function that is given a folder and yields the differences.
 """
 import os
 import shlex

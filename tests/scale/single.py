@@ -1,6 +1,6 @@
 """Jobs of one day: their results, when a result is made again, and days that are refused or cannot be read.
 
-RUNS has a function for each run, named for what it shows; it is given a folder, and yields what differs.
+RUNS lists the runs. Each is a function that is given a folder and yields the differences.
 """
 import contextlib
 import gzip
@@ -215,7 +215,7 @@ def a_day_without_messages_is_refused(folder):
 
 
 def cut_between_messages(data, messages):
-    """A .gz that is cut where what comes out of it is whole messages."""
+    """A .gz that is cut where what comes out of it is complete messages."""
     packer = zlib.compressobj(wbits=31)
     return packer.compress(messages) + packer.flush(zlib.Z_FULL_FLUSH), packer.compress(data[len(messages):]) + packer.flush()
 
@@ -225,7 +225,7 @@ def a_cut_day_is_a_failure_until_it_is_whole(folder):
     begun, rest = cut_between_messages(data, b"".join(large.entry(locate) for locate in range(1, 21)))
     bad_sum = gzip.compress(data)[:-8] + bytes(8)
     whole_zst = subprocess.run(["zstd", "-qc"], input=data, capture_output=True, check=True).stdout
-    # What the first one makes of it is a day to the program: a pipe has to pass the failure on.
+    # The output of the first one looks like a day to the program, so a pipe has to pass the failure on.
     seen = subprocess.run(["bash", "-c", f"gzip -dc | {PROGRAM} check"], input=begun, capture_output=True).stdout
     yield from differs("the program over a cut .gz", seen, b"ok 20 messages\n")
     for name, cut, whole in (("one.gz", begun, begun + rest), ("two.gz", gzip.compress(data)[:-9], gzip.compress(data)),

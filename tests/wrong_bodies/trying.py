@@ -63,7 +63,7 @@ def by_itself(crate, edit):
 
 @contextlib.contextmanager
 def copy_of(seed, name):
-    """Gives a copy of the seed beside it, for one check."""
+    """Gives a copy of the seed next to it, for one check."""
     over = f"{os.path.dirname(seed)}/{name}"
     rt.linked(seed, over)
     try:

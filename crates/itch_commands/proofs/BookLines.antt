@@ -1,4 +1,4 @@
--- The books of what a file leaves.
+-- The books after a file.
 use Rattle.std.proofs.Common.{◌≡◌, ℕ, Bool, true, List, ◌++◌, filter, flat_map, Option, None, Some, IsSome, Result, Ok, refl, sym, ap, ap₂, ◌∙◌, subst}
 use Rattle.std.specs.FinMap as finite
 use Rattle.std.proofs.KnownBytes.{Appends-nil}
@@ -19,7 +19,7 @@ use Rattle.itch_commands.specs.Outputs.{WritesText}
 use Rattle.itch_commands.specs.Files.{IsLaid}
 use Rattle.itch_commands.specs.Stocks.{are_known, has_one_of, IsStockFault}
 
--- a book has the same lines in whichever order its orders stand
+-- a book has the same lines in any order of its orders
 lines-laid : (form : BookForm) (locate : ℕ) (depth : Option ℕ) (stock : List ℕ) (orders : List Order) → AllFit orders
     → book_lines form locate depth stock (lay orders) ≡ book_lines form locate depth stock orders
 lines-laid form locate depth stock orders fit =
@@ -45,7 +45,7 @@ module _ (form : BookForm) (depth : Option ℕ) (m : Content) (locate : ℕ) whe
   lines_listed s stock orders there text same =
       ap₂ (λ t os. book_lines form locate depth t os) text same ∙ ap (listed_lines form depth (Content.orders m) locate) there
 
-  -- there is none of another locate
+  -- there are no lines for another locate
   pub nothing_listed : {W : Type 0} (contents : W → Option (List ℕ)) (failures : W → Failures) (old : W) → None ≡ finite.get (Content.securities m) locate
       → WritesText contents failures (lines_at form depth m locate) old (Ok tt) old
   nothing_listed contents failures old there =

@@ -16,7 +16,7 @@ abbrev pub ListedBefore : ℕ → Wanted → Securities → Type 0
 ListedBefore next set listings = (locate : ℕ) → locate < next → has set locate ≡ true → IsSome (finite.get listings locate)
 
 module _ {W : Type 0} (contents : W → Option (List ℕ)) (failures : W → Failures) (head : List ℕ) (lines : ℕ → List ℕ) (wanted : ℕ → Bool) (keys : List ℕ) (old : W) where
-  -- the books of the wanted ones of the locates seen were written, and the others are still to come
+  -- the books of the requested ones among the locates seen were written, and the others remain
   pub record BooksSoFar (seen left : List ℕ) (new : W) : Type 0 where
     pub locates : keys ≡ seen ++ left
     pub wrote : WritesText contents failures (head ++ flat_map lines (filter wanted seen)) old (Ok tt) new
@@ -34,14 +34,14 @@ module _ {W : Type 0} (contents : W → Option (List ℕ)) (failures : W → Fai
     seen_on : keys ≡ (seen ++ locate ∷ []) ++ left
     seen_on = so_far.locates ∙ sym (append_assoc seen (locate ∷ []) left)
 
-    -- a locate that is not wanted
+    -- a locate that is not requested
     pub book_passed : wanted locate ≡ false → BooksSoFar (seen ++ locate ∷ []) left mid
     book_passed out = record {
       locates = seen_on;
       wrote = subst (λ ls. WritesText contents failures (head ++ flat_map lines ls) old (Ok tt) mid) (sym (one_more false out ∙ append-nil (filter wanted seen))) so_far.wrote;
     }
 
-    -- one that is
+    -- one that is requested
     pub book_written : (new : W) → wanted locate ≡ true → WritesText contents failures (lines locate) mid (Ok tt) new → BooksSoFar (seen ++ locate ∷ []) left new
     book_written new in_set written = record {
       locates = seen_on;

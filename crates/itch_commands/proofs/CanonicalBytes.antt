@@ -19,16 +19,16 @@ use Rattle.itch_book.proofs.Lists.{All-right_rec}
 use Rattle.itch_snapshot.proofs.WrittenBlocks.{IsShort, snap_short}
 use Rattle.itch_commands.specs.Canons.{StripsFront}
 
--- what is stripped in two parts is stripped
+-- two prefixes stripped in turn are one prefix stripped
 pub strips_both : (bytes rest a b : List ℕ) (found : Option (Bor (List ℕ))) → bytes ≡ a ++ rest → StripsFront rest b found → StripsFront bytes (a ++ b) found
 strips_both bytes rest a b None first never = λ more same. never more (append_cancel_left a rest (b ++ more) (sym first ∙ same ∙ append_assoc a b more))
 strips_both bytes rest a b (Some r) first second = first ∙ ap (λ l. a ++ l) second ∙ sym (append_assoc a b r.now)
 
--- and where the first part is not there, nothing is
+-- and if the first one is not there, nothing is stripped
 pub strips_neither : (bytes a b : List ℕ) → ((more : List ℕ) → bytes ≢ a ++ more) → (more : List ℕ) → bytes ≢ (a ++ b) ++ more
 strips_neither bytes a b never more same = never (b ++ more) (same ∙ append_assoc a b more)
 
--- the bytes begin with the blocks of these messages, and the others are still to come
+-- the bytes begin with the blocks of these messages, and the others remain
 pub record Matched (m : Content) (bytes : List ℕ) (seen left : List Message) (rest : List ℕ) : Type 0 where
   pub messages : snap m ≡ seen ++ left
   pub front : bytes ≡ blocks (map spelling seen) ++ rest
@@ -42,7 +42,7 @@ module _ (m : Content) (bytes : List ℕ) (seen left : List Message) (rest : Lis
   next_short x others good next =
       (All-right_rec IsShort seen (x ∷ others) (subst (AllByRecursion IsShort) (so_far.messages ∙ ap (λ ms. seen ++ ms) next) (snap_short m good))).0
 
-  -- one message more
+  -- one more message
   pub matched_on : (x : Message) (others : List Message) (more : List ℕ) → IsGood m → left ≡ x ∷ others → (IsPayload (spelling x) → rest ≡ block (spelling x) ++ more)
       → Matched m bytes (seen ++ x ∷ []) others more
   matched_on x others more good next strips = record {
@@ -52,7 +52,7 @@ module _ (m : Content) (bytes : List ℕ) (seen left : List Message) (rest : Lis
         ∙ ap (λ b. b ++ more) (sym (ap blocks (map-append spelling seen (x ∷ [])) ∙ blocks-push (map spelling seen) (spelling x)));
   }
 
-  -- where the bytes are those of the market, the rest is those of the messages still to come
+  -- if the bytes are those of the market, the rest is those of the remaining messages
   rest_is : (next : ℕ) → bytes ≡ canon m ++ closing next → rest ≡ blocks (map spelling left) ++ closing next
   rest_is next same =
       let whole : canon m ≡ blocks (map spelling seen) ++ blocks (map spelling left) =
@@ -60,7 +60,7 @@ module _ (m : Content) (bytes : List ℕ) (seen left : List Message) (rest : Lis
       append_cancel_left (blocks (map spelling seen)) rest (blocks (map spelling left) ++ closing next)
       (sym so_far.front ∙ same ∙ ap (λ b. b ++ closing next) whole ∙ append_assoc (blocks (map spelling seen)) (blocks (map spelling left)) (closing next))
 
-  -- so they are not where the block of the next message does not stand there
+  -- so they are not, if the block of the next message does not come first
   pub not_matched : (x : Message) (others : List Message) (next : ℕ) → IsGood m → left ≡ x ∷ others → (IsPayload (spelling x) → (more : List ℕ) → rest ≢ block (spelling x) ++ more)
       → (false ≡ true) ↔ (bytes ≡ canon m ++ closing next)
   not_matched x others next good here never = (
@@ -83,7 +83,7 @@ module _ (m : Content) (bytes : List ℕ) (seen left : List Message) (rest : Lis
     none_left [] zero = refl
     none_left (x ∷ more) zero = let some : length (x ∷ more) ≡ 0 = eqb-true (length (x ∷ more)) 0 zero in absurd (omega (arith, some))
 
-    -- after the last message the closing block stands, and nothing after it
+    -- after the last message come the closing block and nothing more
     pub matched_all : (more : List ℕ) (alone : Bool) → IsMessage (is.End next) → (IsPayload (spelling (is.End next)) → rest ≡ closing next ++ more) → alone ≡ (length more == 0)
         → (alone ≡ true) ↔ (bytes ≡ canon m ++ closing next)
     matched_all more alone fits strips says =
@@ -93,7 +93,7 @@ module _ (m : Content) (bytes : List ℕ) (seen left : List Message) (rest : Lis
               says ∙ ap (λ b. length b == 0) (append_cancel_left (closing next) more [] (sym stripped ∙ only_closing same ∙ sym (append-nil (closing next)))),
         )
 
-    -- or it does not
+    -- or they do not
     pub not_closed : IsMessage (is.End next) → (IsPayload (spelling (is.End next)) → (more : List ℕ) → rest ≢ closing next ++ more) → (false ≡ true) ↔ (bytes ≡ canon m ++ closing next)
     not_closed fits never = (
       λ wrong. absurd (true≢false (sym wrong)),

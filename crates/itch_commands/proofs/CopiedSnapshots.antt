@@ -1,4 +1,4 @@
--- What reading a snapshot has copied so far, one block more, and what follows its End of Snapshot.
+-- The progress of copying a snapshot, one more block, and the bytes after its End of Snapshot.
 use Rattle.std.proofs.Common.{Bool, ◌≡◌, ◌≢◌, ℕ, ◌+◌, ◌-◌, ◌<◌, ◌≤◌, ◌^◌, ◌↔◌, true, false, List, [], ◌++◌, map, length, Option, None, Some, IfSome, Ok, Err, refl, sym, ap, subst, ◌∙◌, inl, inr, append-nil, arith}
 use Rattle.std.proofs.lemmas.Bool.{true≢false}
 use Rattle.std.specs.Io.KnownBytes.{Consumes, IsAtEnd}
@@ -38,7 +38,7 @@ pub record CopiedSoFar (old new : Option (List ℕ)) (load : Load) (count : ℕ)
   pub counted : load.taken ≡ count
   pub bytes : Consumes old new copy
 
--- at first none
+-- at first none was taken
 pub copied_first : (bytes : Option (List ℕ)) (load : Load) (copy : List ℕ) (m : Content) → IsGood m → laid m ≡ m → m ≡ load.market → load ≡ begun → copy ≡ [] → CopiedSoFar bytes bytes load 0 copy
 copied_first bytes load copy m good in_place here first none =
     let start : m ≡ empty = here ∙ ap (λ (l : Load). l.market) first in
@@ -56,7 +56,7 @@ end_read m old mid new taken n k next going (payload, off, (same, closes)) =
     (going.payloads, mid, subst (Takes m old mid going.payloads) (sym same) going.takes, subst (λ c. c ≤ 10 ^ 19 - 1) (sym going.counted) going.few, (payload, off, closes))
 
 module _ (old mid new : Option (List ℕ)) (load : Load) (count : ℕ) (copy : List ℕ) (so_far : CopiedSoFar old mid load count copy) where
-  -- then one message more
+  -- then one more message came
   pub copied_on : (next : Load) (more : List ℕ) → CopiesNext load.taken load.market mid new copy (Ok None) next.market more → next.taken ≡ load.taken + 1 → next.stage ≡ Taking → CopiedSoFar old new next (count + 1) more
   copied_on next more (step, (bytes, off, same)) taken stage = record {
     going = subst (λ c. Going empty old new c next.market) (sym taken) (message_read empty old mid new load.taken load.market next.market so_far.going step);
@@ -65,7 +65,7 @@ module _ (old mid new : Option (List ℕ)) (load : Load) (count : ℕ) (copy : L
     bytes = subst (Consumes old new) (sym same) (Consumes-trans old mid new copy bytes so_far.bytes off);
   }
 
-  -- or the end
+  -- or the end came
   pub copied_end : (next : ℕ) (n : Content) (more : List ℕ) → CopiesNext load.taken load.market mid new copy (Ok (Some next)) n more → CopiesAll old new (Ok next) n more
   copied_end next n more (step, (bytes, off, same)) =
       (end_read empty old mid new load.taken load.market n next so_far.going step, subst (Consumes old new) (sym same) (Consumes-trans old mid new copy bytes so_far.bytes off))
@@ -88,14 +88,14 @@ module _ (old mid new : Option (List ℕ)) (load : Load) (count : ℕ) (copy : L
   copied_refused tool.BadLocates n more h = absurd h
   copied_refused tool.TooMany n more h = absurd h
 
--- the copy is the file, where its input is at its end
+-- the copy is the file, if its input is at its end
 known_alone : (a b : Option (List ℕ)) (copy closed : List ℕ) (canonical : Bool) → Consumes a b copy → IsAtEnd b → ((canonical ≡ true) ↔ (copy ≡ closed)) → IfSome a (λ bytes. (canonical ≡ true) ↔ (bytes ≡ closed))
 known_alone None b copy closed canonical off end same = tt
 known_alone (Some x) None copy closed canonical off end same = absurd off
 known_alone (Some x) (Some y) copy closed canonical off end same =
     subst (λ bytes. (canonical ≡ true) ↔ (bytes ≡ closed)) (sym (off ∙ ap (λ l. copy ++ l) end ∙ append-nil copy)) same
 
--- what was taken leaves a good market
+-- the market after the messages taken is good
 taken_good : (b c : Option (List ℕ)) (ps : List (List ℕ)) (n : Content) → Takes empty b c ps n → IsGood n
 taken_good b c ps n takes =
     let fit : AreMessages (map message_of ps) = All-map_rec IsMessage message_of ps takes.fits in

@@ -1,4 +1,4 @@
--- What a command knows of the day file that it read.
+-- Known facts about the day file that a command has read.
 use Rattle.std.proofs.Common.{◌≡◌, ℕ, List, Option, Ok, Err, sym, subst}
 use Rattle.itch_frame.specs.Reading.{Reading, bytes_left}
 use Rattle.itch_frame.specs.declared.tally.Failures.{Failures}
@@ -11,13 +11,13 @@ use Rattle.itch_commands.specs.declared.fault.Source.{Source}
 use Rattle.itch_day.specs.declared.limit.Limit.{Limit}
 use Rattle.itch_commands.specs.Readings.{LeavesDay, ReadsMarket, CountsRead, ReadsDay}
 
--- what a command knows of the part of a day file that it read
+-- known facts about the part of a day file that a command has read
 pub read_done : (file : Source) (limit : Limit) (bytes new : Option (List ℕ)) (start : Content) (count : ℕ) (n : Content) → start ≡ empty
     → ReadsMarket file limit start bytes new (Ok count) n → Applied limit bytes new count n
 read_done file limit bytes new start count n first reads = part_read limit bytes new start count n first reads
 
 module _ {R : Type 0} (remaining : R → Option (List ℕ)) (failures : R → Failures) (file : Source) (limit : Limit) (old new : Reading R) where
-  -- what a day file was read for
+  -- the result of reading a day file
   pub day_done : (count : ℕ) (n : Content) (applied : Applied limit (bytes_left remaining old) (bytes_left remaining new) count n)
       → failures new.reader ≡ failures old.reader → LeavesDay (Ok count) limit old new → ReadsDay remaining failures file limit old new (Ok applied.payloads)
   day_done count n applied uncounted left = (
@@ -28,7 +28,7 @@ module _ {R : Type 0} (remaining : R → Option (List ℕ)) (failures : R → Fa
     subst (λ k. LeavesDay (Ok k) limit old new) (sym applied.counted) left,
   )
 
-  -- or why it was refused
+  -- or the reason why it was refused
   pub day_fails : (fault : ToolFault) (start n : Content) → start ≡ empty → ReadsMarket file limit start (bytes_left remaining old) (bytes_left remaining new) (Err fault) n
       → CountsRead {X = ℕ} (Err fault) (failures old.reader) (failures new.reader) → LeavesDay (Err fault) limit old new → ReadsDay remaining failures file limit old new (Err fault)
   day_fails fault start n first reads counts left =

@@ -1,4 +1,4 @@
--- What a command knows of a file that was read, and is as expected or not.
+-- Known facts about a file that was read, and meets the expectations or does not.
 use Rattle.std.proofs.Common.{◌≡◌, ℕ, List, map, Option, sym, ap, ◌∙◌}
 use Rattle.itch_codec.specs.Messages.{message_of}
 use Rattle.itch_market.specs.Content.{Content}
@@ -8,7 +8,7 @@ use Rattle.itch_commands.specs.declared.expected.Expected.{Expected}
 use Rattle.itch_day.specs.declared.limit.Limit.{Limit}
 use Rattle.itch_market.proofs.DayMessages.{Applied}
 
--- what the number of the messages and the last event differ in, the messages differ in
+-- messages differ from the expectations if their number and the last event do
 pub same_unmet : (expected : Expected) (limit : Limit) (bytes new : Option (List ℕ)) (count : ℕ) (n : Content) (applied : Applied limit bytes new count n) (event : Option ℕ)
     → event ≡ n.event → unmet_of expected applied.payloads ≡ unmet expected count event
 same_unmet expected limit bytes new count n applied event is =

@@ -1,4 +1,4 @@
--- What the reading of a feed returns.
+-- The result of reading a feed.
 use Rattle.std.proofs.Common.{◌≡◌, ℕ, ◌+◌, ◌-◌, ◌^◌, ◌<◌, ◌≤◌, ◌==◌, max, nat_le, nat_lt, Bool, true, false, cond, List, map, length, zero, suc, Option, None, Some, IsSome, IfSome, MatchResult, Result, Ok, Err, refl, sym, ap, subst, ◌∙◌, inl, inr, arith, eq-eqb}
 use Rattle.std.proofs.lemmas.Bool.{ne_eqb}
 use Rattle.std.proofs.lemmas.List.{length-map}
@@ -48,7 +48,7 @@ use Rattle.itch_commands.proofs.FeedStops.{feed_decided}
 use Rattle.itch_commands.proofs.JoinerSteps.{faulty_as, denied_as}
 use Rattle.itch_commands.proofs.PartReadings.{late_given}
 
--- a snapshot and a feed of this kind do not differ by a message that is late
+-- a snapshot and a feed of this kind do not differ by a late message
 never_late : (part : FeedPart) (next number : ℕ) → misfit_of part next ≡ Some (Late number) → ⊥
 never_late part next number is = by_gap (nat_le next part.before) is where
   by_wanted : (wanted : Option ℕ) → beyond wanted (next - 1) ≡ Some (Late number) → ⊥
@@ -62,7 +62,7 @@ never_late part next number is = by_gap (nat_le next part.before) is where
   by_gap true is = cc
   by_gap false is = by_wanted part.limit.after is
 
--- the two do not fit to each other
+-- the two do not match each other
 pub feed_misfits : {R : Type 0} (remaining : R → Option (List ℕ)) (failures : R → Failures) (read : List ℕ → List ℕ) (part : FeedPart) (old new : Reading R) (start : Start) (misfit : Misfit)
     → misfit_of part start.1 ≡ Some misfit → new ≡ old → ReadsFeed read remaining failures part old new start (Err (tool.Misfit misfit))
 feed_misfits remaining failures read part old new start (Gap next before) is same = (is, same)
@@ -78,7 +78,7 @@ before_here before count n limit counted = by_after limit.after where
   by_after None few = tt
   by_after (Some most) few = omega (arith, counted, few)
 
--- and as many as are wanted
+-- and as many as requested
 all_here : (before count n : ℕ) (limit : Limit) → count ≡ before + n → (most : ℕ) × ((of_day before limit).after ≡ Some most) × (most ≤ count)
     → (0 < n → IsWithin (of_day before limit) count) → limit.after ≡ Some n
 all_here before count n limit counted = by_after limit.after where
@@ -93,7 +93,7 @@ all_here before count n limit counted = by_after limit.after where
     by_count zero counts room = omega (arith, counts, same, all)
     by_count (suc k) counts room = let few : count ≤ before + wanted = room (omega arith) in omega (arith, counts, same, all, few)
 
--- the payloads that are wanted are the part of the feed
+-- the requested payloads are the part of the feed
 wanted_part : (read : List ℕ → List ℕ) (part : FeedPart) (start : Start) (old new : Option (List ℕ)) (ps : List (List ℕ)) → TakesWanted read part start old new ps
     → IfSome old (λ b. IsPart (part_of part start.1) b ps)
 wanted_part read part start old new ps (inl (all, takes)) = is_part (part_of part start.1) old new new ps takes.bytes (inl (all, refl))
@@ -104,7 +104,7 @@ ends_decided : (old : Option (List ℕ)) (P : List ℕ → Type 0) → IfSome ol
 ends_decided None P decided = tt
 ends_decided (Some b) P decided = decided tt
 
--- a laid market halts it no other way
+-- a laid market halts it in no other way
 halts_feed-laid : (read : List ℕ → List ℕ) (limit : Limit) (full : Bool) (m : Content) (old new : Option (List ℕ)) (why : Stop) → IsGood m → HaltsFeed read limit full (laid m) old new why
     → HaltsFeed read limit full m old new why
 halts_feed-laid read limit full m old new stop.End good halts = halts
@@ -113,7 +113,7 @@ halts_feed-laid read limit full m old new (stop.Codec f) good halts = halts
 halts_feed-laid read limit full m old new (stop.Rule why) good (p, off, room, refuses, in_time) = (p, off, room, refuses-laid m (read p) why good refuses, in_time)
 halts_feed-laid read limit full m old new stop.TooManyMessages good halts = halts
 
--- what was read ----------------------------------------------------------------
+-- the payloads that were read ---------------------------------------------------
 
 module _ {R : Type 0} (remaining : R → Option (List ℕ)) (failures : R → Failures) (part : FeedPart) (old new : Reading R) (count : ℕ) (j last k : Joining) (ps : List (List ℕ))
     (begins : IsStart (start_of (position_of j.state))) (fits : misfit_of part (Position.next (position_of j.state)) ≡ None)
@@ -165,7 +165,7 @@ module _ {R : Type 0} (remaining : R → Option (List ℕ)) (failures : R → Fa
     next = ap (λ (i : Joining). Position.next (position_of i.state)) same ∙ fed.next;
   }
 
-  -- the payloads that are wanted
+  -- the requested payloads
   done : (to : Reading R) → k ≡ last → IsJoined k.state → TakesWanted read part start (bytes_left remaining old) (bytes_left remaining to) ps → failures to.reader ≡ failures old.reader
       → LeavesDay (Ok (length ps)) limit old to → Feeds to (Ok tt)
   done to same joined wanted counts leaves = (
@@ -174,7 +174,7 @@ module _ {R : Type 0} (remaining : R → Option (List ℕ)) (failures : R → Fa
     after_now same joined,
   )
 
-  -- a stop where more are wanted
+  -- a stop before the requested end
   ends : (why : Stop) (to : Reading R) → IsBefore (of_day part.before limit) count → (IsOfMessage why → Position.next (position_of last.state) ≡ count + 1)
       → HaltsFeed read part.limit (count + 1 == 10 ^ 19) (Position.market (position_of last.state)) (bytes_left remaining new) (bytes_left remaining to) why
       → EndsFeed read part start (bytes_left remaining old) (bytes_left remaining to) ps why
@@ -193,7 +193,7 @@ module _ {R : Type 0} (remaining : R → Option (List ℕ)) (failures : R → Fa
           at_least : (s n l : ℕ) → n ≡ max s (part.before + l + 1) → n ≡ count + 1 → s ≤ number_after part.before ps
           at_least s n l next here = omega (arith, next, here, number)
 
-  -- what it returns
+  -- its result
   stops : (why : Stop) (to : Reading R) → (why ≡ stop.End → (k ≡ last) × IsJoined k.state) → EndsFeed read part start (bytes_left remaining old) (bytes_left remaining to) ps why
       → Counts why (failures old.reader) (failures to.reader) → LeavesReaderFirst old (length ps) (Some why) to → Feeds to (uncounted (stopped why (of_day part.before limit).after Only count))
   stops why to stays halts counts leaves = by_why why refl stays halts counts leaves where
@@ -236,7 +236,7 @@ module _ {R : Type 0} (remaining : R → Option (List ℕ)) (failures : R → Fa
   in_frame (Write sent error) never = absurd never
   in_frame TooLong never = absurd never
 
-  -- where no message is late
+  -- if no message is late
   pub feed_ends : (why : Part Refused) → (why ≡ reading.Late → ⊥) → StopsBy why → Leaves old (length ps) why new → CountsPart why (failures old.reader) (failures new.reader)
       → UnlessRefused why (MayTake k (count + 1)) → Feeds (left_by why new) (ended_feed (reason_of why) (of_day part.before limit).after count)
   feed_ends why other stops_by leaves counts ready = by_why why other stops_by ready left failed where
@@ -276,7 +276,7 @@ module _ {R : Type 0} (remaining : R → Option (List ℕ)) (failures : R → Fa
         ))
         failed left
 
-  -- where one is: the snapshot does not have it, or it does
+  -- if one is late: the snapshot does not have it, or it does
   pub feed_late : (next : ℕ) (result : Result (Unit {0}) ToolFault) → StopsBy reading.Late → Leaves {F = Refused} old (length ps) reading.Late new → CountsPart {F = Refused} reading.Late (failures old.reader) (failures new.reader)
       → MayTake k (count + 1) → next ≡ Position.next (position_of k.state)
       → MatchResult result (λ _. next ≤ count + 1) (λ fault. (fault ≡ tool.Misfit (Late (count + 1))) × (count + 1 < next)) → Feeds (passed new) result

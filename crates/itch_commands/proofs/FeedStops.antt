@@ -1,4 +1,4 @@
--- What the reading of a feed says of a feed whose bytes are known.
+-- The result of reading a feed determines facts about a feed whose bytes are known.
 use Rattle.std.proofs.Common.{◌≡◌, ℕ, ◌+◌, ◌-◌, ◌^◌, ◌<◌, ◌≤◌, ◌==◌, nat_lt, min, Bool, true, false, cond, List, [], ◌∷◌, ◌++◌, map, length, Option, None, Some, IfSome, refl, sym, ap, subst, ◌∙◌, inl, inr, arith, length-append, append-nil, eq-eqb}
 use Rattle.std.specs.List.{AllByRecursion}
 use Rattle.std.proofs.lemmas.Bool.{ne_eqb, eqb-true}
@@ -42,7 +42,7 @@ module _ (b : ℕ) (start : Start) where
         ap (λ qs. cause_at start.0 qs (k - (start.1 - 1 - b))) (drop-append-le (start.1 - 1 - b) done more room)
         ∙ cause_before start.0 (from_number b start.1 done) more (k - (start.1 - 1 - b)) inside ∙ none (k - (start.1 - 1 - b)) inside
 
-  -- the next payload is asked in the market that they leave
+  -- the next payload is checked against the market after them
   next_cause : (done : List (List ℕ)) (p : List ℕ) (more : List (List ℕ)) → start.1 ≤ b + length done + 1 → feed_cause_at b start (done ++ p ∷ more) (length done) ≡ cause (joined_market b start done) p
   next_cause done p more low =
       let above : nat_lt (b + length done + 1) start.1 ≡ false = grind (arith, nat_tests) in
@@ -72,7 +72,7 @@ module _ (b : ℕ) (start : Start) where
         before = λ k early. before_last (done ++ p ∷ more) rest k (omega arith) ∙ none_before done (p ∷ more) k none early;
       }
 
-  -- as many were taken as may be, and there is one more
+  -- the greatest number was taken, and there is one more
   first_over : (done : List (List ℕ)) (p : List ℕ) (more : List (List ℕ)) (rest : List ℕ) → length done ≡ most → NoCause start.0 (from_number b start.1 done)
       → IsFirst (feed_stop_at b start (done ++ p ∷ more) rest) (length done) TooManyMessages
   first_over done p more rest many none =
@@ -98,7 +98,7 @@ module _ (read : List ℕ → List ℕ) (b : ℕ) (start : Start) where
             (first_end b start (map read ps) rest (omega (arith, size, few)) none);
       }
 
-  -- the payloads as they are read, one of which stops it
+  -- the payloads as they are read, with one that stops the reading
   stopped_at : (done : List (List ℕ)) (p : List ℕ) (more : List (List ℕ)) (rest : List ℕ) (why : Stop) → IsFirst (feed_stop_at b start (map read done ++ read p ∷ map read more) rest) (length (map read done)) why
       → IsFirst (feed_stop_at b start (map read (done ++ p ∷ more)) rest) (length done) why
   stopped_at done p more rest why first =
@@ -135,7 +135,7 @@ module _ (read : List ℕ → List ℕ) (b : ℕ) (start : Start) where
           (first_over b start (map read done) (read p) (map read more) rest (length-map done read ∙ many) none);
     }
 
--- after the payloads that were taken the rest of the feed follows
+-- the rest of the feed follows the payloads that were taken
 module _ (read : List ℕ → List ℕ) (part : FeedPart) (start : Start) (b c : List ℕ) (ps : List (List ℕ)) (takes : TakesFeed read part start (Some b) (Some c) ps) where
   abbrev Stops : Stop → Type 0
   Stops = StopsFeed read part.before start b (length ps)
@@ -183,7 +183,7 @@ module _ (read : List ℕ → List ℕ) (part : FeedPart) (start : Start) (b c :
       let more = one_more new p off in
       full_stops read part.before start b more.0 ps p more.1 takes.full off.0 (is_full full) takes.taken
 
--- the stop is the one that the feed has
+-- the stop is that of the feed
 pub feed_decided : (read : List ℕ → List ℕ) (part : FeedPart) (start : Start) (old new : Option (List ℕ)) (ps : List (List ℕ)) (why : Stop) → EndsFeed read part start old new ps why
     → IfSome old (λ b. IsDecided why → StopsFeed read part.before start b (length ps) why)
 feed_decided read part start None new ps why ends = tt

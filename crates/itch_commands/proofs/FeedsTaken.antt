@@ -1,4 +1,4 @@
--- What a joiner has taken of a feed that was read.
+-- The payloads that a joiner has taken of a feed that was read.
 use Rattle.std.proofs.Common.{◌≡◌, ℕ, ◌+◌, ◌-◌, ◌<◌, max, nat_le, Bool, true, false, cond, List, [], ◌∷◌, map, length, drop, suc, None, Some, Ok, refl, sym, ap, ◌∙◌, subst, inl, inr, arith}
 use Rattle.std.proofs.lemmas.Bool.Decides.{nat_tests}
 use Rattle.std.proofs.lemmas.List.{drop_all}
@@ -24,21 +24,21 @@ use Rattle.itch_commands.specs.declared.feed_part.FeedPart.{FeedPart}
 use Rattle.itch_commands.specs.declared.feed_part.Misfit.TheVariants.{Gap}
 use Rattle.itch_commands.proofs.JoinerSteps.{taken_as}
 
--- a feed that fits to a snapshot does not begin after the message that is next
+-- a feed that matches a snapshot does not begin after the next message
 pub near : (part : FeedPart) (next : ℕ) → misfit_of part next ≡ None → part.before < next
 near part next none = by_test (nat_le next part.before) refl none where
   by_test : (b : Bool) → nat_le next part.before ≡ b → cond b (Some (Gap next part.before)) (beyond part.limit.after (next - 1)) ≡ None → part.before < next
   by_test true test none = absurd (let no_one : ⊥ = cc in no_one)
   by_test false test none = grind (arith, nat_tests)
 
--- A joiner has taken these payloads, given as they are read, after so many messages of the day: it was at this start.
+-- A joiner has taken these payloads, given as they are read, after that many messages of the day, from this start.
 pub record AreFed (before : ℕ) (start : Start) (payloads : List (List ℕ)) (j : Position) : Type 0 where
   pub none : NoCause start.0 (from_number before start.1 payloads)
   pub good : IsGood (joined_market before start payloads)
   pub market : j.market ≡ laid (joined_market before start payloads)
   pub next : j.next ≡ joined_next before start payloads
 
--- a payload below the snapshot's number adds nothing
+-- a payload below the snapshot's number has no effect
 fed_below : (before : ℕ) (m : Content) (next : ℕ) (q : List ℕ) (qs : List (List ℕ)) (j : Position) → before + 1 < next → AreFed (before + 1) (m, next) qs j → AreFed before (m, next) (q ∷ qs) j
 fed_below before m next q qs j below fed =
     let one : next - 1 - before ≡ suc (next - 1 - (before + 1)) = omega (arith, below) in
@@ -74,7 +74,7 @@ module _ (set : Wanted) where
   abbrev read : List ℕ → List ℕ
   read = as_read (has set)
 
-  -- what a joiner with this set takes, from a position whose market is this one laid out
+  -- the payloads that a joiner with this set takes, from a position whose market is this one laid out
   pub are_fed : (m : Content) (next before : ℕ) (ps : List (List ℕ)) (j k : Joining) → IsGood m → j.set ≡ set → Position.market (position_of j.state) ≡ laid m
       → Position.next (position_of j.state) ≡ next → before < next → TakesAll TakesNumbered j before ps k → AreFed before (m, next) (map read ps) (position_of k.state) × (k.set ≡ set)
   are_fed m next before [] j k good with_set there at low takes =

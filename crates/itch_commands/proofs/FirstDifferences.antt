@@ -1,4 +1,4 @@
--- Where two files stand after some messages of each, and one more.
+-- The positions of two files after some messages of each, and after one more.
 use Rattle.std.proofs.Common.{◌≡◌, ℕ, zero, suc, Result, ◌+◌, ◌-◌, ◌^◌, ◌≤◌, ◌<◌, ◌⊎◌, Bool, true, false, List, [], ◌∷◌, ◌++◌, map, take, length, Option, None, Some, IfSome, Ok, Err, inl, inr, refl, sym, ap, subst, ◌∙◌, ◌↔◌, arith, length-append}
 use Rattle.std.specs.List.{AllByRecursion}
 use Rattle.std.specs.Io.KnownBytes.{Consumes}
@@ -52,7 +52,7 @@ use Rattle.itch_commands.proofs.TrackedMarkets.{Changed, Denies, Tracks, alike_s
 count_by : (f fault : ToolFault) (count : ℕ) → count_of f ≡ Some count → ◌≡◌ {A = Result ℕ ToolFault} (Err f) (Err fault) → count_of fault ≡ Some count
 count_by f fault count counted is = let same : f ≡ fault = cc in subst (λ g. count_of g ≡ Some count) same counted
 
--- the number of messages before the fault that a stop returns
+-- the number of messages before the fault of a stop
 pub stopped_count : (stop : Stop) (wanted : Option ℕ) (file : Source) (count : ℕ) (fault : ToolFault) → stopped stop wanted file count ≡ Err fault → count_of fault ≡ Some count
 stopped_count End None file count fault is = absurd (cc)
 stopped_count End (Some most) file count fault is = count_by (tool.Short file count) fault count refl is
@@ -61,7 +61,7 @@ stopped_count (Codec f) wanted file count fault is = count_by (tool.Stopped file
 stopped_count (Rule why) wanted file count fault is = count_by (tool.Stopped file (record { count = count; stop = Rule why })) fault count refl is
 stopped_count TooManyMessages wanted file count fault is = count_by (tool.Stopped file (record { count = count; stop = TooManyMessages })) fault count refl is
 
--- a stop that returns a number is the end of the file, where no number of messages is wanted
+-- a stop with a number as its result is the end of the file, if no number of messages was requested
 pub stopped_end : (stop : Stop) (wanted : Option ℕ) (file : Source) (count some : ℕ) → stopped stop wanted file count ≡ Ok some → (stop ≡ End) × (wanted ≡ None)
 stopped_end End None file count some is = (refl, refl)
 stopped_end End (Some most) file count some is = absurd (cc)
@@ -70,7 +70,7 @@ stopped_end (Codec f) wanted file count some is = absurd (cc)
 stopped_end (Rule why) wanted file count some is = absurd (cc)
 stopped_end TooManyMessages wanted file count some is = absurd (cc)
 
--- what is before a number is within it, and one more too
+-- a count below a number is within it, and so is one more
 pub within_more : (wanted : Option ℕ) (count : ℕ) → IfSome wanted (λ most. count < most) → IfSome wanted (λ most. count + 1 ≤ most)
 within_more None count before = tt
 within_more (Some most) count before = omega arith
@@ -85,7 +85,7 @@ pub record AreApplied (limit : Limit) (p : List (List ℕ)) (n : Content) : Type
   pub fits : AllByRecursion Fits p
   pub left : n ≡ laid (run (map message_of p))
 
--- what ends the comparison where a file stops
+-- the end of the comparison if a file stops
 pub over_ends : (why : Option Stop) (limit : Limit) (file : Source) (count : ℕ) → over why limit file count ≡ Ok tt → (why ≡ None) ⊎ ((why ≡ Some End) × (limit.after ≡ None))
 over_ends None limit file count is = inl refl
 over_ends (Some stop) limit file count is = by_stop (stopped stop limit.after file count) refl where
@@ -109,7 +109,7 @@ module _ {R : Type 0} (remaining : R → Option (List ℕ)) (failures : R → Fa
     pub few : count ≤ 10 ^ 19 - 1
 
 module _ {R : Type 0} (remaining : R → Option (List ℕ)) (failures : R → Failures) (limit : Limit) where
-  -- as many messages were applied, and nothing after them was read
+  -- that many messages were applied, and nothing after them was read
   abbrev pub Goes : Reading R → Reading R → ℕ → List (List ℕ) → Content → Type 0
   Goes old new count p n = IsRead remaining failures (limited_to count limit) old new count p part.Full n
 
@@ -127,7 +127,7 @@ module _ {R : Type 0} (remaining : R → Option (List ℕ)) (failures : R → Fa
     few = omega arith;
   }
 
-  -- one step more: at most one message
+  -- one more step: at most one message
   module _ (old mid new : Reading R) (count total : ℕ) (p : List (List ℕ)) (m n : Content) (stop : Part Refused) (goes : Goes old mid count p m)
       (step : ReadsPart remaining failures TakesMessage RefusesMessage (limited_to (count + 1) limit) mid new count total m stop n) (few : total ≤ 10 ^ 19 - 1) where
     abbrev both : List (List ℕ)
@@ -170,7 +170,7 @@ module _ {R : Type 0} (remaining : R → Option (List ℕ)) (failures : R → Fa
     front_kept : (k : ℕ) → k ≤ count → take k both ≡ take k p
     front_kept k some = take-append-le k p step.payloads (omega (arith, some, number))
 
-    -- where nothing stopped it, it was one
+    -- if nothing stopped it, there was one
     one_more : stop ≡ part.Full → total ≡ count + 1
     one_more full = by_stop (subst (λ s. StopsAt remaining RefusesMessage (limited_to (count + 1) limit) total new step.last s n) full step.stops) where
       by_stop : StopsAt remaining RefusesMessage (limited_to (count + 1) limit) total new step.last part.Full n → total ≡ count + 1
@@ -178,7 +178,7 @@ module _ {R : Type 0} (remaining : R → Option (List ℕ)) (failures : R → Fa
           let more : most ≡ count + 1 = cc in
           let few : total ≤ count + 1 = within step.payloads step.taken.wanted step.taken.counted in omega (arith, all, more, few)
 
-    -- otherwise none was
+    -- otherwise there was none
     before_more : (stop : Part Refused) → (stop ≡ part.Full → ⊥) → StopsAt remaining RefusesMessage (limited_to (count + 1) limit) total new step.last stop n → total < count + 1
     before_more part.Full not_full stops = absurd (not_full refl)
     before_more part.Late not_full (same, before, late) = before
@@ -193,7 +193,7 @@ module _ {R : Type 0} (remaining : R → Option (List ℕ)) (failures : R → Fa
     none_more : (stop ≡ part.Full → ⊥) → total ≡ count
     none_more not_full = let less = before_more stop not_full step.stops in omega (arith, less, step.taken.counted)
 
-    -- and then it is what reading the part that is wanted does
+    -- and then the outcome is that of reading the requested part
     widened_stop : (last : Content) (stop : Part Refused) → (stop ≡ part.Full → ⊥) → IsBefore limit total → StopsAt remaining RefusesMessage (limited_to (count + 1) limit) total new last stop n
         → StopsAt remaining RefusesMessage limit total new last stop n
     widened_stop last part.Full not_full before stops = absurd (not_full refl)
@@ -239,14 +239,14 @@ module _ {R : Type 0} (remaining : R → Option (List ℕ)) (failures : R → Fa
       subst (λ q. TakesEarly limit empty (bytes_left remaining old) (bytes_left remaining new) count q n) goes.these
       (taken_by remaining failures file (limited_to count limit) old new count n goes.few part.Full goes.reads)
 
-  -- all that is wanted was applied, which is fewer
+  -- all requested messages were applied, which are fewer
   pub record IsOver (old new : Reading R) (count : ℕ) (p : List (List ℕ)) (n : Content) : Type 0 where
     pub fewer : length p < count
     pub read : ReadsDay remaining failures file limit old new (Ok p)
     pub fits : AllByRecursion Fits p
     pub left : n ≡ laid (run (map message_of p))
 
-  -- where a file stands after so many messages of each
+  -- the position of a file after that many messages of each
   abbrev pub Stands : Bool → Reading R → Reading R → ℕ → List (List ℕ) → Content → Type 0
   Stands true old new count p n = Goes remaining failures limit old new count p n
   Stands false old new count p n = IsOver old new count p n
@@ -263,14 +263,14 @@ module _ {R : Type 0} (remaining : R → Option (List ℕ)) (failures : R → Fa
   stands_few true old new count p n stands is = stands.few
   stands_few false old new count p n stands is = absurd (cc)
 
-  -- as many messages of a part were read as were to be
+  -- that many messages of a part were read, as intended
   front_read : (old new : Reading R) (count : ℕ) (p : List (List ℕ)) (n : Content) → Goes remaining failures limit old new count p n
       → ReadsDay remaining failures file (limited_to count limit) old new (Ok p)
   front_read old new count p n goes =
       subst (λ q. ReadsDay remaining failures file (limited_to count limit) old new (Ok q)) goes.these
       (all_by remaining failures file (limited_to count limit) old new count n goes.few part.Full goes.reads refl)
 
-  -- what was read so far
+  -- the payloads read so far
   pub up_to : (goes : Bool) (old new : Reading R) (count : ℕ) (p : List (List ℕ)) (n : Content) → IsWithin limit count → Stands goes old new count p n
       → ReadsUpTo remaining failures file limit count old new p
   up_to true old new count p n within stands = let takes = goes_taken old new count p n stands in inl (takes.1, within, front_read old new count p n stands)
@@ -279,20 +279,20 @@ module _ {R : Type 0} (remaining : R → Option (List ℕ)) (failures : R → Fa
   same_limit : (count : ℕ) → limit.after ≡ Some count → limited_to count limit ≡ limit
   same_limit count all = let part : Option ℕ → Limit = λ after. record { after = after; until = limit.until } in ap part (sym all)
 
-  -- after as many messages as may come the part that is wanted was read
+  -- after the most messages the requested part was read
   pub whole_part : (goes : Bool) (old new : Reading R) (count : ℕ) (p : List (List ℕ)) (n : Content) → count ≡ most_of limit.after → Stands goes old new count p n
       → ReadsDay remaining failures file limit old new (Ok p)
   whole_part true old new count p n most stands =
       subst (λ l. ReadsDay remaining failures file l old new (Ok p)) (same_limit count (all_wanted limit.after count most stands.few)) (front_read old new count p n stands)
   whole_part false old new count p n most stands = stands.read
 
-  -- where a file stands after one step more
+  -- the position of a file after one more step
   pub record StandsOn (goes : Bool) (old new : Reading R) (count : ℕ) (p : List (List ℕ)) (n : Content) : Type 0 where
     pub payloads : List (List ℕ)
     pub stands : Stands goes old new (count + 1) payloads n
     pub front : (k : ℕ) → k ≤ count → take k payloads ≡ take k p
 
-  -- nothing more of it is wanted
+  -- no more of it was requested
   pub stays_over : (goes : Bool) (old new : Reading R) (count : ℕ) (p : List (List ℕ)) (n : Content) → goes ≡ false → Stands goes old new count p n → StandsOn goes old new count p n
   stays_over true old new count p n is stands = absurd (cc)
   stays_over false old new count p n is stands = record {
@@ -301,7 +301,7 @@ module _ {R : Type 0} (remaining : R → Option (List ℕ)) (failures : R → Fa
     front = λ k within. refl;
   }
 
-  -- the part that is wanted is over where this stops it
+  -- the requested part is over if this stops it
   pub read_over : (old new : Reading R) (count : ℕ) (n : Content) (few : count ≤ 10 ^ 19 - 1) (stop : Part Refused)
       (reads : ReadsPart remaining failures TakesMessage RefusesMessage limit old new 0 count empty stop n) → (reason_of stop ≡ None) ⊎ ((reason_of stop ≡ Some End) × (limit.after ≡ None))
       → ReadsDay remaining failures file limit old (left_by stop new) (Ok reads.payloads)
@@ -342,7 +342,7 @@ module _ {R : Type 0} (remaining : R → Option (List ℕ)) (failures : R → Fa
       wide : IsRead remaining failures limit old new total (p ++ step.payloads) stop n
       wide = widened remaining failures limit old mid new count total p m n stop going step few not_full before
 
-      -- no message was
+      -- no message was applied
       pub still_there : n ≡ m
       still_there = kept_at remaining (limited_to (count + 1) limit) total new step.last n stop step.stops ∙ last_is step.payloads step.taken.taken (omega (arith, none, step.taken.counted)) where
         last_is : (qs : List (List ℕ)) → TakesAll TakesMessage m count qs step.last → length qs ≡ 0 → step.last ≡ m
@@ -382,7 +382,7 @@ module _ {R : Type 0} (remaining : R → Option (List ℕ)) (failures : R → Fa
             },
           )
 
--- a file whose market is tracked, after one step more
+-- a file whose market is tracked, after one more step
 module _ {R T : Type 0} (remaining : R → Option (List ℕ)) (failures : R → Failures) (file : Source) (limit : Limit) (market : T → Content) (change : T → Message)
     (goes : Bool) (old mid new : Reading R) (count total : ℕ) (p : List (List ℕ)) (s t : T) (stop : Part Refused) (on : goes ≡ true)
     (stands : Stands remaining failures file limit goes old mid count p (market s))
@@ -409,14 +409,14 @@ module _ {R T : Type 0} (remaining : R → Option (List ℕ)) (failures : R → 
   was_refused not_full before fault returns =
       refused_there remaining failures file limit goes old mid new count total p (market s) (market t) stop on stands step few not_full before fault returns
 
--- or nothing more of it is wanted
+-- or no more of it was requested
 pub was_over : {R T : Type 0} (remaining : R → Option (List ℕ)) (failures : R → Failures) (file : Source) (limit : Limit) (market : T → Content) (change : T → Message) (goes : Bool) (old new : Reading R) (count : ℕ)
     (p : List (List ℕ)) (s : T) → goes ≡ false → Stands remaining failures file limit goes old new count p (market s) → change s ≡ nothing
     → StandsOn remaining failures file limit goes old new count p (market s) × Changed (market s) (change s) (market s)
 was_over remaining failures file limit market change goes old new count p s over stands none =
     (stays_over remaining failures file limit goes old new count p (market s) over stands, inl (none, refl))
 
--- the same of what is equal
+-- the same for equal values
 pub along : {R T : Type 0} (remaining : R → Option (List ℕ)) (failures : R → Failures) (file : Source) (limit : Limit) (market : T → Content) (change : T → Message) (old new to : Reading R) (count : ℕ) (p : List (List ℕ))
     (m : Content) (goes went : Bool) (t u : T) → went ≡ goes → to ≡ new → u ≡ t → StandsOn remaining failures file limit goes old new count p (market t) × Changed m (change t) (market t)
     → StandsOn remaining failures file limit went old to count p (market u) × Changed m (change u) (market u)
@@ -426,7 +426,7 @@ along remaining failures file limit market change old new to count p m goes went
   subst (λ x. Changed m (change x) (market x)) (sym is) changed,
 )
 
--- the markets of all payloads that were applied are those after any number that is no smaller
+-- the markets after all payloads that were applied are those after any number that is not smaller
 pub same_there : (limit : Limit) (p q : List (List ℕ)) (m n : Content) (k : ℕ) → AreApplied limit p m → AreApplied limit q n → length p ≤ k → length q ≤ k → Same m n ↔ IsSameAt p q k
 same_there limit p q m n k one other short brief =
     subst (λ x. Same m n ↔ Same (run (map message_of x)) (run (map message_of (take k q)))) (sym (take_all k p short))
@@ -436,7 +436,7 @@ same_there limit p q m n k one other short brief =
 applied_good : (limit : Limit) (p : List (List ℕ)) (n : Content) → AreApplied limit p n → IsGood n
 applied_good limit p n are = subst IsGood (sym are.left) (laid_good (run (map message_of p)) (taken_good limit p are.fits are.taken))
 
--- and after any greater number they stay so
+-- and they stay the same after any greater number
 same_later : (p q : List (List ℕ)) (count k : ℕ) → length p ≤ count → length q ≤ count → count ≤ k → IsSameAt p q count → IsSameAt p q k
 same_later p q count k short brief later same =
     let one : take count p ≡ take k p = take_all count p short ∙ sym (take_all k p (omega arith)) in
@@ -446,7 +446,7 @@ same_later p q count k short brief later same =
 
 module _ {R S : Type 0} (remaining : R → Option (List ℕ)) (failures : R → Failures) (remaining_then : S → Option (List ℕ)) (failed_then : S → Failures) (limit : Limit)
     (a : Reading R) (c : Reading S) where
-  -- both files after so many messages of each, of which the last may have made a difference
+  -- both files after that many messages of each; the last one may have made a difference
   pub record Paired (b : Reading R) (d : Reading S) (count last : ℕ) (goes too : Bool) (m n : Content) : Type 0 where
     pub p : List (List ℕ)
     pub q : List (List ℕ)
@@ -481,7 +481,7 @@ module _ {R S : Type 0} (remaining : R → Option (List ℕ)) (failures : R → 
     )
 
     module _ (to : Reading R) (went : Bool) (x : Content) (first_on : StandsOn remaining failures First limit went a to count paired.p x) where
-      -- the second file is
+      -- the second file is refused
       pub second_refused : (up : Reading S) (fault : ToolFault) → (length paired.q ≡ count) × IsRefusedAfter remaining_then failed_then Second limit c up fault paired.q
           → FindsFirst remaining failures remaining_then failed_then limit a to c up (Err fault)
       second_refused up fault (counted, refused) = inr (
@@ -507,7 +507,7 @@ module _ {R S : Type 0} (remaining : R → Option (List ℕ)) (failures : R → 
               (subst (λ z. Same (run (map message_of (take k paired.p))) (run (map message_of z))) (sym (second_on.front k within)) (paired.same k within));
         }
 
-    -- and changes that are alike leave the markets the same
+    -- and changes with the same effect leave the markets the same
     pub alike_on : (x y : Content) (change also : Message) → Changed m change x → Changed n also y → change ≡ also → Same x y
     alike_on x y change also changed changed_too alike =
         let one = stands_applied remaining failures First limit goes a b count paired.p m paired.one in
@@ -566,7 +566,7 @@ module _ {R S : Type 0} (remaining : R → Option (List ℕ)) (failures : R → 
       | inr later ↦ same_later paired.p paired.q count k one_within other_within later (paired.same count (omega arith))
     ]
 
-    -- or no more of either is wanted
+    -- or no more of either was requested
     pub same_to_the_end : last ≡ count → count ≡ most_of limit.after → FindsFirst remaining failures remaining_then failed_then limit a b c d (Ok None)
     same_to_the_end all most = (
       paired.p,

@@ -1,4 +1,4 @@
--- What is returned where it is known whether all stocks were found.
+-- The result once it is known whether all stocks were found.
 use Rattle.std.proofs.Common.{◌≡◌, ℕ, Bool, true, false, List, Option, Result, Ok, Err, inl, inr, refl, subst, if◌then◌else◌}
 use Rattle.itch_frame.specs.Reading.{Reading}
 use Rattle.itch_frame.specs.declared.tally.Failures.{Failures}
@@ -25,7 +25,7 @@ found_fails shows tool.TooMany never is = is
 found_fails shows (tool.Snap file f) never is = is
 found_fails shows tool.UnknownLocate never is = is
 
--- a stock that was not found is one
+-- a stock that was not found is a fault
 pub found_ends : (shows : Result Bool ToolFault → Type 0) (found : Bool) → shows (Ok found) → IfFound shows (if found then Ok true else Err tool.UnknownStock)
 found_ends shows true is = (refl, is)
 found_ends shows false is = is

@@ -1,4 +1,4 @@
--- The texts of what is told of a day, written one after another.
+-- The texts about a day, written one after another.
 use Rattle.std.proofs.Common.{◌≡◌, ℕ, zero, suc, ◌+◌, ◌<◌, ◌==◌, Bool, true, false, List, [], ◌∷◌, ◌++◌, drop, drop-cons, add-one, get_or, length, Option, Result, Ok, Err, inl, inr, refl, sym, ap, subst, ◌∙◌, arith, append-nil, append_assoc, if◌then◌else◌}
 use Rattle.std.proofs.KnownBytes.{Appends-nil}
 use Rattle.std.proofs.lemmas.Bool.Decides.{nat_tests}
@@ -14,7 +14,7 @@ use Rattle.itch_commands.specs.declared.form.Form.{Form}
 use Rattle.itch_commands.specs.declared.info.events.Event.{Event}
 use Rattle.itch_commands.proofs.JoinedTexts.{text_then, text_fails}
 
--- an element, and what follows it
+-- an element, and the elements after it
 pub drop_at : {X : Type 0} (xs : List X) (i : ℕ) (d : X) → i < length xs → drop i xs ≡ get_or xs i d ∷ drop (i + 1) xs
 drop_at xs i d within = drop-cons xs i d within ∙ ap (λ n. get_or xs i d ∷ drop n xs) (sym (add-one i))
 
@@ -33,7 +33,7 @@ types_step : (form : Form) (f : ℕ → ℕ) (is_first : Bool) (kind left : ℕ)
 unfolding types_text
 types_step form f is_first kind left = refl
 
--- counts that are the same of each type have the same text
+-- equal counts of each type have the same text
 pub types_same : (form : Form) (f g : ℕ → ℕ) (is_first : Bool) (kind left : ℕ) → kind + left ≡ 256 → ((k : ℕ) → k < 256 → f k ≡ g k) → types_text form f is_first kind left ≡ types_text form g is_first kind left
 types_same form f g is_first kind zero all same = types_none form f is_first kind ∙ sym (types_none form g is_first kind)
 types_same form f g is_first kind (suc left) all same =
@@ -120,7 +120,7 @@ module _ {W : Type 0} (contents : W → Option (List ℕ)) (failures : W → Fai
     events_end is_first rest old new so_far none =
         subst (λ text. WritesText contents failures text old (Ok tt) new) (sym (so_far.whole ∙ ap (λ xs. so_far.done ++ events_text form is_first xs) none ∙ append-nil so_far.done)) so_far.wrote
 
--- what is read from a reader of blocks that was made of a reader
+-- the bytes read from a reader of blocks over a reader
 pub from_reader : {R W : Type 0} (remaining : R → Option (List ℕ)) (failed_reads : R → Failures) (contents : W → Option (List ℕ)) (failed_writes : W → Failures) (form : Form) (limit : Limit) (reader : R)
     (old new : Reading R) (out : W) (result : Result Bool ToolFault) (out' : W) → (old.reader ≡ reader) × (old.held ≡ []) × (old.stage ≡ Going)
     → Informs remaining failed_reads contents failed_writes form limit (FromBlocks old new) out result out' → Informs remaining failed_reads contents failed_writes form limit (FromReader reader) out result out'

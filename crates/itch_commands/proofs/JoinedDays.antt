@@ -1,4 +1,4 @@
--- What a snapshot of a day's first messages leaves, and then a feed of its later ones.
+-- The market after a snapshot of a day's first messages, and then a feed of its later ones.
 use Rattle.std.proofs.Common.{◌≡◌, ℕ, ◌+◌, ◌-◌, ◌≤◌, max, List, ◌++◌, map, length, drop, sym, ap, ◌∙◌, subst, arith, length-append, length-drop}
 use Rattle.std.proofs.Math.Seq.{drop-append_seam}
 use Rattle.std.proofs.lemmas.List.{drop-append-le, map-append}
@@ -18,13 +18,13 @@ use Rattle.itch_commands.specs.Joining.{from_number, joined_market, joined_next}
 seam : (n : ℕ) (xs ys : List (List ℕ)) → n ≡ length xs → drop n (xs ++ ys) ≡ ys
 seam n xs ys is = ap (λ k. drop k (xs ++ ys)) is ∙ drop-append_seam xs ys
 
--- of a feed, those that the snapshot lacks
+-- the messages of a feed that the snapshot lacks
 rest_of_day : (before : ℕ) (ps qs : List (List ℕ)) → before ≤ length ps → from_number before (length ps + 1) (drop before (ps ++ qs)) ≡ qs
 rest_of_day before ps qs low =
     ap (drop (length ps + 1 - 1 - before)) (drop-append-le before ps qs low)
     ∙ seam (length ps + 1 - 1 - before) (drop before ps) qs (omega (arith, length-drop before ps))
 
--- messages leave of a market what they leave of one that is the same
+-- messages have the same effect on markets that are the same
 day_leaves : (m : Content) (xs ys : List Message) → IsGood m → Same m (run xs) → AreMessages (xs ++ ys) → Follows (xs ++ ys) → Same (after m ys) (run (xs ++ ys))
 day_leaves m xs ys good same fit follows =
     let good_run = run_good xs (All-left_rec IsMessage xs ys fit) (follows_first empty xs ys follows) in

@@ -1,4 +1,4 @@
--- What is written of a snapshot and the feed that was joined to it, for the locates of some stocks.
+-- The output for a snapshot and the feed that was joined to it, restricted to the locates of some stocks.
 use Rattle.std.proofs.Common.{◌≡◌, ℕ, ◌^◌, ◌<◌, ◌≤◌, Bool, true, List, ◌++◌, length, Option, Some, option_map, Result, Ok, Err, refl, sym, ap, ◌∙◌, subst, inl, inr}
 use Rattle.std.specs.Option.{option_copied}
 use denote.Ref.{Bor}

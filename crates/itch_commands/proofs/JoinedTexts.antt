@@ -11,7 +11,7 @@ use Rattle.itch_commands.specs.declared.fault.ToolFault.TheVariants as tool
 use Rattle.itch_commands.specs.Outputs.{WritesText}
 
 module _ {W : Type 0} (contents : W → Option (List ℕ)) (failures : W → Failures) where
-  -- where a text is not written whole, what was to follow is not begun
+  -- if a text is written only in part, the next one is not begun
   pub text_fails : (xs ys : List ℕ) (old new : W) (fault : ToolFault) → WritesText contents failures xs old (Err fault) new → WritesText contents failures (xs ++ ys) old (Err fault) new
   text_fails xs ys old new (tool.Write error) (sent, within, part, count) =
       let short : sent ≤ length xs = omega arith in

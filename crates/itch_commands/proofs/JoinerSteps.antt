@@ -1,4 +1,4 @@
--- What one message does to a joiner in which nothing waits.
+-- The effect of one message on a joiner without waiting messages.
 use Rattle.std.proofs.Common.{◌≡◌, ℕ, Bool, true, false, cond, List, Option, Some, None, Result, Ok, Err, refl, sym, ap, ◌∙◌, subst, inl, inr}
 use Rattle.std.specs.Option.{option_map}
 use Rattle.itch_codec.specs.declared.fault.CodecFault.{CodecFault}
@@ -27,7 +27,7 @@ use Rattle.itch_join.proofs.Takings.{stays}
 use Rattle.itch_snapshot.specs.AsRead.{as_read}
 use Rattle.itch_snapshot.proofs.AsRead.{idle_taken, read_skipped, read_stays}
 
--- why a message is refused, as a joiner and as a replay say it -----------------
+-- the reason for a refusal, for a joiner and for a replay -------------------------
 
 module _ (m : Content) (p : List ℕ) where
   no_rule : (r : Option Refusal) → option_map cause.Rule r ≡ None → option_map stop.Rule r ≡ None
@@ -76,7 +76,7 @@ none_there : (b : Bool) (o : Option (List ℕ)) → o ≡ None → cond b o None
 none_there true o none = none
 none_there false o none = refl
 
--- the same of a joiner that is restricted to some locates -------------------------
+-- the same for a joiner that is restricted to some locates -------------------------
 
 module _ (wanted : ℕ → Bool) where
   abbrev R : Rules

@@ -1,4 +1,4 @@
--- What is written of a snapshot and the feed that was joined to it.
+-- The output for a snapshot and the feed that was joined to it.
 use Rattle.std.proofs.Common.{◌≡◌, ℕ, ◌^◌, ◌<◌, ◌≤◌, Bool, true, List, ◌++◌, length, Option, Result, Ok, Err, refl, ap, ◌∙◌, subst, inl, inr}
 use Rattle.itch_frame.specs.Reading.{Reading}
 use Rattle.itch_frame.specs.declared.tally.Failures.{Failures}
@@ -19,7 +19,7 @@ use Rattle.itch_commands.specs.Joining.{Start, ReadsFeed, joined_market, joined,
 use Rattle.itch_commands.specs.Readings.{Then}
 use Rattle.itch_commands.specs.Outputs.{WritesOutput, Outputs, closed_bytes}
 
--- the same set says so too
+-- the same holds for the same set
 pub feeds_along : {R : Type 0} (remaining : R → Option (List ℕ)) (failures : R → Failures) (s t : Wanted) (part : FeedPart) (old new : Reading R) (start : Start) (result : Result (List (List ℕ)) ToolFault) → s ≡ t
     → ReadsFeed (as_read (has s)) remaining failures part old new start result → ReadsFeed (as_read (has t)) remaining failures part old new start result
 feeds_along remaining failures s t part old new start result same h = subst (λ u. ReadsFeed (as_read (has u)) remaining failures part old new start result) same h

@@ -4,6 +4,9 @@ pub mod ReadParts
 pub mod Outputs
 pub mod Expectations
 pub mod ShownLines
+pub mod ShownRanges
+pub mod CutBlocks
+pub mod CutDays
 pub mod ListedLines
 pub mod OrdersLeft
 pub mod ListedHeads
@@ -36,7 +39,7 @@ pub mod LocateLists
 pub mod StockNames
 pub mod UnfilteredLines
 pub mod PointReadings
-pub mod PassedBytes
 pub mod WrittenLocates
 pub mod TalliedDays
 pub mod InfoTexts
+pub mod RowParts

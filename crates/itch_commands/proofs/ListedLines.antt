@@ -1,4 +1,4 @@
--- What `show --orders` has written of a part of a day.
+-- The lines that `show --orders` has written of a part of a day.
 use Rattle.std.proofs.Common.{Bool, ◌≡◌, ℕ, ◌+◌, ◌-◌, ◌^◌, ◌≤◌, ◌<◌, List, [], ◌∷◌, ◌++◌, length, map, take, Option, Result, Ok, Err, None, Some, option_map, inl, inr, refl, sym, ap, subst, ◌∙◌, arith, length-append, if◌then◌else◌}
 use Rattle.std.specs.List.{AllByRecursion}
 use Rattle.std.specs.Io.KnownBytes.{Appends, Consumes}
@@ -67,7 +67,7 @@ order_laid : (m : Content) (reference : ℕ) (taken : Option ℕ) → IsGood m �
 order_laid m reference taken good =
     ap (option_map (λ (x : Order). record { order = x; stock = stock_at m x.locate; left = left_of taken x.shares })) (get-laid m reference good)
 
--- and so is the one behind a message
+-- and so is the order behind a message
 pub behind-laid : (m : Content) (x : Message) → IsGood m → behind (laid m) x ≡ behind m x
 behind-laid m (is.SystemEvent x) good = refl
 behind-laid m (is.StockDirectory x) good = refl
@@ -105,11 +105,11 @@ one_line form chosen m number x xs = refl
 
 module _ {W T N M : Type 0} (contents : W → Option (List ℕ)) (failures : W → Failures) (at : T → W) (name : T → N) (choice_name : T → M) (form : T → OrderForm)
     (market : T → Content) (choice : T → Chosen) where
-  -- the same values are lent
+  -- the sink lends the same values
   abbrev pub SameNames : T → T → Type 0
   SameNames s t = (name t ≡ name s) × (choice_name t ≡ choice_name s)
 
-  -- a market that writes to what it lends
+  -- a market that writes to the values that it lends
   abbrev pub Listed : T → ℕ → List ℕ → T → Type 0
   Listed s number payload t =
       (name t ≡ name s) × (choice_name t ≡ choice_name s) × (form t ≡ form s)
@@ -120,7 +120,7 @@ module _ {W T N M : Type 0} (contents : W → Option (List ℕ)) (failures : W �
       (name t ≡ name s) × (choice_name t ≡ choice_name s)
       × LeavesMessage contents failures (form s) number payload (market s) (choice s) (at s) why (market t) (at t)
 
-  -- the lines of these payloads were written, of which the first has this number
+  -- the lines of these payloads were written; the first has this number
   record AreListed (s : T) (m : Content) (number : ℕ) (ps : List (List ℕ)) (t : T) : Type 0 where
     pub named : SameNames s t
     pub formed : form t ≡ form s
@@ -161,7 +161,7 @@ module _ {W T N M : Type 0} (contents : W → Option (List ℕ)) (failures : W �
         good = later.good;
       }
 
-  -- what it takes, its market takes
+  -- the messages that it takes are those that its market takes
   market_all : (s t : T) (count : ℕ) (ps : List (List ℕ)) → TakesAll Listed s count ps t → TakesAll TakesMessage (market s) count ps (market t)
   market_all s t count [] same = ap market same
   market_all s t count (p ∷ ps) (mid, (named, chosen_named, formed, (took, written, next)), rest) = (market mid, took, market_all mid t (count + 1) ps rest)
@@ -177,7 +177,7 @@ module _ {W T N M : Type 0} (contents : W → Option (List ℕ)) (failures : W �
     from_empty : TakesAll TakesMessage empty 0 ps (market last)
     from_empty = subst (λ m. TakesAll TakesMessage m 0 ps (market last)) first (market_all s last 0 ps taken.taken)
 
-    -- what is returned then, and leaves
+    -- the result then, and the state afterwards
     abbrev Returns : Reading R → Result Bool ToolFault → Type 0
     Returns left result = ListsPart contents failures remaining failed_reads limit (form s) (choice s) old left (at s) result (at t)
 
@@ -191,7 +191,7 @@ module _ {W T N M : Type 0} (contents : W → Option (List ℕ)) (failures : W �
     abbrev Stops : Part Unlisted → Type 0
     Stops why = StopsAt remaining Left limit count new last why t
 
-    -- to the market this was one reading
+    -- for the market this was one reading
     abbrev Reads : Part Refused → Content → Type 0
     Reads why n = ReadsPart remaining failed_reads TakesMessage RefusesMessage limit old new 0 count empty why n
 
@@ -206,7 +206,7 @@ module _ {W T N M : Type 0} (contents : W → Option (List ℕ)) (failures : W �
       counts = counts;
     }
 
-    -- the lines of all that was taken are written
+    -- the lines of all messages taken are written
     wrote_to : at t ≡ at last → Wrote contents failures (lines_of_day (form s) (choice s) ps) (at s) (at t)
     wrote_to kept = subst (Wrote contents failures (lines_of_day (form s) (choice s) ps) (at s)) (sym kept) listed.wrote
 
@@ -361,7 +361,7 @@ module _ {W T N M : Type 0} (contents : W → Option (List ℕ)) (failures : W �
     named_so (part.Refused why) (before, (p, next, some, few_before, early, (named, chosen_named, unlisted))) =
         (named ∙ listed.named.0, chosen_named ∙ listed.named.1)
 
-  -- what reading a part into such a market writes, returns and leaves
+  -- the outcome of reading a part into such a market: its output, its result and its state
   pub listed_part : {R : Type 0} (remaining : R → Option (List ℕ)) (failed_reads : R → Failures) (limit : Limit) (old new : Reading R) (count : ℕ) (s t : T) (why : Part Unlisted) → market s ≡ empty
       → ReadsPart remaining failed_reads Listed Left limit old new 0 count s why t → count ≤ 10 ^ 19 - 1
       → SameNames s t

@@ -12,14 +12,14 @@ use Rattle.itch_commands.specs.Locates.{IsLocate, IsRange, is_in, IsListOf, Read
 use Rattle.itch_commands.specs.declared.fault.ToolFault.{ToolFault}
 use Rattle.itch_commands.specs.declared.fault.ToolFault.TheVariants as tool
 
--- the test of each byte holds of exactly the texts of digits
+-- the test of each byte holds for exactly the texts of digits
 tested : IsNumeralModel (λ ds. list_all is_ascii_digit ds ≡ true) (digits_value 10)
 tested = numerals_by_value _ (search rules)
 
 numerals : IsNumeralModel (AllDigits 10) (digits_value 10)
 numerals = numerals_by_value (AllDigits 10) tells_digits
 
--- a text with a byte that is no digit is no locate
+-- a text with a byte that is not a digit is not a locate
 pub not_digits : (text : List ℕ) (all : Bool) → all ≡ list_all is_ascii_digit text → all ≡ false → (locate : ℕ) → ¬ (IsLocate text locate)
 not_digits text all decided other locate is = true≢false (sym (tested.from text is.0.1) ∙ sym decided ∙ other)
 
@@ -34,7 +34,7 @@ digits_parsed text all r decided each parsed =
       by_result (Ok locate) digits ((some, low), same) = ((some, digits), sym same, omega arith)
       by_result (Err e) digits none = λ locate is. none (is.0.0, omega (arith, is.1, is.2))
 
--- and otherwise `map_err` gives the fault
+-- and otherwise `map_err` returns the fault
 pub fault_mapped : {E : Type 0} {Q : E → ToolFault → Type 0} (text : List ℕ) (r : Result ℕ E) (mapped : Result ℕ ToolFault)
     → MatchResult r (λ locate. mapped ≡ Ok locate) (λ e. IsErrAnd mapped (Q e)) → ((e : E) (fault : ToolFault) → Q e fault → fault ≡ tool.BadLocates)
     → MatchResult r (IsLocate text) (λ _. (locate : ℕ) → ¬ (IsLocate text locate))
@@ -78,12 +78,12 @@ range_cut text low high range cut lacks (inr (us, vs, e, first, last, rising)) =
     let same = first_place 45 low high us vs lacks (locate_lacks 45 (omega arith) us range.0 first) (sym cut ∙ e) in
     (subst (λ t. IsLocate t range.0) (sym same.0) first, subst (λ t. IsLocate t range.1) (sym same.1) last, rising)
 
--- and a text without one is a locate alone
+-- and a text without one is a single locate
 pub range_whole : (text : List ℕ) (range : ℕ × ℕ) → Lacks 45 text → IsRange text range → IsLocate text range.0 × (range.1 ≡ range.0)
 range_whole text range lacks (inl is) = is
 range_whole text range lacks (inr (us, vs, e, first, last, rising)) = absurd (byte_stands 45 us vs (subst (Lacks 45) e lacks))
 
--- a text is no range whose second locate is lower than the first
+-- a text whose second locate is lower than the first is not a range
 pub falls_refused : (text low high : List ℕ) (first last : ℕ) → text ≡ low ++ 45 ∷ high → Lacks 45 low → IsLocate low first → IsLocate high last → last < first
     → (range : ℕ × ℕ) → ¬ (IsRange text range)
 falls_refused text low high first last cut lacks is_first is_last falls range is =
@@ -131,7 +131,7 @@ list_joined (r ∷ rs) first more range is list = (first, more, refl, is, list)
 abbrev pub Inserted : List ℕ → Wanted → Wanted → Type 0
 Inserted text old new = (range : ℕ × ℕ) × IsRange text range × ((l : ℕ) → has new l ≡ (is_in l range || has old l))
 
--- memory was refused, or the text is no range
+-- memory ran out, or the text is not a range
 abbrev pub Refused : List ℕ → ToolFault → Type 0
 Refused text fault = (fault ≡ tool.OutOfMemory) ⊎ ((fault ≡ tool.BadLocates) × ((range : ℕ × ℕ) → ¬ (IsRange text range)))
 
@@ -167,7 +167,7 @@ members_more : (taken : List (ℕ × ℕ)) (range : ℕ × ℕ) (old new : Wante
 members_more taken range old new members added l =
     added l ∙ ap (λ b. is_in l range || b) (members l) ∙ either_way (is_in l range) (list_any (is_in l) taken) ∙ sym (list_any-append (is_in l) taken (range ∷ []))
 
--- a set has the locates of a text's front, and the rest of the text is still to be read
+-- a set has the locates of a text's front, and the rest of the text remains
 pub record Gathered (text : List ℕ) (set : Wanted) (rest : List ℕ) : Type 0 where
   pub taken : List (ℕ × ℕ)
   pub joins : (rs : List (ℕ × ℕ)) → IsListOf rs rest → IsListOf (taken ++ rs) text

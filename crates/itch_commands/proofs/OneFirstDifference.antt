@@ -1,4 +1,4 @@
--- Two day files first differ after one number of messages.
+-- Two day files have only one first difference.
 use Rattle.std.proofs.Common.{◌≡◌, ℕ, ◌+◌, ◌≤◌, ◌<◌, true, false, List, [], ◌∷◌, ◌++◌, map, take, length, Option, None, Some, IfSome, inl, inr, refl, sym, ap, subst, ◌∙◌, arith}
 use Rattle.std.specs.List.{AllByRecursion}
 use Rattle.std.proofs.lemmas.Bool.{cases_lt}
@@ -35,7 +35,7 @@ early_there : (limit : Limit) (p : List (List ℕ)) (x : List ℕ) (rest : List 
 early_there limit [] x rest all = all.0
 early_there limit (y ∷ p) x rest all = early_there limit p x rest all.1
 
--- a part that is wanted has no payload after it that is
+-- a requested part has no requested payload after it
 no_more : (limit : Limit) (count : ℕ) (left : List ℕ) (more : List (List ℕ)) (rest : List ℕ) (x : List ℕ) (following : List (List ℕ)) → Day left more rest → more ≡ x ∷ following → IsEarly limit x
     → IfSome limit.after (λ most. count < most) → IsCut limit count left → ⊥
 no_more limit count left more rest x following day is early within (inl all) = beyond limit.after within all where
@@ -50,7 +50,7 @@ no_more limit count left more rest x following day is early within (inr (inl (be
 no_more limit count left more rest x following day is early within (inr (inr (whole, ends))) =
     let none = day_one left more [] rest left day (day_last left (inl ends)) in let clash : [] ≡ x ∷ following = sym none.0 ∙ is in let no : ⊥ = cc in no
 
--- what is known of the first payloads of a part
+-- known facts about the first payloads of a part
 record Front (limit : Limit) (bytes : List ℕ) (p : List (List ℕ)) : Type 0 where
   taken : AreTaken limit p
   left : List ℕ
@@ -89,7 +89,7 @@ no_longer limit bytes p q taken (left, whole, cut) front = elim (cases_lt (lengt
       (early_there limit p x others (subst (λ z. AllByRecursion (IsEarly limit) z) longer front.taken.early))
       (more_within limit.after (length p) (length q) shorter front.within) cut
 
--- one that has not as many as it may have is the part
+-- one with fewer payloads than the limit is the part
 is_whole : (limit : Limit) (count k : ℕ) (bytes : List ℕ) (p : List (List ℕ)) → length p < k → k ≤ count → IsFront limit count bytes p → IsPart limit bytes p
 is_whole limit count k bytes p short within (taken, inl (counted, enough, part)) = absurd (omega (arith, short, within, counted))
 is_whole limit count k bytes p short within (taken, inr (fewer, part)) = part

@@ -1,4 +1,4 @@
--- Each message that changes an order has one behind it, and what is left of that is what the market has after the message.
+-- Each message that changes an order has one behind it, and the rest of that order is the one of the market after the message.
 use Rattle.std.proofs.Common.{◌≡◌, ℕ, ◌-◌, ◌==◌, Bool, true, false, not, List, [], ◌∷◌, ◌++◌, filter, find, map, Option, Some, None, IsSome, IsSomeAnd, IfSome, option_map, refl, sym, ap, ◌∙◌, subst, arith}
 use Rattle.std.specs.List.{AllByRecursion}
 use Rattle.std.specs.FinMap as finite
@@ -25,7 +25,7 @@ use Rattle.itch_commands.specs.declared.show.orders.behind.Behind.{Behind}
 less_reference : (r n q : ℕ) (x : Order) → has_reference q (less r n x) ≡ has_reference q x
 less_reference r n q x = by_test (has_reference r x) (λ e. simp e refl) (λ e. simp e refl)
 
--- shares taken from an order are found taken
+-- the book finds the order with the shares taken
 found_less : (r n : ℕ) (os : List Order) (x : Order) → book.get os r ≡ Some x → book.get (map (less r n) os) r ≡ Some (record x { shares = x.shares - n })
 found_less r n [] x h = absurd (let no_one : ⊥ = cc in no_one)
 found_less r n (y ∷ ys) x h =
@@ -36,7 +36,7 @@ found_less r n (y ∷ ys) x h =
 no_shares : (k : ℕ) → not (k == 0) ≡ false → k ≡ 0
 no_shares k h = by_test (k == 0) (λ e. grind (arith, nat_tests)) (λ e. let never : true ≡ false = simp e at h in absurd (false≢true (sym never)))
 
--- what the book has of an order after shares are taken from it
+-- the order of the book after shares are taken from it
 after_taken : (r n : ℕ) (os : List Order) (x : Order) → IsDistinct os → book.get os r ≡ Some x → shares_of (book.get (book.taken r n os) r) ≡ x.shares - n
 after_taken r n os x distinct h = by_test (has_shares left) (λ e. ap shares_of (find_part r has_shares all left found e)) gone where
   left : Order
@@ -60,7 +60,7 @@ after_taken r n os x distinct h = by_test (has_shares left) (λ e. ap shares_of 
         let some : has_shares z ≡ true = All-found_rec (λ y. has_shares y ≡ true) (has_reference r) (filter has_shares (map (less r n) os)) z (passes_filter has_shares (map (less r n) os)) is in
         absurd (false≢true (sym none ∙ ap has_shares (sym (inj same)) ∙ some))
 
--- nothing is left of one that was removed
+-- an order that was removed has no rest
 after_without : (r : ℕ) (os : List Order) → book.get (book.without r os) r ≡ None
 after_without r [] = refl
 after_without r (y ∷ ys) = by_test (has_reference r y) (λ e. simp e (after_without r ys)) (λ e. simp (e, e) (after_without r ys))
@@ -72,7 +72,7 @@ absent_push r (y ∷ ys) x h other =
     (λ e. let some : Some y ≡ None = simp e at h in absurd (let no_one : ⊥ = cc in no_one))
     (λ e. let rest : find (has_reference r) ys ≡ None = simp e at h in simp e (absent_push r ys x rest other))
 
--- nor of one that was replaced by another
+-- nor has an order that was replaced by another
 after_replaced : (r q shares price : ℕ) (os : List Order) (x : Order) → book.get os r ≡ Some x → book.get os q ≡ None → book.get (book.replaced r q shares price os) r ≡ None
 after_replaced r q shares price os x h new =
     ap (λ o. book.get (book.replaced_by o r q shares price os) r) h
@@ -98,7 +98,7 @@ module _ (m : Content) (good : IsGood m) where
     by_order None is none = absurd (let no_one : ⊥ = cc in no_one)
     by_order (Some x) is none = stock_there r x is
 
-  -- what is left of an order is what a book has of it
+  -- the rest of an order is the order in the book
   remains : (r : ℕ) (taken : Option ℕ) (after : List Order) → ((x : Order) → book.get m.orders r ≡ Some x → shares_of (book.get after r) ≡ left_of taken x.shares)
       → IfSome (order_behind m r taken) (λ b. b.left ≡ shares_of (book.get after b.order.reference))
   remains r taken after left = by_order (book.get m.orders r) refl where
@@ -133,7 +133,7 @@ has_order m (is.BrokenTrade x) good clean changes = absurd (false≢true changes
 has_order m (is.End next) good clean changes = absurd (false≢true changes)
 has_order m (is.Other payload) good clean changes = absurd (false≢true changes)
 
--- no other message has
+-- no other message has one
 pub has_none : (m : Content) (x : Message) → changes_order x ≡ false → behind m x ≡ None
 has_none m (is.OrderExecuted x) other = absurd (false≢true (sym other))
 has_none m (is.OrderExecutedWithPrice x) other = absurd (false≢true (sym other))
@@ -154,7 +154,7 @@ has_none m (is.BrokenTrade x) other = refl
 has_none m (is.End next) other = refl
 has_none m (is.Other payload) other = refl
 
--- what is left of the order is what the market has of it after the message
+-- the rest of the order is the market's order after the message
 pub order_left : (m : Content) (x : Message) → IsGood m → reason m x ≡ None
     → IfSome (behind m x) (λ b. b.left ≡ shares_of (book.get (Content.orders (effect m x)) b.order.reference))
 order_left m (is.OrderExecuted x) good clean = taken_remains m good x.reference x.shares

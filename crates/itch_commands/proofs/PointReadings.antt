@@ -1,4 +1,4 @@
--- What reading on from point to point returns.
+-- The result of reading on from point to point.
 use Rattle.std.proofs.Common.{◌≡◌, ℕ, ◌+◌, ◌-◌, ◌^◌, ◌≤◌, ◌<◌, min, Bool, true, false, List, [], ◌∷◌, ◌++◌, length, Option, None, Some, Result, Ok, Err, inl, inr, refl, sym, ap, subst, ◌∙◌, arith}
 use denote.Ref.{Bor}
 use Rattle.std.specs.Option.{option_copied}
@@ -60,7 +60,7 @@ use Rattle.itch_commands.proofs.ReadParts.{day_of, kept_at}
 use Rattle.itch_commands.proofs.PartReadings.{part_leaves, stop_leaves, stopped_counts, stopped_so}
 use Rattle.itch_commands.proofs.Snapshots.{cut_snapshot}
 
--- what a stop returns after so many messages
+-- the result of a stop after that many messages
 stopped_ok : (stop : Stop) (wanted : Option ℕ) (count k : ℕ) → stopped stop wanted Only count ≡ Ok k → k ≡ count
 stopped_ok End None count k is = cc
 stopped_ok End (Some most) count k is = absurd (cc)
@@ -87,12 +87,12 @@ at_end part.TooMany is = absurd (cc)
 at_end (part.Refused (refused.Codec f)) same = absurd (cc)
 at_end (part.Refused (refused.Rule why)) same = absurd (cc)
 
--- a message makes the snapshot list longer by one at most
+-- a message makes the snapshot list longer by at most one
 snap_past : (m n : Content) (x : Message) → IsGood m → IsMessage x → reason m x ≡ None → n ≡ laid (effect m x) → length (snap n) ≤ length (snap m) + 1
 snap_past m n x good fits none next =
     omega (arith, ap (λ k. length (snap k)) next, ap length (snap-laid (effect m x) (effect_good m x good fits none)), snap_step m x good)
 
--- so do some messages by their number
+-- so some messages make it longer by at most their number
 snap_on : (m n k : Content) (count : ℕ) (ps : List (List ℕ)) → IsGood m → n ≡ laid m → TakesAll TakesMessage n count ps k → length (snap k) ≤ length (snap n) + length ps
 snap_on m n k count [] good same takes = omega (arith, ap (λ x. length (snap x)) takes)
 snap_on m n k count (p ∷ ps) good same (next, (clean, fits, took), rest) =
@@ -101,7 +101,7 @@ snap_on m n k count (p ∷ ps) good same (next, (clean, fits, took), rest) =
     let more = snap_on (effect m (message_of p)) next k (count + 1) ps still left rest in
     omega (arith, one, more, ap (λ x. length (snap x)) same, ap length (snap-laid m good))
 
--- so many messages more are more than there were
+-- that many messages more are more than there were
 pub more_goes : (before : Limit) (stop : Part Refused) (count more most : ℕ) → GoesOn stop → 0 < more → count ≤ 10 ^ 19 - 1 → most ≡ min (count + more) (2 ^ 64 - 1)
     → GoesOnTo before stop count (counted (Some most))
 more_goes before stop count more most goes some few is = record { goes_on = goes; later = tt; within = omega (arith, some, few, is); more = inr (omega (arith, some, few, is)) }
@@ -197,7 +197,7 @@ module _ {R : Type 0} (remaining : R → Option (List ℕ)) (failures : R → Fa
       by_end (same, before, end) =
           read part.End stands (inr (inr (whole, ends_here now remaining end))) (counts part.End stands) (inr (inr (whole, left part.End stands)))
 
-    -- where nothing stopped it, the part was
+    -- if nothing stopped the reading, the part was read
     pub all_on : (stop : Part Refused) → Stands remaining failures limit first now marked stop → reason_of stop ≡ None
         → GoesOn stop × IsRead remaining failures limit first (left_by stop now) marked.sink marked.mark
     all_on part.Full stands none = by_full (stops part.Full stands) where
@@ -219,12 +219,12 @@ module _ {R : Type 0} (remaining : R → Option (List ℕ)) (failures : R → Fa
     all_on (part.Refused (refused.Codec f)) stands same = absurd (cc)
     all_on (part.Refused (refused.Rule why)) stands same = absurd (cc)
 
-    -- what is returned where nothing stopped it
+    -- the result if nothing stopped it
     pub reached_on : (stop : Part Refused) → Stands remaining failures limit first now marked stop → reason_of stop ≡ None → (count : ℕ) → count ≡ marked.mark.count
         → ReadsOn remaining failures limit first now (Ok count) marked
     reached_on stop stands none count is = let (goes_on, read) = all_on stop stands none in (is, (stop, goes_on, stands, read))
 
-    -- and where something did
+    -- and if something did
     module _ (stop : Part Refused) (stands : Stands remaining failures limit first now marked stop) (why : Stop) (is : reason_of stop ≡ Some why) (count : ℕ) (same : count ≡ marked.mark.count) where
       end_is : why ≡ End → stop ≡ part.End
       end_is at = at_end stop (is ∙ ap Some at)
@@ -263,11 +263,11 @@ module _ {R : Type 0} (remaining : R → Option (List ℕ)) (failures : R → Fa
       (subst (λ (k : Mark). Stands remaining failures limit r r (record { sink = empty; mark = k }) part.Full) (sym beginning) (none_stands until r))
 
   module _ (most : ℕ) (first now : Reading R) (marked : Marked Content) (few : marked.mark.count ≤ 10 ^ 19 - 1) where
-    -- as many more as were asked for were read
+    -- as many more as requested were read
     pub more_read : (count : ℕ) → ReadsOn remaining failures (counted (Some most)) first now (Ok count) marked → ReadsMore remaining failures most first now (Ok true) marked
     more_read count (is, read) = read
 
-    -- what was read up to the end of the file was the whole file
+    -- a reading up to the end of the file has read the whole file
     to_the_end : Stands remaining failures (counted (Some most)) first now marked part.End → Stands remaining failures (counted None) first now marked part.End
     to_the_end s =
         let taken = s.taken in

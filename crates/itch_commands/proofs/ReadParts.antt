@@ -1,4 +1,4 @@
--- What a part of a day is to a command that read it into an empty market.
+-- A part of a day for a command that reads it into an empty market.
 use Rattle.std.proofs.Common.{◌≡◌, ℕ, ◌-◌, ◌^◌, ◌≤◌, List, length, Option, None, Some, Result, Ok, Err, inl, inr, refl, sym, ap, subst, ◌∙◌, arith}
 use Rattle.itch_frame.specs.Reading.{Reading, bytes_left}
 use Rattle.itch_frame.specs.declared.tally.Failures.{Failures}
@@ -28,7 +28,7 @@ use Rattle.itch_market.proofs.DayMessages.{is_part}
 use Rattle.itch_commands.proofs.DayReadings.{day_fails}
 use Rattle.itch_commands.proofs.PartReadings.{part_leaves, stop_leaves, stopped_counts, stopped_so}
 
--- what stops a part leaves the market as it was
+-- the stop of a part leaves the market unchanged
 pub kept_at : {R : Type 0} (remaining : R → Option (List ℕ)) (limit : Limit) (count : ℕ) (r : Reading R) (old new : Content) (stop : Part Refused) → StopsAt remaining RefusesMessage limit count r old stop new → new ≡ old
 kept_at remaining limit count r old new part.Full (same, all) = same
 kept_at remaining limit count r old new part.Late (same, before, late) = same
@@ -41,7 +41,7 @@ kept_at remaining limit count r old new part.TooMany (same, before, many) = same
 kept_at remaining limit count r old new (part.Refused (refused.Codec f)) (before, (p, next, full, room, early, (same, faulty))) = same
 kept_at remaining limit count r old new (part.Refused (refused.Rule why)) (before, (p, next, full, room, early, (same, refuses))) = same
 
--- the part that is wanted was read, of which these payloads were applied
+-- the requested part was read, and these payloads of it were applied
 pub day_of : {R : Type 0} (remaining : R → Option (List ℕ)) (failures : R → Failures) (file : Source) (limit : Limit) (old new : Reading R) (mid : Option (List ℕ)) (count : ℕ) (p : List (List ℕ)) (n : Content)
     → TakesEarly limit empty (bytes_left remaining old) mid count p n → IsEnough limit count mid (bytes_left remaining new) → failures new.reader ≡ failures old.reader
     → LeavesDay (Ok count) limit old new → ReadsDay remaining failures file limit old new (Ok p)
@@ -79,7 +79,7 @@ module _ {R : Type 0} (remaining : R → Option (List ℕ)) (failures : R → Fa
     counts : CountsFirst (reason_of stop) (failures first.reader) (failures (Reading.reader (left_by stop now)))
     counts = stop_counts remaining failures RefusesMessage limit first now count count reads.last m stop reads.stops reads.counts
 
-    -- the part that is wanted was read
+    -- the requested part was read
     read : IsEnough limit count (bytes_left remaining now) (bytes_left remaining (left_by stop now)) → failures (Reading.reader (left_by stop now)) ≡ failures first.reader
         → LeavesDay (Ok count) limit first (left_by stop now) → ReadsDay remaining failures file limit first (left_by stop now) (Ok reads.payloads)
     read enough uncounted leaves =
@@ -107,7 +107,7 @@ module _ {R : Type 0} (remaining : R → Option (List ℕ)) (failures : R → Fa
     by_end : StopsAt remaining RefusesMessage limit count now reads.last part.End m → ReadsDay remaining failures file limit first (left_by {F = Refused} part.End now) (Ok reads.payloads)
     by_end (same, before, end) = read part.End reads (inr (inr (whole, ends_here now remaining end))) (counts part.End reads) (inr (inr (whole, left part.End reads)))
 
-  -- where nothing stopped it, the part was
+  -- if nothing stopped the reading, the part was read
   pub all_by : (stop : Part Refused) (reads : Reads stop) → reason_of stop ≡ None → ReadsDay remaining failures file limit first (left_by stop now) (Ok reads.payloads)
   all_by part.Full reads none = by_full reads.stops where
     by_full : StopsAt remaining RefusesMessage limit count now reads.last part.Full m → ReadsDay remaining failures file limit first now (Ok reads.payloads)

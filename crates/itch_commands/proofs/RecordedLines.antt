@@ -15,13 +15,13 @@ use Rattle.itch_commands.specs.declared.form.ShowForm.{ShowForm}
 use Rattle.itch_commands.proofs.JoinedTexts.{text_then, text_fails}
 use Rattle.itch_commands.proofs.ShownLines.{lines-append, no_lines, last_line, past_none, past_push}
 
--- what holds on either result
+-- a property of either result
 pub on_ok : {X E : Type 0} (P : Type 0) (result : Result X E) → P → OnOk result P
 on_ok P (Ok x) p = p
 on_ok P (Err e) p = tt
 
 module _ {W : Type 0} (contents : W → Option (List ℕ)) (failures : W → Failures) (form : ShowForm) (chosen : Chosen) (m : Content) (next : ℕ) (old : W) where
-  -- the lines of these messages were written, the others are still to come, and what chooses them is `now`
+  -- the lines of these messages were written, the others remain, and the choice is `now`
   pub record Recorded (seen left : List Message) (number : ℕ) (now : Chosen) (new : W) : Type 0 where
     pub messages : snap m ≡ seen ++ left
     pub numbered : number ≡ 1 + length seen
@@ -79,7 +79,7 @@ module _ {W : Type 0} (contents : W → Option (List ℕ)) (failures : W → Fai
     all_seen : left ≡ [] → snap m ≡ seen
     all_seen none = so_far.messages ∙ ap (λ ms. seen ++ ms) none ∙ append-nil seen
 
-    -- what chooses messages after End of Snapshot
+    -- the choice after End of Snapshot
     pub recorded_passes : (then : Chosen) → left ≡ [] → then ≡ chosen_after now (is.End next) → then ≡ chosen_past chosen (snap m ++ is.End next ∷ [])
     recorded_passes then none passes =
         passes ∙ ap (λ c. chosen_after c (is.End next)) so_far.passed ∙ past_push chosen seen (is.End next)

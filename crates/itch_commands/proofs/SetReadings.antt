@@ -1,4 +1,4 @@
--- Payloads as they are read with a set are to the rules of markets what the payloads themselves are to the rules of the set.
+-- For the rules of markets, payloads as they are read with a set are like the payloads themselves for the rules of the set.
 use Rattle.std.proofs.Common.{◌≡◌, ℕ, ◌+◌, ◌-◌, Bool, false, not, cond, List, [], ◌∷◌, ◌++◌, map, Option, None, is_some, refl, sym, ap, ap₂, ◌∙◌, subst}
 use Rattle.std.specs.List.{AllByRecursion}
 use Rattle.std.specs.Option.{option_map}
@@ -48,7 +48,7 @@ module _ (wanted : ℕ → Bool) where
   abbrev pub seen : List (List ℕ) → List (List ℕ)
   seen ps = map (as_read wanted) ps
 
-  -- to the rules ------------------------------------------------------------------
+  -- for the rules -----------------------------------------------------------------
 
   pub refused_so : (m : Content) (p : List ℕ) → market_rules.refused m (as_read wanted p) ≡ R.refused m p
   refused_so m p =
@@ -79,7 +79,7 @@ module _ (wanted : ℕ → Bool) where
   after_so m [] = refl
   after_so m (p ∷ ps) = ap (λ n. runs.after n (map message_of (seen ps))) (effect_so m p) ∙ after_so (R.effect m p) ps
 
-  -- to runs -----------------------------------------------------------------------
+  -- for runs ----------------------------------------------------------------------
 
   -- none is faulty, as they are read
   seen_clean : (ps : List (List ℕ)) → AllByRecursion (λ p. fault p ≡ None) ps → AllByRecursion (λ p. fault p ≡ None) (seen ps)
@@ -89,7 +89,7 @@ module _ (wanted : ℕ → Bool) where
     seen_clean ps clean.1,
   )
 
-  -- where those that are not skipped follow the order rules, all do as they are read, and leave the same
+  -- if those that are not skipped follow the order rules, all do as they are read, and leave the same market
   seen_follows : (n : Content) (ps : List (List ℕ)) → AllByRecursion (λ p. fault p ≡ None) ps → FollowsFrom n (kept wanted (map message_of ps))
       → FollowsFrom n (map message_of (seen ps)) × (runs.after n (map message_of (seen ps)) ≡ runs.after n (kept wanted (map message_of ps)))
   seen_follows n [] clean follows = (tt, refl)
@@ -119,7 +119,8 @@ module _ (wanted : ℕ → Bool) where
   messages [] bytes clean = tt
   messages (p ∷ ps) bytes clean = (IsMessage-Spells (message_of p) p bytes.0 (Spells-message_of p clean.0), messages ps bytes.1 clean.1)
 
-  -- Messages that follow the order rules in a market; those that are not skipped follow them in the market cut down, and leave what all leave, cut down.
+  -- Messages that follow the order rules in a market; those that are not skipped follow them in the restricted market, and leave the
+  -- restriction of the market after all.
   record IsCut (m n : Content) (ms : List Message) : Type 0 where
     follows : FollowsFrom n (kept wanted ms)
     same : Same (runs.after n (kept wanted ms)) (only wanted (runs.after m ms))

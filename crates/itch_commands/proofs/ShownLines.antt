@@ -1,4 +1,4 @@
--- What `show` has written of a part of a day.
+-- The lines that `show` has written of a part of a day.
 use Rattle.std.proofs.Common.{Bool, ◌≡◌, ℕ, ◌+◌, ◌-◌, ◌^◌, ◌≤◌, ◌<◌, ◌==◌, true, false, List, [], ◌∷◌, ◌++◌, length, map, take, Option, Result, Ok, Err, None, Some, inl, inr, refl, sym, ap, subst, ◌∙◌, arith, length-append, append-nil, eq-eqb}
 use Rattle.std.proofs.lemmas.Bool.{ne_eqb}
 use Rattle.std.proofs.lemmas.List.{append_assoc}
@@ -47,7 +47,7 @@ use Rattle.itch_commands.specs.declared.fault.ToolFault.TheVariants as tool
 use Rattle.itch_commands.specs.declared.form.ShowForm.{ShowForm}
 use Rattle.itch_commands.proofs.PartReadings.{is_given, late_given}
 
--- lines one after the other
+-- lines one after another
 pub lines-append : (form : ShowForm) (chosen : Chosen) (number : ℕ) (xs ys : List Message)
     → chosen_lines form chosen number (xs ++ ys) ≡ chosen_lines form chosen number xs ++ chosen_lines form (chosen_past chosen xs) (number + length xs) ys
 unfolding chosen_lines chosen_past
@@ -85,13 +85,13 @@ pub past_none : (chosen : Chosen) → chosen ≡ chosen_past chosen []
 unfolding chosen_past
 past_none chosen = refl
 
--- one message more was passed
+-- one more message was passed
 pub past_push : (chosen : Chosen) (xs : List Message) (x : Message) → chosen_after (chosen_past chosen xs) x ≡ chosen_past chosen (xs ++ x ∷ [])
 unfolding chosen_past
 past_push chosen [] x = refl
 past_push chosen (y ∷ ys) x = past_push (chosen_after chosen y) ys x
 
--- and then others are
+-- and then others were
 pub past_on : (chosen : Chosen) (x : Message) (xs : List Message) → chosen_past (chosen_after chosen x) xs ≡ chosen_past chosen (x ∷ xs)
 unfolding chosen_past
 past_on chosen x xs = refl
@@ -103,19 +103,19 @@ is_early limit p clean not_late = by_test (is_late limit.until (message_of p)) r
   by_test true late = absurd (not_late (clean, late))
   by_test false early = early
 
-are_early : (limit : Limit) (ps : List (List ℕ)) → AllByRecursion IsClean ps → AllByRecursion (IsNotLate limit) ps → AllByRecursion (IsEarly limit) ps
+pub are_early : (limit : Limit) (ps : List (List ℕ)) → AllByRecursion IsClean ps → AllByRecursion (IsNotLate limit) ps → AllByRecursion (IsEarly limit) ps
 are_early limit [] clean early = tt
 are_early limit (p ∷ ps) clean early = (is_early limit p clean.0 early.0, are_early limit ps clean.1 early.1)
 
 module _ {W T N M : Type 0} (contents : W → Option (List ℕ)) (failures : W → Failures) (at : T → W) (name : T → N) (choice_name : T → M) (form : T → ShowForm) (choice : T → Chosen) where
-  -- a sink that writes to what it lends
+  -- a sink that writes to the values that it lends
   abbrev pub Shown : T → ℕ → List ℕ → T → Type 0
   Shown s number payload t = (name t ≡ name s) × (choice_name t ≡ choice_name s) × (form t ≡ form s) × ShowsMessage contents failures (form s) number payload (choice s) (at s) (choice t) (at t)
 
   abbrev pub Unshown : T → ℕ → List ℕ → ToolFault → T → Type 0
   Unshown s number payload why t = (name t ≡ name s) × (choice_name t ≡ choice_name s) × WithholdsMessage contents failures (form s) number payload (choice s) (at s) why (at t)
 
-  -- the lines of these payloads were written, of which the first has this number
+  -- the lines of these payloads were written; the first has this number
   record AreShown (s : T) (number : ℕ) (ps : List (List ℕ)) (t : T) : Type 0 where
     pub named : name t ≡ name s
     pub choice_named : choice_name t ≡ choice_name s
@@ -171,7 +171,7 @@ module _ {W T N M : Type 0} (contents : W → Option (List ℕ)) (failures : W �
       early = are_early limit ps shown.clean taken.early;
     }
 
-    -- what is returned then, and leaves
+    -- the result then, and the state afterwards
     abbrev Returns : Reading R → Result Bool ToolFault → Type 0
     Returns left result = ShowsPart contents failures remaining failed_reads limit (form s) (choice s) old left (at s) result (at t)
 
@@ -179,7 +179,7 @@ module _ {W T N M : Type 0} (contents : W → Option (List ℕ)) (failures : W �
     abbrev found : Bool
     found = are_found (Chosen.stocks (choice t))
 
-    -- To the reader of blocks these stops are those of a market, whatever that refuses.
+    -- For the reader of blocks these stops are those of a market, for any reason of refusal.
     abbrev Any : T → ℕ → List ℕ → Refused → T → Type 0
     Any u k p why v = Unit {0}
 
@@ -227,7 +227,7 @@ module _ {W T N M : Type 0} (contents : W → Option (List ℕ)) (failures : W �
     room : count < 10 ^ 19 - 1 → (count == 10 ^ 19 - 1) ≡ false
     room some = ne_eqb count (10 ^ 19 - 1) (λ same. omega (arith, some, same))
 
-    -- as many lines as are wanted were written
+    -- as many lines as requested were written
     at_full : Stops part.Full → Leaves {F = ToolFault} old (length ps) part.Full new → failed_reads new.reader ≡ failed_reads old.reader → Returns new (Ok found)
     at_full (same, (most, wanted, enough)) passes counts =
         let exact : count ≡ most = full_count most count (length ps) limit.after wanted taken.wanted number (most, wanted, enough) in
@@ -239,7 +239,7 @@ module _ {W T N M : Type 0} (contents : W → Option (List ℕ)) (failures : W �
         all (passed new) same (inr (inl (subst (IsBefore limit) (sym number) before, (p, (some, passed_off new remaining p next), late)))) (to_passed counts)
         (inr (inl (late_given limit.until (message_of p) late.1, late_left remaining failed_reads Any limit old new count (length ps) last t (same, before, (p, next, some, few_before, late)) stays)))
 
-    -- or the file ended, which is a fault where more are wanted
+    -- or the file ended, which is a fault if more were requested
     at_end : (wanted : Option ℕ) → limit.after ≡ wanted → Stops part.End → Stays → failed_reads new.reader ≡ failed_reads old.reader → Returns (passed new) (ended_show wanted count found)
     at_end None whole (same, before, end) stays counts =
         all (passed new) same (inr (inr (whole, ends_here new remaining end))) (to_passed counts)
@@ -251,7 +251,7 @@ module _ {W T N M : Type 0} (contents : W → Option (List ℕ)) (failures : W �
           (stop_left remaining failed_reads Any limit old new count (length ps) last t part.End (λ late. absurd (cc)) (same, before, end) stays),
     )
 
-    -- or a read failed, or the file ended within a block
+    -- or a read failed, or the file ended inside a block
     at_frame : (why : FrameFault) → Stops (part.Frame why) → Stays → CountsPart {F = ToolFault} (part.Frame why) (failed_reads old.reader) (failed_reads new.reader)
         → Returns new (Err (tool.Stopped Only (record { count = count; stop = stop.Frame why })))
     at_frame (Truncated held) (same, before, cut, is_held, some) stays counts = (
@@ -280,7 +280,7 @@ module _ {W T N M : Type 0} (contents : W → Option (List ℕ)) (failures : W �
 
     module _ (p : List ℕ) (next : IsNext new p) (some : IsFull p) (few_before : count < 10 ^ 19 - 1) (early : IsNotLate limit p) (before : IsBefore limit count) (stays : Stays)
         (counts : failed_reads new.reader ≡ failed_reads old.reader) where
-      -- or the next block spells no message
+      -- or the next block is not a valid message
       unclean : (file : Source) (end : ReplayEnd) (why : Stop) → end.stop ≡ why → file ≡ Only → end.count ≡ count → IsFaultOf p why → at t ≡ at last → Returns (passed new) (Err (tool.Stopped file end))
       unclean file end (stop.Codec f) is only counted faulty kept = (
         only,
@@ -367,7 +367,7 @@ module _ {W T N M : Type 0} (contents : W → Option (List ℕ)) (failures : W �
     named_so part.TooMany (same, before, next) = still same
     named_so (part.Refused why) (before, (p, next, some, few_before, early, (named, choice_named, withheld))) = (named ∙ shown.named, choice_named ∙ shown.choice_named)
 
-  -- what reading a part into such a sink writes, returns and leaves
+  -- the outcome of reading a part into such a sink: its output, its result and its state
   pub shown_part : {R : Type 0} (remaining : R → Option (List ℕ)) (failed_reads : R → Failures) (limit : Limit) (old new : Reading R) (count : ℕ) (s t : T) (why : Part ToolFault)
       → ReadsPart remaining failed_reads Shown Unshown limit old new 0 count s why t → count ≤ 10 ^ 19 - 1
       → ((name t ≡ name s) × (choice_name t ≡ choice_name s))

@@ -16,13 +16,13 @@ use Rattle.itch_commands.specs.Outputs.{WritesText}
 use Rattle.itch_commands.proofs.JoinedTexts.{text_then, text_fails}
 use Rattle.itch_book.proofs.QueuePrices.{DonePrices, none_done, next_parts, one_done, none_left, level_is}
 
--- the line of the totals that a book gives is that of the price
+-- the line of the totals in a book is that of the price
 total_line : (line : Side → ℕ → ℕ → ℕ → List ℕ) (orders : List Order) (l : ℕ) (s : Side) (price : ℕ) (total : ℕ × ℕ) → total ≡ level_total orders l s price
     → line s price total.0 total.1 ≡ price_line line s (queue orders l s) price
 total_line line orders l s price total is =
     ap (λ (t : ℕ × ℕ). line s price t.0 t.1) is ∙ ap (λ xs. line s price (sum_by (λ x. x.shares) xs) (length xs)) (level_is orders l s price)
 
--- so many prices are still wanted after these
+-- that many prices are still requested after these
 abbrev pub LeavesRoom : Option ℕ → List ℕ → Option ℕ → Type 0
 LeavesRoom None done None = ⊤
 LeavesRoom None done (Some more) = ⊥
@@ -59,7 +59,7 @@ first_on None next price rest wanted = refl
 first_on (Some zero) next price rest wanted = absurd (cc wanted)
 first_on (Some (suc more)) next price rest wanted = let one : more ≡ suc more - 1 = omega arith in ap (λ k. price ∷ take k rest) one
 
--- a price that is wanted is the next one
+-- a requested price is the next one
 pub is_next : (left next : Option ℕ) (price : ℕ) → next_wanted left next ≡ Some price → next ≡ Some price
 is_next None next price wanted = wanted
 is_next (Some zero) next price wanted = absurd (cc wanted)
@@ -70,14 +70,14 @@ nothing_left None next rest none last = last none
 nothing_left (Some zero) next rest none last = refl
 nothing_left (Some (suc more)) next rest none last = ap (take (suc more)) (last none)
 
--- if no more is wanted, or there is none, the prices that are done are all that are wanted
+-- if no more is requested, or there is none, the prices that are done are all the requested ones
 first_ends : (depth left next : Option ℕ) (done rest : List ℕ) → next_wanted left next ≡ None → LeavesRoom depth done left → (next ≡ None → rest ≡ [])
     → first_of depth (done ++ rest) ≡ done
 first_ends depth left next done rest none room last =
     first_past depth left done rest room ∙ ap (λ ps. done ++ ps) (nothing_left left next rest none last) ∙ append-nil done
 
 module _ {W : Type 0} (contents : W → Option (List ℕ)) (failures : W → Failures) (line : Side → ℕ → ℕ → ℕ → List ℕ) (orders : List Order) (l : ℕ) (depth : Option ℕ) (s : Side) where
-  -- the lines of the prices up to the last one were written, and so many more are wanted
+  -- the lines of the prices up to the last one were written, and that many more are requested
   pub record SideSoFar (last left : Option ℕ) (old new : W) : Type 0 where
     pub done : List ℕ
     pub so_far : DonePrices orders l s last done

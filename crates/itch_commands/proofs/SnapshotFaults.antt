@@ -39,7 +39,7 @@ module _ (wanted : ℕ → Bool) (b c : List ℕ) (ps : List (List ℕ)) (n : Co
   read_so unread new fault next =
       reads_fault (Some (blocks qs ++ unread)) new (Err fault) (inl (n, (qs, Some unread, taken unread, subst (λ l. l ≤ 10 ^ 19 - 1) (sym size) few, next)))
 
-  -- nothing follows them but the end of the file
+  -- only the end of the file follows them
   at_end : (fault : SnapFault) → Day b ps c → (IsDecidedFault fault → IsFaultOf (blocks qs ++ c) fault) → IsDecidedFault fault → IsFaultAs read b fault
   at_end fault day is decided = (blocks qs ++ c, record { payloads = ps; rest = c; day = day; same = refl }, is decided)
 

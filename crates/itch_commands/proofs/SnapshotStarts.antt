@@ -1,4 +1,4 @@
--- Where a joiner stands that has read a snapshot.
+-- The state of a joiner that has read a snapshot.
 use Rattle.std.proofs.Common.{◌≡◌, ℕ, List, map, Option, Ok, Some, refl, sym, subst}
 use Rattle.std.specs.Ordering.{nat_cmp}
 use Rattle.std.specs.FinMap as finite
@@ -24,7 +24,7 @@ pub joined_at : (now : State) (start : Start) → now ≡ record new { joined = 
 joined_at now start is =
     subst (λ s. IsJoined s × (start_of (position_of s) ≡ start)) (sym is) (record { waits = λ i. finite.get-empty nat_cmp i; joined = refl; running = refl }, refl)
 
--- a snapshot that was read leaves a market and a number
+-- a snapshot that was read has a market and a number
 pub is_start : (read : List ℕ → List ℕ) (before later : Option (List ℕ)) (next : ℕ) (n : Content) → ReadsAs read before later (Ok next) n → IsStart (n, next)
 is_start read before later next n (ps, mid, takes, few, (payload, off, closes)) =
     let qs = map read ps in

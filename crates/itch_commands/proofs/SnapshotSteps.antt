@@ -1,4 +1,4 @@
--- What a command that copies a snapshot file has read of it, and one block more.
+-- The progress of a command that copies a snapshot file, and one more block.
 use Rattle.std.proofs.Common.{◌≡◌, ℕ, ◌+◌, ◌-◌, ◌≤◌, ◌^◌, List, map, Option, None, Ok, Err, refl, sym, subst, inl, inr}
 use Rattle.itch_codec.specs.Messages.{message_of}
 use Rattle.itch_market.specs.Content.{Content, empty, laid}
@@ -11,7 +11,7 @@ use Rattle.itch_snapshot.specs.declared.fault.SnapFault.{SnapFault}
 use Rattle.itch_snapshot.specs.declared.fault.SnapFault.TheVariants.{NoEnd, Frame, Codec, Rule, AfterEnd, TooManyMessages}
 use Rattle.itch_snapshot.specs.Reads.{ReadsNext, ReadsEnd, ReadsAll, ReadsSnapshot}
 
--- where no message is taken the market stays as it was
+-- if no message is taken the market is unchanged
 fault_leaves : (taken : ℕ) (m n : Content) (old new : Option (List ℕ)) (fault : SnapFault) → ReadsNext taken m old new (Err fault) n → n ≡ m
 fault_leaves taken m n old new NoEnd (same, ends) = same
 fault_leaves taken m n old new (Frame f) (same, fails) = same
@@ -20,7 +20,7 @@ fault_leaves taken m n old new (Rule place why) (payload, off, (room, here, no_e
 fault_leaves taken m n old new TooManyMessages (payload, off, (full, no_end, same)) = same
 fault_leaves taken m n old new AfterEnd h = absurd h
 
--- a laid market has no other fault
+-- a laid market gives the same fault
 fault-laid : (taken : ℕ) (m n : Content) (old new : Option (List ℕ)) (fault : SnapFault) → IsGood m → ReadsNext taken (laid m) old new (Err fault) n → ReadsNext taken m old new (Err fault) m
 fault-laid taken m n old new NoEnd good (same, ends) = (refl, ends)
 fault-laid taken m n old new (Frame f) good (same, fails) = (refl, fails)

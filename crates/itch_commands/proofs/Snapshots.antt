@@ -1,4 +1,4 @@
--- The snapshot of what a file's messages leave.
+-- The snapshot of the market after a file's messages.
 use Rattle.std.proofs.Common.{◌≡◌, ℕ, ◌+◌, ◌<◌, ◌≤◌, ◌^◌, List, ◌++◌, map, length, Bool, true, not, Option, None, Some, Ok, refl, sym, ap, subst, ◌∙◌, arith}
 use Rattle.std.specs.Option.{option_copied}
 use Rattle.std.proofs.lemmas.List.Filters.{length-filter_both}
@@ -29,11 +29,11 @@ use Rattle.itch_commands.specs.declared.fault.ToolFault.{ToolFault}
 use Rattle.itch_day.specs.declared.limit.Limit.{Limit}
 use Rattle.itch_market.proofs.DayMessages.{Applied}
 
--- what a snapshot file was read as can be written
+-- the market of a snapshot file can be written
 pub read_short : (old new : Option (List ℕ)) (done : Content × ℕ) → ReadsSnapshot old new (Ok done) → length (snap done.0) < 10 ^ 19
 read_short old new done (mid, (ps, at, takes, few, closes), ends) = omega (arith, few, taken_short ps done.0 takes.fits takes.none takes.left)
 
--- a market cut down to some locates has no more messages
+-- a market restricted to some locates has no more messages
 pub only_short : (wanted : ℕ → Bool) (n : Content) → length (snap (only wanted n)) ≤ length (snap n)
 only_short wanted n =
     let passes = λ (x : Message). not (skips wanted x) in
@@ -43,7 +43,7 @@ pub cut_no_longer : (set : Option (Bor Wanted)) (n : Content) → length (snap (
 cut_no_longer None n = omega arith
 cut_no_longer (Some set) n = only_short (has set.now) n
 
--- and the same bytes in whichever order its orders stand
+-- and the same bytes in any order of its orders
 pub only_bytes : (wanted : ℕ → Bool) (m n : Content) → snap n ≡ snap m → canon (only wanted n) ≡ canon (only wanted m)
 only_bytes wanted m n same = ap (λ xs. blocks (map spelling xs)) (snap_only wanted n ∙ ap (kept wanted) same ∙ sym (snap_only wanted m))
 
@@ -61,7 +61,7 @@ module _ (limit : Limit) (bytes new : Option (List ℕ)) (count : ℕ) (n : Cont
   pub applied_short : length (snap n) ≤ count
   applied_short = omega (arith, taken_short applied.payloads n applied.fits applied.taken.taken applied.left, applied.counted)
 
-  -- and is the snapshot of the messages
+  -- and it is the snapshot of the messages
   applied_snapshot : canon n ++ closing (count + 1) ≡ snapshot_of applied.payloads
   applied_snapshot =
       let ms = map message_of applied.payloads in
@@ -71,7 +71,7 @@ module _ (limit : Limit) (bytes new : Option (List ℕ)) (count : ℕ) (n : Cont
   same_list : snap n ≡ snap (run (map message_of applied.payloads))
   same_list = ap snap applied.left ∙ snap-laid (run (map message_of applied.payloads)) good
 
-  -- cut down to some locates, too
+  -- restricted to some locates, too
   module _ (set : Wanted) where
     abbrev passes : Message → Bool
     passes x = not (skips (has set) x)
@@ -88,7 +88,7 @@ module _ (limit : Limit) (bytes new : Option (List ℕ)) (count : ℕ) (n : Cont
         ap (λ xs. blocks (map spelling xs) ++ closing (count + 1)) same_cut
         ∙ ap (λ k. canon (only (has set) (run (map message_of applied.payloads))) ++ closing (k + 1)) (sym applied.counted)
 
-  -- the same of the locates that are wanted
+  -- the same for the requested locates
   pub cut_short : (set : Option (Bor Wanted)) → length (snap (cut_to set n)) ≤ count
   cut_short None = applied_short
   cut_short (Some set) = set_short set.now
@@ -97,7 +97,7 @@ module _ (limit : Limit) (bytes new : Option (List ℕ)) (count : ℕ) (n : Cont
   cut_snapshot None = applied_snapshot
   cut_snapshot (Some set) = set_snapshot set.now
 
-  -- the directory that they leave
+  -- the directory after them
   same_listings : Content.securities n ≡ directory_after applied.payloads
   same_listings = ap Content.securities applied.left
 

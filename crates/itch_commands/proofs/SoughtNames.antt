@@ -5,12 +5,12 @@ use Rattle.itch_commands.specs.Stocks.{names_of}
 use Rattle.itch_commands.proofs.LocateLists.{Lacks}
 use Rattle.itch_commands.proofs.StockNames.{one_name, first_name}
 
--- a test of one of the values that a list becomes
+-- a test of one of the values of a mapped list
 pub any_in : {X Y : Type 0} (p : Y → Bool) (f : X → Y) (xs : List X) → list_any p (map f xs) ≡ list_any (λ x. p (f x)) xs
 any_in p f [] = refl
 any_in p f (x ∷ xs) = ap (λ b. p (f x) || b) (any_in p f xs)
 
--- these names were taken, and those of the rest are still to come
+-- these names were taken, and those of the rest remain
 abbrev pub Named : List ℕ → List (List ℕ) → List ℕ → Type 0
 Named text taken rest = names_of text ≡ taken ++ names_of rest
 

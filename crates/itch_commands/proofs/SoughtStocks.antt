@@ -1,4 +1,4 @@
--- What is sought after messages: the stock of each locate's last Stock Directory message, and the names that have not come.
+-- The search for stocks after messages: the stock of each locate's last Stock Directory message, and the names that have not come.
 use Rattle.std.proofs.Common.{◌≡◌, ◌≢◌, ℕ, ◌<◌, ◌==◌, Bool, true, false, not, cond, ◌&&◌, ◌||◌, List, [], ◌∷◌, length, Option, Some, None, option_map, set, bytes_eq, slice_index_or, refl, sym, ap, subst, ◌∙◌, arith}
 use Rattle.std.specs.List.{list_all, list_any, filter}
 use Rattle.std.proofs.lemmas.Bool.Decides.{nat_tests}
@@ -8,7 +8,7 @@ use Rattle.itch_codec.specs.declared.message.Message.{Message}
 use Rattle.itch_commands.specs.Choices.{Chosen, chosen_after, chosen_past, are_found_in}
 use Rattle.itch_commands.specs.Sought.{Sought, sought, listed, sought_with, sought_after, is_one_of, is_found, are_found, found_at, is_named, has_name, is_of_one, stock_with, stock_past}
 
--- names with what is missing and what is found
+-- names with the missing and the found ones
 abbrev seek : List (List ℕ) → List (List ℕ) → List Bool → Sought
 seek names missing found = record { names = names; missing = missing; found = found }
 
@@ -17,7 +17,7 @@ pub alike : (names : List (List ℕ)) (missing missing' : List (List ℕ)) (foun
 alike names missing missing' found i locate one one' lacks at is =
     ap (λ ms. seek names ms (set found i one)) lacks ∙ ap (λ l. seek names missing' (set found l one)) at ∙ ap (λ b. seek names missing' (set found locate b)) is
 
--- what is sought after these messages
+-- the state of the search after these messages
 unfoldable pub sought_past : Sought → List Message → Sought
 sought_past s [] = s
 sought_past s (x ∷ xs) = sought_past (sought_after x s) xs
@@ -27,7 +27,7 @@ unfolding chosen_past sought_past
 stocks_past chosen s [] is = is
 stocks_past chosen s (x ∷ xs) is = stocks_past (chosen_after chosen x) (sought_after x s) xs (ap (option_map (sought_after x)) is)
 
--- what is known of a locate whose stock is this
+-- known facts about a locate with this stock
 record At (names : List (List ℕ)) (locate : ℕ) (s : Sought) (stock : Option (List ℕ)) : Type 0 where
   pub named : s.names ≡ names
   pub all : length s.found ≡ 65536
@@ -66,7 +66,7 @@ found_past chosen names xs locate is less =
     ap (λ stocks. found_at stocks locate) (stocks_past chosen (sought names) xs is)
     ∙ At.found (at_past names locate less (sought names) None xs (at_first names locate less))
 
--- all of those that q does not have, and all of those that q has or that are in p
+-- all elements that q does not have, and all elements that q has or that are in p
 all_others : (p q : List ℕ → Bool) (names : List (List ℕ)) → list_all p (filter (λ name. not (q name)) names) ≡ list_all (λ name. q name || p name) names
 all_others p q [] = refl
 all_others p q (name ∷ names) =

@@ -53,7 +53,7 @@ any_at f l (k ∷ ks) =
     ap₂ ◌||◌ (at_its_place f l k) (any_at f l ks) ∙ split_and (l == k) (list_any (eq_by_cmp nat_cmp l) ks) (f l)
     ∙ ap (λ b. (b || list_any (eq_by_cmp nat_cmp l) ks) && f l) (sym (key_test l k))
 
--- what holds of no name
+-- a property of no name
 none_of : (names : List (List ℕ)) → list_any (λ name. false) names ≡ false
 none_of [] = refl
 none_of (name ∷ names) = none_of names
@@ -80,7 +80,7 @@ all_kept : (names : List (List ℕ)) → filter (λ name. true) names ≡ names
 all_kept [] = refl
 all_kept (name ∷ names) = ap (λ ns. name ∷ ns) (all_kept names)
 
--- the same of names that are references
+-- the same for names that are references
 pub one_of_names : {X : Type 0} (text : X → List ℕ) (names : List X) (stock : List ℕ) → list_any (λ n. bytes_eq stock (text n)) names ≡ list_any (λ name. bytes_eq name stock) (map text names)
 one_of_names text [] stock = refl
 one_of_names text (n ∷ names) stock = ap₂ ◌||◌ (turned stock (text n)) (one_of_names text names stock)
@@ -143,7 +143,7 @@ and_true : (b : Bool) → (b && true) ≡ b
 and_true true = refl
 and_true false = refl
 
--- what neither a list nor one more has
+-- the elements that neither a list nor one more has
 lacks_both : (p : List ℕ → Bool) (q : List ℕ → Bool) (r : List ℕ → Bool) → ((name : List ℕ) → r name ≡ (p name || (q name || false))) → (names : List (List ℕ))
     → filter (λ name. not (q name)) (filter (λ name. not (p name)) names) ≡ filter (λ name. not (r name)) names
 lacks_both p q r both [] = refl
@@ -162,7 +162,7 @@ named names missing = record { names = names; missing = missing }
 pub names_are : (ns ns' ms ms' : List (List ℕ)) → ns ≡ ns' → ms ≡ ms' → named ns ms ≡ named ns' ms'
 names_are ns ns' ms ms' p q = ap (λ n. named n ms) p ∙ ap (λ m. named ns' m) q
 
--- a stock that none of the names is
+-- a stock that equals none of the names
 pub missing_same : (p : List ℕ → Bool) (names : List (List ℕ)) (stock : List ℕ) → list_any (λ name. bytes_eq name stock) names ≡ false
     → filter (λ name. not (bytes_eq name stock)) (filter (λ name. not (p name)) names) ≡ filter (λ name. not (p name)) names
 missing_same p [] stock other = refl
@@ -185,7 +185,7 @@ pub all_in : {X Y : Type 0} (p : Y → Bool) (f : X → Y) (xs : List X) → lis
 all_in p f [] = refl
 all_in p f (x ∷ xs) = ap (λ b. p (f x) && b) (all_in p f xs)
 
--- what is marked at each name once that of a stock has come
+-- the marks of the names once a stock has come
 pub marked_on : (f g : List ℕ → Option Bool) (listed : List ℕ → Bool) (stock : List ℕ) → ((name : List ℕ) → g name ≡ cond (bytes_eq stock name) (Some true) (f name))
     → ((name : List ℕ) → is_some (f name) ≡ listed name) → is_some (f stock) ≡ true → (name : List ℕ) → is_some (g name) ≡ listed name
 marked_on f g listed stock is marks found name = by_test (bytes_eq stock name)

@@ -1,4 +1,4 @@
--- A market whose messages are counted: what was counted of those that were read.
+-- A market whose messages are counted: the tally of the messages that were read.
 use Rattle.std.proofs.Common.{◌≡◌, ◌≢◌, ℕ, ◌+◌, ◌-◌, ◌^◌, ◌<◌, ◌≤◌, ◌⊎◌, Bool, true, false, max, List, [], ◌∷◌, ◌++◌, map, length, Option, None, Some, Result, Ok, Err, inl, inr, refl, sym, ap, subst, ◌∙◌, arith, append-nil, append_assoc, ◌==◌, if◌then◌else◌}
 use Rattle.std.specs.Prelude.{slice_index}
 use Rattle.std.specs.FinMap as finite
@@ -54,7 +54,7 @@ all_fit : (orders : List Order) → AllByRecursion IsLive orders → AllFit orde
 all_fit [] all = tt
 all_fit (x ∷ orders) (one, all) = (one.1, all_fit orders all)
 
--- orders that are laid are as many
+-- laying orders keeps their number
 live_laid : (m : Content) → IsGood m → live (laid m) ≡ live m
 live_laid m good =
     ap (length {A = Order}) (lay_fit m.orders (all_fit m.orders good.live)) ∙ length-in_order stands_before m.orders
@@ -67,7 +67,7 @@ some_last : {X : Type 0} (xs ys : List X) → ys ≢ [] → xs ++ ys ≢ []
 some_last [] ys some none = some none
 some_last (x ∷ xs) ys some none = absurd (cc)
 
--- one message more has a type, or not
+-- one more message has a type, or it does not
 one_more : (kind : ℕ) (message : Message) (rest : List Message) (before mid after : ℕ) → mid ≡ before + (if kind_of message == kind then 1 else 0) → after ≡ mid + count_of kind rest
     → after ≡ before + count_of kind (message ∷ rest)
 one_more kind message rest before mid after one more =
@@ -107,7 +107,7 @@ module _ {T : Type 0} (market : T → Content) (tally : T → Tally) (complete :
   market_all s t count [] same = ap (λ (x : Marked T). market x.sink) same
   market_all s t count (p ∷ ps) (mid, ((took, counted, listed), marked), rest) = (market mid.sink, took, market_all mid t (count + 1) ps rest)
 
-  -- what was counted of these messages, which a market takes that is this one laid
+  -- the tally of these messages, taken by a market that is this one laid
   pub record Counted (m : Content) (s : T) (count : ℕ) (ms : List Message) (t : T) : Type 0 where
     pub counts : (kind : ℕ) → kind < 256 → slice_index (Tally.counts (tally t)).counts kind ≡ slice_index (Tally.counts (tally s)).counts kind + count_of kind ms
     pub first : Tally.first (tally t) ≡ earliest (Tally.first (tally s)) ms
@@ -160,7 +160,7 @@ module _ {T : Type 0} (market : T → Content) (tally : T → Tally) (complete :
     market_stop count r s t (part.Refused why) (before, (p, next, full, room, early, ((refuses, same, as_complete, same_events), marked))) =
         ((before, (p, next, full, room, early, refuses)), (same, as_complete, same_events))
 
-    -- what reading a part does to it is what it does to the market
+    -- reading a part has the same effect on it as on the market
     market_part : (old new : Reading R) (before count : ℕ) (s t : Marked T) (stop : Part Refused) → ReadsPart remaining failures (TakesMarked TakesTallied) RefusesAll limit old new before count s stop t
         → ReadsPart remaining failures TakesMessage RefusesMessage limit old new before count (market s.sink) stop (market t.sink)
     market_part old new before count s t stop reads =
@@ -211,7 +211,7 @@ module _ {T : Type 0} (market : T → Content) (tally : T → Tally) (complete :
           front = (bytes_left remaining mid, read.taken.bytes);
         }
 
-    -- and this was counted of them
+    -- and this is their tally
     pub is_tally : IsNew (tally s.sink) → complete s.sink ≡ true → events s.sink ≡ [] → IsTally reads.payloads t.mark (market t.sink) (tally t.sink) (complete t.sink) (events t.sink)
     is_tally new whole none =
         let ms : List Message = map message_of reads.payloads in
@@ -240,7 +240,7 @@ same_summary : (a b c d e f g h i j : ℕ) (p q r s : Option ℕ) (t u : Bool) �
     → ◌≡◌ {A = Summary} record { count = a; bytes = c; first = p; last = r; stocks = e; live = g; peak = i; is_ended = t } record { count = b; bytes = d; first = q; last = s; stocks = f; live = h; peak = j; is_ended = u }
 same_summary a b c d e f g h i j p q r s t u one two three four five six seven eight = rw (one, two, three, four, five, six, seven, eight) refl
 
--- what is told of what was counted is what is told of the messages
+-- the text about the tally is the text about the messages
 pub told_text : (form : Form) (payloads : List (List ℕ)) (mark : Mark) (m : Content) (tally : Tally) (events : List Event) → IsTally payloads mark m tally true events
     → info_text form (summary_by mark m tally) (slice_index tally.counts.counts) events ≡ info_of form payloads
 told_text form payloads mark m tally events is =

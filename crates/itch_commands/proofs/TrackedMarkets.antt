@@ -1,4 +1,4 @@
--- A market that is tracked: what a message changes in it, and which changes are alike.
+-- A market that is tracked: the change of a message, and changes with the same effect.
 use Rattle.std.proofs.Common.{◌≡◌, ℕ, ◌+◌, ◌<◌, ◌≤◌, ◌⊎◌, List, [], ◌∷◌, length, Option, None, inl, inr, refl, sym, ap, subst, ◌∙◌, ◌↔◌, arith}
 use Rattle.itch_codec.specs.Messages.{message_of}
 use Rattle.itch_codec.specs.Widths.{IsMessage}
@@ -28,14 +28,14 @@ use Rattle.itch_market.proofs.PlainMessages.{plain_effect, plain_same}
 use Rattle.itch_market.proofs.SameMarkets.{laid_is_same, same_back, same_chain}
 use Rattle.itch_commands.specs.FirstDifferences.{limited_to}
 
--- what a step changed: nothing, or what a message does that is not refused
+-- the change of a step: none, or the effect of a message that is not refused
 abbrev pub Changed : Content → Message → Content → Type 0
 Changed m change n =
     ((change ≡ nothing) × (n ≡ m))
     ⊎ ((message : Message) × IsMessage message × (reason m message ≡ None) × (change ≡ plain m message) × (n ≡ laid (effect m message)))
 
 module _ {T : Type 0} (market : T → Content) (change : T → Message) where
-  -- a sink that notes what a message changes in its market
+  -- a sink that notes the change of a message in its market
   abbrev pub Tracks : T → ℕ → List ℕ → T → Type 0
   Tracks s number payload t = TakesMessage (market s) number payload (market t) × (change t ≡ plain (market s) (message_of payload))
 
@@ -58,7 +58,7 @@ module _ {T : Type 0} (market : T → Content) (change : T → Message) where
     market_stop count r s t part.TooMany (same, before, many) = (ap market same, before, many)
     market_stop count r s t (part.Refused why) (before, (p, next, full, room, early, denies)) = (before, (p, next, full, room, early, denies))
 
-    -- what reading a part does to it is what it does to the market
+    -- reading a part has the same effect on it as on the market
     pub market_part : (old new : Reading R) (before count : ℕ) (s t : T) (stop : Part Refused) → ReadsPart remaining failures Tracks Denies limit old new before count s stop t
         → ReadsPart remaining failures TakesMessage RefusesMessage limit old new before count (market s) stop (market t)
     market_part old new before count s t stop reads =
@@ -79,11 +79,11 @@ module _ {T : Type 0} (market : T → Content) (change : T → Message) where
           counts = reads.counts;
         }
 
-    -- what is held where it stops is the block that was not taken
+    -- the block held when it stops is the one that was not taken
     pub tracked_held : (old new : Reading R) (before count : ℕ) (s t : T) (stop : Part Refused) → ReadsPart remaining failures Tracks Denies limit old new before count s stop t → IsLeft stop new
     tracked_held old new before count s t stop reads = stop_held remaining Denies limit new count reads.last t stop reads.stops
 
-    -- one message was taken, and this is what it changed
+    -- one message was taken, and this is its change
     pub one_changed : (old new : Reading R) (count total : ℕ) (s t : T) → ReadsPart remaining failures Tracks Denies (limited_to (count + 1) limit) old new count total s part.Full t
         → Changed (market s) (change t) (market t)
     one_changed old new count total s t reads = one reads.payloads reads.taken.taken reads.taken.counted reads.taken.wanted reads.stops where
@@ -109,13 +109,13 @@ laid_alike a b m n good fine left right = (
 nothing_does : (m : Content) → effect m nothing ≡ m
 nothing_does m = refl
 
--- a message with the plainest one that changes nothing leaves the market as it was
+-- a message whose plainest one changes nothing leaves the market unchanged
 none_changed : (m n : Content) (message : Message) → IsGood m → plain m message ≡ nothing → n ≡ laid (effect m message) → Same m n
 none_changed m n message good plainest next =
     let still : effect m message ≡ m = sym (plain_effect m message good) ∙ ap (effect m) plainest ∙ nothing_does m in
     subst (Same m) (sym (next ∙ ap laid still)) (same_back (laid m) m (laid_is_same m good))
 
--- so changes that are alike leave markets the same that were so
+-- so changes with the same effect leave markets the same that were the same
 pub alike_same : (m n x y : Content) (change also : Message) → IsGood m → IsGood n → Same m n → Changed m change x → Changed n also y → change ≡ also → Same x y
 alike_same m n x y change also good fine same (inl (none, still)) (inl (nor, stays)) alike = subst (λ k. Same k y) (sym still) (subst (Same m) (sym stays) same)
 alike_same m n x y change also good fine same (inr (message, fits, clean, plainest, next)) (inl (nor, stays)) alike =

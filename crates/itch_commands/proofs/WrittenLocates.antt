@@ -8,7 +8,7 @@ use Rattle.itch_market.specs.Wanted.{Wanted, has}
 use Rattle.itch_commands.specs.Locates.{AreApart, IsListText, is_in, list_text, range_text}
 use Rattle.itch_commands.specs.Runs.{IsWritten, before_next, comma}
 
--- what follows from what a result is
+-- a consequence of the value of a result
 pub ok_so : {X E : Type 0} (P Q : X → Type 0) (r : Result X E) → ((x : X) → P x → Q x) → IfOk r P → IfOk r Q
 ok_so P Q (Ok x) so is = so x is
 ok_so P Q (Err e) so is = tt
@@ -53,7 +53,7 @@ below_more l next less same other = by_test (l == next)
     (λ no. other (let d : l ≢ next = grind (arith, nat_tests) in omega arith))
 
 module _ (set : Wanted) (text : List ℕ) (is_first : Bool) (next : ℕ) where
-  -- a locate that is not in the set, where no run has begun
+  -- a locate that is not in the set, while no run has begun
   pub passed_over : IsWritten set text is_first None next → false ≡ has set next → IsWritten set text is_first None (next + 1)
   passed_over so_far out = record {
     ranges = so_far.ranges;
@@ -85,7 +85,7 @@ module _ (set : Wanted) (text : List ℕ) (is_first : Bool) (next : ℕ) where
         so_far.members l before ∙ ap (λ b. list_any (is_in l) so_far.ranges || b) (sym off));
   }
 
-  -- it goes on
+  -- the run continues
   pub run_goes_on : (begin : ℕ) → IsWritten set text is_first (Some begin) next → true ≡ has set next → IsWritten set text is_first (Some begin) (next + 1)
   run_goes_on begin so_far within = record {
     ranges = so_far.ranges;

@@ -15,23 +15,23 @@ use Rattle.itch_commands.specs.declared.fault.ToolFault.{ToolFault}
 use Rattle.itch_commands.specs.declared.fault.ToolFault.TheVariants as tool
 use Rattle.itch_commands.specs.declared.form.BookForm.{BookForm}
 
--- the line of a price: of the shares of all orders at it, and of the number of these orders
+-- the line of a price: all shares at it, and the number of its orders
 abbrev pub price_line : (Side → ℕ → ℕ → ℕ → List ℕ) → Side → List Order → ℕ → List ℕ
 price_line line side orders price =
     line side price (sum_by (λ x. x.shares) (filter (is_at_price price) orders)) (length (filter (is_at_price price) orders))
 
--- the first of these prices, as many as are wanted; or all of them
+-- the first of these prices, as many as requested; or all of them
 abbrev pub first_of : Option ℕ → List ℕ → List ℕ
 first_of None ps = ps
 first_of (Some depth) ps = take depth ps
 
--- the next price of a side, unless no more are wanted
+-- the next price of a side, unless no more are requested
 abbrev pub next_wanted : Option ℕ → Option ℕ → Option ℕ
 next_wanted None price = price
 next_wanted (Some zero) price = None
 next_wanted (Some (suc more)) price = price
 
--- the lines of a side, whose orders are in priority order: the best price first, and as many prices as are wanted
+-- the lines of a side, whose orders are in priority order: the best price first, and as many prices as requested
 abbrev pub side_lines : (Side → ℕ → ℕ → ℕ → List ℕ) → Option ℕ → Side → List Order → List ℕ
 side_lines line depth side orders = flat_map (price_line line side orders) (first_of depth (prices orders))
 
@@ -41,7 +41,7 @@ book_lines form locate depth stock orders =
     title form locate stock
     ++ (side_lines (row form locate stock) depth Buy (queue orders locate Buy) ++ side_lines (row form locate stock) depth Sell (queue orders locate Sell))
 
--- the same of a locate that has this in the directory, if anything
+-- the same for a locate with this entry in the directory, if there is one
 abbrev pub listed_lines : BookForm → Option ℕ → List Order → ℕ → Option Listing → List ℕ
 listed_lines form depth orders locate None = []
 listed_lines form depth orders locate (Some s) = book_lines form locate depth (before_spaces s.entry.stock) orders
@@ -50,11 +50,11 @@ listed_lines form depth orders locate (Some s) = book_lines form locate depth (b
 abbrev pub lines_at : BookForm → Option ℕ → Content → ℕ → List ℕ
 lines_at form depth m locate = listed_lines form depth m.orders locate (finite.get m.securities locate)
 
--- the books of the locates of the directory that are wanted, in rising order, below one heading
+-- the books of the requested locates of the directory, in ascending order, below one heading
 abbrev pub books_of : BookForm → Option ℕ → (ℕ → Bool) → Content → List ℕ
 books_of form depth wanted m = head form ++ flat_map (lines_at form depth m) (filter wanted (finite.keys m.securities))
 
--- the locates that are wanted: those of a set, or all where there is none
+-- the requested locates: those of a set, or all if there is no set
 abbrev pub wanted_by : Option Wanted → ℕ → Bool
 wanted_by None locate = true
 wanted_by (Some set) locate = has set locate
@@ -69,7 +69,7 @@ abbrev pub IsUnlisted : Option Wanted → Securities → Type 0
 IsUnlisted None listings = ⊥
 IsUnlisted (Some set) listings = (locate : ℕ) × (locate < 65536) × (has set locate ≡ true) × (finite.get listings locate ≡ None)
 
--- a file is read, and the directory has each locate that is named there; or the file is refused, or the directory lacks one
+-- a file is read, and the directory has each requested locate; or the file is refused, or the directory lacks one
 abbrev pub ReadsListed : Option Wanted → (Result (Content × ℕ) ToolFault → Type 0) → Result (Content × ℕ) ToolFault → Type 0
 ReadsListed only reads (Ok done) = reads (Ok done) × AreListed only (Content.securities done.0)
 ReadsListed only reads (Err fault) =

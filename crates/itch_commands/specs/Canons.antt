@@ -1,5 +1,4 @@
--- Whether a snapshot file is canonical: all of its bytes are those of the snapshot of the market that its messages leave, closed
--- with its number.
+-- Canonical snapshot files: all bytes of the file are those of the snapshot of its market, closed with its number.
 use Rattle.std.specs.Prelude.{◌≡◌, ◌≢◌, ℕ, ◌-◌, ◌<◌, ◌≤◌, ◌^◌, ◌⊎◌, ◌↔◌, Bool, true, false, List, [], ◌++◌, length, codes, MatchOption, MatchResult, Option, IfSome, Result, Ok, Err}
 use Rattle.std.specs.Borrow.{Bor}
 use Rattle.std.specs.Io.KnownBytes.{Consumes, IsAtEnd}
@@ -15,12 +14,12 @@ use Rattle.itch_commands.specs.declared.fault.Source.TheVariants.{Only}
 use Rattle.itch_commands.specs.declared.fault.ToolFault.{ToolFault}
 use Rattle.itch_commands.specs.declared.fault.ToolFault.TheVariants as tool
 
--- the line that says whether a file is canonical
+-- the line that reports whether a file is canonical
 abbrev pub canonical_line : Bool → List ℕ
 canonical_line true = codes "canonical\n"
 canonical_line false = codes "not canonical\n"
 
--- the bytes after these at the front, or none if these are not at the front
+-- the bytes after this prefix, or none if the bytes do not begin with it
 abbrev pub StripsFront : List ℕ → List ℕ → Option (Bor (List ℕ)) → Type 0
 StripsFront bytes front rest = MatchOption rest ((more : List ℕ) → bytes ≢ front ++ more) (λ r. bytes ≡ front ++ r.now)
 
@@ -54,7 +53,7 @@ CopiesAll old new (Err (tool.Snap at fault)) n copy = (at ≡ Only) × ReadsAll 
 CopiesAll old new (Err tool.OutOfMemory) n copy = LacksRoom old new
 CopiesAll old new (Err fault) n copy = ⊥
 
--- after End of Snapshot the input is at its end, or an empty block comes off the front
+-- after End of Snapshot the input ends, or an empty block comes off the front
 abbrev pub EndsFile : Option (List ℕ) → Option (List ℕ) → Result Bool ToolFault → Type 0
 EndsFile old new (Ok true) = IsAtEnd old
 EndsFile old new (Ok false) = Consumes old new (block [])
@@ -62,8 +61,8 @@ EndsFile old new (Err (tool.Snap at fault)) = (at ≡ Only) × ReadsEnd old new 
 EndsFile old new (Err fault) = ⊥
 
 module _ {R : Type 0} (remaining : R → Option (List ℕ)) (failures : R → Failures) where
-  -- What checking a snapshot file says about its bytes, and leaves of its reader. The file is refused as by any reading; and
-  -- there may be no memory for a copy of the bytes of the messages taken.
+  -- The result of checking a snapshot file, and its reader afterwards. The file is refused as by any reading; or memory may run out for a
+  -- copy of the bytes of the messages taken.
   abbrev pub ChecksSnap : Reading R → Reading R → Result Bool ToolFault → Type 0
   ChecksSnap old new (Ok canonical) =
       (done : Content × ℕ) × ReadsSnap remaining failures Only old new (Ok done)

@@ -1,4 +1,4 @@
--- What the line of a fault does not say.
+-- The cause of a fault that its line does not include.
 use Rattle.std.specs.Prelude.{Option, Some, None}
 use Rattle.std.specs.declared.io.Error.{Error}
 use Rattle.itch_market.specs.Statuses.{stop_error}
@@ -8,7 +8,7 @@ use Rattle.itch_commands.specs.declared.fault.Source.TheVariants.{Output}
 use Rattle.itch_commands.specs.declared.fault.ToolFault.{ToolFault}
 use Rattle.itch_commands.specs.declared.fault.ToolFault.TheVariants as tool
 
--- the file that a command failed at, if it was one
+-- the file at which a command failed, if there is one
 abbrev pub source_of : ToolFault → Option Source
 source_of (tool.Stopped file end) = Some file
 source_of (tool.Snap file fault) = Some file

@@ -1,4 +1,4 @@
--- What a message changes in a market, as it is kept.
+-- The kept change of a message in a market.
 use Rattle.std.specs.Prelude.{Bool, true, false}
 use Rattle.itch_codec.specs.declared.message.Message.{Message}
 use Rattle.itch_market.specs.Plain.{nothing}

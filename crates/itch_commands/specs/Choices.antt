@@ -1,7 +1,7 @@
--- Which messages `show` shows, and in which form.
+-- The messages that `show` chooses, and their form.
 use Rattle.std.specs.Prelude.{ℕ, ◌+◌, ◌==◌, ◌&&◌, Bool, true, false, List, [], ◌∷◌, ◌++◌, Option, Some, None, option_map, if◌then◌else◌}
 use Rattle.std.specs.List.{list_any}
-use Rattle.itch_codec.specs.Headers.{header, kind_of, reference_of}
+use Rattle.itch_codec.specs.Headers.{header, kind_of, reference_of, time_of}
 use Rattle.itch_codec.specs.Json.{json_line}
 use Rattle.itch_codec.specs.Lines.{line_of}
 use Rattle.itch_codec.specs.Named.{named_line}
@@ -12,11 +12,16 @@ use Rattle.itch_market.specs.Wanted.{Wanted, has}
 use Rattle.itch_commands.specs.declared.filters.Filters.{Filters}
 use Rattle.itch_commands.specs.declared.form.ShowForm.{ShowForm}
 use Rattle.itch_commands.specs.declared.form.ShowForm.TheVariants as form
+use Rattle.itch_commands.specs.declared.start.Start.{Start}
+use Rattle.itch_commands.specs.Rows.{row_of}
+use Rattle.itch_commands.specs.Starts.{first, is_begun, start_after}
 use Rattle.itch_commands.specs.Sought.{Sought, sought, sought_after, is_sought, are_found}
 use Rattle.itch_commands.specs.Stocks.{names_of}
 
--- What chooses a message, where it is given: the locates, the stocks, the types, and the reference number that an order has by now.
+-- The criteria for choosing a message, if they are given: the start of a range among the remaining messages, the locates, the stocks, the
+-- types, and the present reference number of an order.
 pub record Chosen : Type 0 where
+  pub start : Start
   pub only : Option Wanted
   pub stocks : Option Sought
   pub types : Option (List ℕ)
@@ -24,28 +29,33 @@ pub record Chosen : Type 0 where
 
 -- every message
 abbrev pub everything : Chosen
-everything = record { only = None; stocks = None; types = None; reference = None }
+everything = record { start = first; only = None; stocks = None; types = None; reference = None }
 
--- what the words ask for, with the set that their list of locates is
+-- the same messages without a range, from the first one on
+abbrev pub of_all : Chosen → Chosen
+of_all chosen = record chosen { start = first }
+
+-- the choice of a command line, with the set of its list of locates
 abbrev pub chosen_by : Option Wanted → Filters → Chosen
 chosen_by set filters = record {
+  start = filters.start;
   only = set;
   stocks = option_map (λ names. sought (names_of names.now)) filters.stocks;
   types = option_map (λ types. types.now) filters.types;
   reference = filters.reference;
 }
 
--- a header has a locate of a set; none has one
+-- a header has a locate of a set; a message without a header does not
 abbrev pub is_at : Wanted → Option Header → Bool
 is_at set None = false
 is_at set (Some h) = has set h.locate
 
--- a message has a locate that is wanted
+-- a message has a requested locate
 abbrev pub is_located : Option Wanted → Message → Bool
 is_located None message = true
 is_located (Some set) message = is_at set (header message)
 
--- a message has a type that is wanted
+-- a message has a requested type
 abbrev pub is_typed : Option (List ℕ) → Message → Bool
 is_typed None message = true
 is_typed (Some types) message = list_any (λ letter. letter == kind_of message) types
@@ -60,45 +70,47 @@ abbrev pub is_about : Option ℕ → Message → Bool
 is_about None message = true
 is_about (Some reference) message = is_named reference (reference_of message)
 
--- a message is shown if all that is given chooses it
+-- a message is shown if it meets all criteria that are given
 abbrev pub is_chosen : Chosen → Message → Bool
 is_chosen chosen message =
-    is_located chosen.only message && is_sought chosen.stocks message && is_typed chosen.types message && is_about chosen.reference message
+    is_begun chosen.start (time_of message) && is_located chosen.only message && is_sought chosen.stocks message && is_typed chosen.types message && is_about chosen.reference message
 
--- the reference number of an order after a message: a replace gives its original order another one
+-- the reference number of an order after a message: a replace gives the original order another one
 abbrev pub renamed : Message → ℕ → ℕ
 renamed (is.OrderReplace m) reference = if m.original == reference then m.reference else reference
 renamed message reference = reference
 
--- what chooses the messages after this one
+-- the choice after this message
 abbrev pub chosen_after : Chosen → Message → Chosen
 chosen_after chosen message = record {
+  start = start_after chosen.start (time_of message);
   only = chosen.only;
   stocks = option_map (sought_after message) chosen.stocks;
   types = chosen.types;
   reference = option_map (renamed message) chosen.reference;
 }
 
--- what chooses the messages after these
+-- the choice after these messages
 unfoldable pub chosen_past : Chosen → List Message → Chosen
 chosen_past chosen [] = chosen
 chosen_past chosen (message ∷ messages) = chosen_past (chosen_after chosen message) messages
 
--- each of the stocks that are looked for has come after these messages
+-- each of the stocks searched for has come after these messages
 abbrev pub are_found_in : Chosen → List Message → Bool
 are_found_in chosen messages = are_found (Chosen.stocks (chosen_past chosen messages))
 
--- the line of a message in a form
+-- the line of a message in a form; as comma-separated values of another type it has none
 abbrev pub line_in : ShowForm → ℕ → Message → List ℕ
 line_in form.Text number message = line_of number message
 line_in form.Named number message = named_line number message
 line_in form.Json number message = json_line number message
+line_in (form.Csv kind) number message = row_of kind number message
 
 -- the line of a message if it is chosen, and otherwise nothing
 abbrev pub chosen_line : ShowForm → Chosen → ℕ → Message → List ℕ
 chosen_line form chosen number message = if is_chosen chosen message then line_in form number message else []
 
--- The lines of those of these messages that are chosen. The messages are numbered from here on, the others too.
+-- The lines of the chosen ones of these messages. All messages are numbered from here on, the others too.
 unfoldable pub chosen_lines : ShowForm → Chosen → ℕ → List Message → List ℕ
 chosen_lines form chosen number [] = []
 chosen_lines form chosen number (message ∷ messages) =

@@ -1,4 +1,4 @@
--- What a day file is expected to be.
+-- The expectations for a day file.
 use Rattle.std.specs.Prelude.{◌≡◌, ℕ, ◌==◌, Bool, true, false, List, length, map, ◌⊎◌, Option, None, Some, Result, Ok, Err, nat_lt, if◌then◌else◌}
 use Rattle.itch_codec.specs.Messages.{message_of}
 use Rattle.itch_market.specs.Content.{Content}
@@ -9,7 +9,7 @@ use Rattle.itch_commands.specs.declared.fault.Source.TheVariants.{Only}
 use Rattle.itch_commands.specs.declared.fault.ToolFault.{ToolFault}
 use Rattle.itch_commands.specs.declared.fault.ToolFault.TheVariants as tool
 
--- nothing more is expected of a file than that it follows the order rules
+-- no expectation except that the file follows the order rules
 abbrev pub nothing : Expected
 nothing = record { count = None; end = false }
 
@@ -18,7 +18,7 @@ abbrev pub is_last : Option ℕ → Bool
 is_last None = false
 is_last (Some code) = code == 67
 
--- how a number of messages differs from the one that is expected
+-- the difference between a number of messages and the expected one
 abbrev pub unmet_count : ℕ → ℕ → Option ToolFault
 unmet_count expected count =
     if nat_lt count expected then Some (tool.Short Only count) else if nat_lt expected count then Some (tool.Unmet (More expected)) else None
@@ -35,15 +35,15 @@ abbrev pub unmet_by : Option ℕ → Bool → ℕ → Option ℕ → Option Tool
 unmet_by None end count event = unmet_end end event
 unmet_by (Some expected) end count event = or_end end event (unmet_count expected count)
 
--- how a file with so many messages, and with this last system event, differs from what is expected of it, if it does
+-- the difference between a file with that many messages and this last system event, and the expectations, if there is one
 abbrev pub unmet : Expected → ℕ → Option ℕ → Option ToolFault
 unmet expected count event = unmet_by expected.count expected.end count event
 
--- the same of these messages
+-- the same for these messages
 abbrev pub unmet_of : Expected → List (List ℕ) → Option ToolFault
 unmet_of expected payloads = unmet expected (length payloads) (Content.event (run (map message_of payloads)))
 
--- what was read is as expected; or the reading is refused, or what was read is not as expected, and this says how
+-- the file meets the expectations; or the reading is refused, or the file does not meet them, and this is the difference
 abbrev pub Meets : Expected → (Result (List (List ℕ)) ToolFault → Type 0) → Result (List (List ℕ)) ToolFault → Type 0
 Meets expected reads (Ok payloads) = reads (Ok payloads) × (unmet_of expected payloads ≡ None)
 Meets expected reads (Err fault) =

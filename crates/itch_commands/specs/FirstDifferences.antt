@@ -19,20 +19,20 @@ use Rattle.itch_commands.specs.declared.form.Form.TheVariants as form
 use Rattle.itch_day.specs.Limits.{IsWithin}
 use Rattle.itch_day.specs.declared.limit.Limit.{Limit}
 
--- the markets after k messages of each are the same; of fewer payloads all count
+-- the markets after k messages of each are the same; if there are fewer payloads, all count
 abbrev pub IsSameAt : List (List ℕ) → List (List ℕ) → ℕ → Type 0
 IsSameAt p q k = Same (run (map message_of (take k p))) (run (map message_of (take k q)))
 
--- the markets after n messages of each differ, and not after fewer
+-- the markets after n messages of each differ, and after fewer they do not
 pub record IsFirstDifference (p q : List (List ℕ)) (n : ℕ) : Type 0 where
   pub before : (k : ℕ) → k < n → IsSameAt p q k
   pub there : IsSameAt p q n → ⊥
 
--- the same part of a file, but with this many messages
+-- the same part of a file, but with at most this many messages
 abbrev pub limited_to : ℕ → Limit → Limit
 limited_to count limit = record { after = Some count; until = limit.until }
 
--- the first messages of the part of a file that is wanted, as many as this; or all of them, if there are fewer
+-- the first messages of the requested part of a file, this many; or all of them, if there are fewer
 abbrev pub IsFront : Limit → ℕ → List ℕ → List (List ℕ) → Type 0
 IsFront limit count bytes payloads =
     AreTaken limit payloads
@@ -53,7 +53,7 @@ count_of (tool.Stopped at end) = Some end.count
 count_of (tool.Short at count) = Some count
 count_of fault = None
 
--- what ends the comparison where a file stops after this many messages: nothing, unless more are wanted
+-- the end of the comparison if a file stops after this many messages: none, unless more were requested
 abbrev pub over : Option Stop → Limit → Source → ℕ → Result (Unit {0}) ToolFault
 over None limit file count = Ok tt
 over (Some stop) limit file count = done (stopped stop limit.after file count)
@@ -63,7 +63,7 @@ over (Some stop) limit file count = done (stopped stop limit.after file count)
     done (Err fault) = Err fault
 
 module _ {R : Type 0} (remaining : R → Option (List ℕ)) (failures : R → Failures) where
-  -- What was read of a file after this many messages of each: as many, and nothing after them; or all that is wanted, if that is fewer.
+  -- The messages read of a file after this many of each: that many, and nothing after them; or all requested ones, if those are fewer.
   abbrev pub ReadsUpTo : Source → Limit → ℕ → Reading R → Reading R → List (List ℕ) → Type 0
   ReadsUpTo file limit count old new payloads =
       ((length payloads ≡ count) × IsWithin limit count × ReadsDay remaining failures file (limited_to count limit) old new (Ok payloads))
@@ -83,13 +83,13 @@ module _ {R S : Type 0} (remaining : R → Option (List ℕ)) (failures : R → 
       (p : List (List ℕ)) × (q : List (List ℕ)) × IsRefusedAfter remaining failures First limit a b fault p
       × ReadsUpTo remaining_then failed_then Second limit (length p) c d q × ((k : ℕ) → k ≤ length p → IsSameAt p q k)
 
-  -- the second file is, after the first one's message at that place was taken
+  -- the second file is refused, after the first one's message at that place was taken
   abbrev pub RefusesSecond : Limit → Reading R → Reading R → Reading S → Reading S → ToolFault → Type 0
   RefusesSecond limit a b c d fault =
       (p : List (List ℕ)) × (q : List (List ℕ)) × ReadsUpTo remaining failures First limit (length q + 1) a b p
       × IsRefusedAfter remaining_then failed_then Second limit c d fault q × ((k : ℕ) → k ≤ length q → IsSameAt p q k)
 
-  -- What is read of two files side by side, message by message, until their markets differ, and after how many messages that is.
+  -- The messages read of two files side by side, until their markets differ, and the number after which they do.
   abbrev pub FindsFirst : Limit → Reading R → Reading R → Reading S → Reading S → Result (Option ℕ) ToolFault → Type 0
   FindsFirst limit a b c d (Ok None) =
       (p : List (List ℕ)) × (q : List (List ℕ)) × ReadsDay remaining failures First limit a b (Ok p)
@@ -99,7 +99,7 @@ module _ {R S : Type 0} (remaining : R → Option (List ℕ)) (failures : R → 
       × ReadsUpTo remaining_then failed_then Second limit n c d q × IsFirstDifference p q n
   FindsFirst limit a b c d (Err fault) = RefusesFirst limit a b c d fault ⊎ RefusesSecond limit a b c d fault
 
--- the line with this number, or the line that says that the markets are the same all along
+-- the line with this number, or the line that reports that the markets are the same all along
 abbrev pub first_line : Form → Option ℕ → List ℕ
 first_line form.Text None = codes "same\n"
 first_line form.Text (Some count) = codes "different after " ++ decimal count ++ codes "\n"

@@ -1,4 +1,4 @@
--- Output for the eye and for other programs: JSON, an object a line (RFC 8259), and comma-separated values (RFC 4180).
+-- Output for people and for programs: JSON, one object per line (RFC 8259), and comma-separated values (RFC 4180).
 use Rattle.std.specs.Prelude.{ℕ, ◌==◌, ◌||◌, Bool, List, [], ◌∷◌, ◌++◌, length, codes, decimal, if◌then◌else◌, Option, None, Some}
 use Rattle.std.specs.List.{flat_map, list_any}
 use Rattle.itch_codec.specs.Fields.{side_byte}
@@ -11,7 +11,7 @@ use Rattle.itch_commands.specs.declared.form.BookForm.TheVariants as book
 use Rattle.itch_commands.specs.declared.form.Form.{Form}
 use Rattle.itch_commands.specs.declared.form.Form.TheVariants as form
 
--- a printable character within a string of JSON: a reverse solidus stands before a quotation mark, and before another one
+-- a printable character within a string of JSON: a quotation mark or a reverse solidus has a reverse solidus before it
 abbrev pub json_char : ℕ → List ℕ
 json_char byte = if (byte == 34) || (byte == 92) then 92 ∷ byte ∷ [] else byte ∷ []
 
@@ -19,7 +19,7 @@ json_char byte = if (byte == 34) || (byte == 92) then 92 ∷ byte ∷ [] else by
 abbrev pub json_text : List ℕ → List ℕ
 json_text text = flat_map json_char text
 
--- a character within quotation marks of a field: a quotation mark stands twice
+-- a character within quotation marks of a field: quotation marks are doubled
 abbrev pub quoted_char : ℕ → List ℕ
 quoted_char byte = if byte == 34 then 34 ∷ 34 ∷ [] else byte ∷ []
 
@@ -27,11 +27,11 @@ quoted_char byte = if byte == 34 then 34 ∷ 34 ∷ [] else byte ∷ []
 abbrev pub has_char : ℕ → List ℕ → Bool
 has_char char text = list_any (λ byte. byte == char) text
 
--- a printable text as a field: it stands within quotation marks if it has a comma or a quotation mark
+-- a printable text as a field: in quotation marks if it has a comma or a quotation mark
 abbrev pub csv_text : List ℕ → List ℕ
 csv_text text = if has_char 44 text || has_char 34 text then 34 ∷ (flat_map quoted_char text ++ 34 ∷ []) else text
 
--- the line that says that this many messages follow the order rules
+-- the line that reports that this many messages follow the order rules
 abbrev pub count_line : Form → ℕ → List ℕ
 count_line form.Text count = ok_line count
 count_line form.Json count = codes "{\"messages\":" ++ decimal count ++ codes "}\n"
@@ -39,7 +39,7 @@ count_line form.Json count = codes "{\"messages\":" ++ decimal count ++ codes "}
 abbrev pub count_line_of : Form → List (List ℕ) → List ℕ
 count_line_of form payloads = count_line form (length payloads)
 
--- the line with the place where two markets differ, or the line that says that they are the same
+-- the line with the place where two markets differ, or the line that reports that they are the same
 abbrev pub verdict_line : Form → Option ℕ → List ℕ
 verdict_line form.Text place = place_line place
 verdict_line form.Json None = codes "{\"same\":true}\n"
@@ -50,8 +50,8 @@ abbrev pub level_line : Side → ℕ → ℕ → ℕ → List ℕ
 level_line side price shares orders =
     side_byte side ∷ 32 ∷ (price_text price ++ 32 ∷ (decimal shares ++ 32 ∷ (decimal orders ++ 10 ∷ [])))
 
--- the line of a price of a book: its side, the price, all shares at it, and the number of their orders; for a program the locate and
--- its stock too
+-- the line of a price of a book: its side, the price, all shares at it, and the number of its orders; for programs also the locate and its
+-- stock
 abbrev pub row : BookForm → ℕ → List ℕ → Side → ℕ → ℕ → ℕ → List ℕ
 row book.Text locate stock side price shares orders = level_line side price shares orders
 row book.Json locate stock side price shares orders =
@@ -65,13 +65,13 @@ row book.Csv locate stock side price shares orders =
 abbrev pub title_line : ℕ → List ℕ → List ℕ
 title_line locate stock = decimal locate ++ 32 ∷ (stock ++ 10 ∷ [])
 
--- what stands before the lines of all books
+-- the heading of all books
 abbrev pub head : BookForm → List ℕ
 head book.Text = []
 head book.Json = []
 head book.Csv = codes "locate,stock,side,price,shares,orders\n"
 
--- what stands before the lines of the book of a locate
+-- the heading of the book of a locate
 abbrev pub title : BookForm → ℕ → List ℕ → List ℕ
 title book.Text locate stock = title_line locate stock
 title book.Json locate stock = []

@@ -1,4 +1,4 @@
--- What `info` writes of a day file, and where it stops.
+-- The output of `info` for a day file, and where it stops.
 use Rattle.std.specs.Prelude.{◌≡◌, ◌≢◌, ℕ, zero, suc, ◌+◌, ◌==◌, ◌⊎◌, Bool, true, false, if◌then◌else◌, List, [], ◌∷◌, ◌++◌, map, codes, decimal, Option, None, Some, Result, Ok, Err}
 use Rattle.itch_codec.specs.Clock.{clock}
 use Rattle.itch_codec.specs.Json.{escaped}
@@ -32,7 +32,7 @@ truth_text form.Text false = codes "no"
 truth_text form.Json true = codes "true"
 truth_text form.Json false = codes "false"
 
--- how many messages there are, and bytes of their blocks
+-- the number of messages, and of bytes in their blocks
 abbrev pub size_text : Form → Summary → List ℕ
 size_text form.Text s = codes "messages " ++ decimal s.count ++ codes "\nbytes " ++ decimal s.bytes ++ codes "\n"
 size_text form.Json s = codes "{\"messages\":" ++ decimal s.count ++ codes ",\"bytes\":" ++ decimal s.bytes
@@ -53,23 +53,23 @@ market_text form.Json s =
 abbrev pub head_text : Form → Summary → List ℕ
 head_text form s = size_text form s ++ (times_text form s ++ market_text form s)
 
--- what separates a member from the one before, by whether it is the first one
+-- the separator before a member, by whether it is the first one
 abbrev pub comma : Form → Bool → List ℕ
 comma form.Text is_first = []
 comma form.Json is_first = if is_first then [] else codes ","
 
--- a type, and how many messages have it
+-- a type, and its number of messages
 abbrev pub type_text : Form → Bool → ℕ → ℕ → List ℕ
 type_text form.Text is_first kind count = codes "type '" ++ character kind ++ codes "' " ++ decimal count ++ codes "\n"
 type_text form.Json is_first kind count = comma form.Json is_first ++ codes "\"" ++ escaped kind ++ codes "\":" ++ decimal count
 
--- the types from this one on, so many of them, that have messages, with how many they have
+-- the types from this one on, that many of them, that have messages, with their numbers
 unfoldable pub types_text : Form → (ℕ → ℕ) → Bool → ℕ → ℕ → List ℕ
 types_text form counts is_first kind zero = []
 types_text form counts is_first kind (suc left) =
     if counts kind == 0 then types_text form counts is_first (kind + 1) left else type_text form is_first kind (counts kind) ++ types_text form counts false (kind + 1) left
 
--- what stands between the types and the events
+-- the text between the types and the events
 abbrev pub middle_text : Form → List ℕ
 middle_text form.Text = []
 middle_text form.Json = codes "},\"events\":["
@@ -89,16 +89,16 @@ abbrev pub tail_text : Form → List ℕ
 tail_text form.Text = []
 tail_text form.Json = codes "]}\n"
 
--- all that is told: the summary, the types with so many messages, and the events
+-- the complete text: the summary, the types with these numbers of messages, and the events
 abbrev pub info_text : Form → Summary → (ℕ → ℕ) → List Event → List ℕ
 info_text form s counts events = head_text form s ++ (types_text form counts true 0 256 ++ (middle_text form ++ (events_text form true events ++ tail_text form)))
 
--- the same of these messages
+-- the same for these messages
 abbrev pub info_of : Form → List (List ℕ) → List ℕ
 info_of form payloads =
     info_text form (summary_of payloads) (λ kind. count_of kind (map message_of payloads)) (events_from 1 (map message_of payloads))
 
--- the result of a command that has told of what it read, and of the fault that ended it, if one did
+-- the result of a command that has reported on the file, and on the fault that ended the reading, if there was one
 abbrev pub told : Result (Unit {0}) ToolFault → Option ToolFault → Result Bool ToolFault
 told (Err fault) why = Err fault
 told (Ok done) None = Ok true
@@ -110,12 +110,12 @@ fault_of (Ok done) = None
 fault_of (Err fault) = Some fault
 
 module _ {R : Type 0} (remaining : R → Option (List ℕ)) (failures : R → Failures) where
-  -- these messages were read: all that are wanted, or those before this fault
+  -- these messages were read: all requested ones, or those before this fault
   abbrev pub ReadsBefore : Limit → Reading R → Reading R → List (List ℕ) → Option ToolFault → Type 0
   ReadsBefore limit old new payloads None = ReadsDay remaining failures Only limit old new (Ok payloads)
   ReadsBefore limit old new payloads (Some fault) = IsRefusedAfter remaining failures Only limit old new fault payloads
 
-  -- The same, with a list of their system events, for which memory may be refused if there is one.
+  -- The same, with a list of their system events, for which memory may run out if there is one.
   abbrev pub ReadsEvents : Limit → Reading R → Reading R → Result (List (List ℕ) × Option ToolFault) ToolFault → Type 0
   ReadsEvents limit old new (Ok read) = ReadsBefore limit old new read.0 read.1
   ReadsEvents limit old new (Err tool.OutOfMemory) =
@@ -123,8 +123,8 @@ module _ {R : Type 0} (remaining : R → Option (List ℕ)) (failures : R → Fa
   ReadsEvents limit old new (Err fault) = ⊥
 
 module _ {R W : Type 0} (remaining : R → Option (List ℕ)) (failed_reads : R → Failures) (contents : W → Option (List ℕ)) (failed_writes : W → Failures) where
-  -- `info`: what is told of the messages of a day file, or of its part, or of those before the fault that ends them. With no memory
-  -- for the list of events, nothing is written.
+  -- `info`: the report on the messages of a day file, or of its part, or on those before the fault that ends them. Without memory for the
+  -- list of events, nothing is written.
   abbrev pub Informs : Form → Limit → From R (List (List ℕ) × Option ToolFault) → W → Result Bool ToolFault → W → Type 0
   Informs form limit from out result out' =
       ((fault : ToolFault) × (result ≡ Err fault) × from (ReadsEvents remaining failed_reads limit) (Err fault) × (out' ≡ out))

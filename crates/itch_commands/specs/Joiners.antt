@@ -1,4 +1,4 @@
--- A joiner in which nothing waits: while it reads a snapshot, and after it has joined.
+-- A joiner without waiting messages: while it reads a snapshot, and after it has joined.
 use Rattle.std.specs.Prelude.{◌≡◌, ℕ, ◌<◌, ◌≤◌, ◌^◌, ◌⊎◌, true, Bool, List, length, Option, Some, None, Result, Ok, Err}
 use Rattle.itch_codec.specs.Widths.{IsSequence}
 use Rattle.itch_frame.specs.declared.tally.Failures.{Failures}
@@ -39,12 +39,12 @@ pub record IsAfter (before : ℕ) (start : Start) (payloads : List (List ℕ)) (
   pub market : Position.market (position_of s) ≡ laid (joined_market before start payloads)
   pub next : Position.next (position_of s) ≡ joined_next before start payloads
 
--- what a command returns that counts no messages
+-- the result of a command that counts no messages
 abbrev pub uncounted : Result ℕ ToolFault → Result (Unit {0}) ToolFault
 uncounted (Ok count) = Ok tt
 uncounted (Err fault) = Err fault
 
--- what the reading of a feed returns that this stops, or nothing, after so many messages of the day
+-- the result of reading a feed with this stop, or without one, after that many messages of the day
 abbrev pub ended_feed : Option Stop → Option ℕ → ℕ → Result (Unit {0}) ToolFault
 ended_feed None wanted count = Ok tt
 ended_feed (Some why) wanted count = uncounted (stopped why wanted Only count)
@@ -62,7 +62,7 @@ module _ {W : Type 0} (contents : W → Option (List ℕ)) (failures : W → Fai
       ((result ≡ Err tool.TooMany) × (10 ^ 19 ≤ length (snap j.market)) × (new ≡ old))
       ⊎ ((length (snap j.market) < 10 ^ 19) × WritesOutput contents failures (closed_bytes (j.market, j.next)) true old result new)
 
-  -- the same cut down to the locates that have one of these stocks, if the directory has each of them
+  -- the same restricted to the locates that have one of these stocks, if the directory has each of them
   abbrev pub WritesStocks : List (List ℕ) → Position → W → Result Bool ToolFault → W → Type 0
   WritesStocks names j old result new =
       ((result ≡ Err tool.TooMany) × (10 ^ 19 ≤ length (snap j.market)) × (new ≡ old))

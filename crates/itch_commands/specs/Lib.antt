@@ -1,8 +1,6 @@
 pub mod Statuses
 pub mod Readings
 pub mod Points
-pub mod PointFiles
-pub mod Fingerprints
 pub mod Files
 pub mod Outputs
 pub mod Canons
@@ -10,13 +8,14 @@ pub mod Causes
 pub mod Changes
 pub mod Choices
 pub mod Showing
+pub mod Starts
+pub mod Rows
 pub mod Sought
 pub mod Comparing
 pub mod FirstDifferences
 pub mod Forms
 pub mod Books
 pub mod FeedParts
-pub mod Marks
 pub mod Joining
 pub mod Joiners
 pub mod Commands
@@ -28,5 +27,6 @@ pub mod Expectations
 pub mod OrderForms
 pub mod OrdersBehind
 pub mod ListedOrders
+pub mod Cuts
 pub mod Tallies
 pub mod Infos

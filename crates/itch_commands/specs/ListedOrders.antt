@@ -1,4 +1,4 @@
--- What `show --orders` reads, writes and returns. A file is refused where `check` refuses it, after the lines before.
+-- The input, the output and the result of `show --orders`. A file is refused where `check` refuses it, after the lines before.
 use Rattle.std.specs.Prelude.{◌≡◌, ◌⊎◌, ℕ, ◌+◌, ◌^◌, ◌-◌, Bool, List, [], ◌∷◌, ◌++◌, length, map, Option, None, Some, IsSome, Result, Ok, Err}
 use Rattle.std.specs.Io.KnownBytes.{Consumes}
 use Rattle.std.specs.declared.io.Error.{Error}
@@ -31,7 +31,7 @@ use Rattle.itch_commands.specs.declared.form.OrderForm.{OrderForm}
 use Rattle.itch_commands.specs.declared.show.orders.sink.Unlisted.{Unlisted}
 use Rattle.itch_commands.specs.declared.show.orders.sink.Unlisted.TheVariants as unlisted
 
--- what is returned where a part goes no further after so many messages; the end of the file is no fault where no number is wanted
+-- the result if a part ends after that many messages; the end of the file is not a fault if no number was requested
 abbrev pub answer_of : Option ℕ → ℕ → Bool → Part Unlisted → Result Bool ToolFault
 answer_of wanted count found part.Full = Ok found
 answer_of wanted count found part.Late = Ok found
@@ -43,7 +43,7 @@ answer_of wanted count found (part.Refused (unlisted.Refused (refused.Rule why))
 answer_of wanted count found (part.Refused (unlisted.Write error)) = Err (tool.Write error)
 
 module _ {W : Type 0} (contents : W → Option (List ℕ)) (failures : W → Failures) where
-  -- a line is written, or a write failed after a beginning of it
+  -- a line is written, or a write failed after a prefix of it
   abbrev pub WritesLine : List ℕ → W → Result (Unit {0}) Unlisted → W → Type 0
   WritesLine bytes old (Ok done) new = WritesText contents failures bytes old (Ok tt) new
   WritesLine bytes old (Err (unlisted.Write error)) new = WritesText contents failures bytes old (Err (tool.Write error)) new
@@ -70,8 +70,8 @@ module _ {W : Type 0} (contents : W → Option (List ℕ)) (failures : W → Fai
         × WritesPart contents failures (lines_of_day form chosen payloads) (line_past form chosen payloads payload) error out out'
         × (failed_reads new.reader ≡ failed_reads old.reader) × LeavesReaderFirst old (length payloads + 1) None new
 
-    -- The lines of all messages that are wanted and chosen are written; or a write failed; or the day is refused, as every command refuses
-    -- it, after the lines of the messages before.
+    -- The lines of all requested and chosen messages are written; or a write failed; or the day is refused, as every command refuses it,
+    -- after the lines of the messages before.
     abbrev pub ListsPart : Reading R → Reading R → W → Result Bool ToolFault → W → Type 0
     ListsPart old new out (Ok found) out' =
         (payloads : List (List ℕ)) × ReadsDay remaining failed_reads Only limit old new (Ok payloads)
@@ -87,11 +87,11 @@ module _ {W : Type 0} (contents : W → Option (List ℕ)) (failures : W → Fai
         ((fault : ToolFault) × (result ≡ Err fault) × WritesText contents failures (order_head form) out (Err fault) out' × (new ≡ old))
         ⊎ ((mid : W) × WritesText contents failures (order_head form) out (Ok tt) mid × ListsPart old new mid result out')
 
-    -- the same, and each of the stocks that are looked for was found
+    -- the same, and each of the stocks searched for was found
     abbrev pub Lists : Reading R → Reading R → W → Result Bool ToolFault → W → Type 0
     Lists old new out result out' = IfFound (λ found. ListsBelow old new out found out') result
 
-  -- the same of the messages that the filters choose, unless memory for the names of stocks is refused, before anything is read
+  -- the same for the messages that the filters choose, unless memory for the names of stocks runs out, before anything is read
   abbrev pub ListsFile : {R : Type 0} → (R → Option (List ℕ)) → (R → Failures) → Limit → OrderForm → Option Wanted → Filters → Reading R → Reading R → W → Result Bool ToolFault → W → Type 0
   ListsFile remaining failed_reads limit form set filters old new out result out' =
       (IsSome filters.stocks × (result ≡ Err tool.OutOfMemory) × (new ≡ old) × (out' ≡ out))

@@ -19,7 +19,7 @@ use Rattle.itch_commands.specs.declared.show.orders.behind.Behind.{Behind}
 abbrev pub without_last : ℕ → List ℕ → List ℕ
 without_last most text = take (length text - most) text
 
--- a stock without the spaces at its end; no stock is an empty one
+-- a stock without trailing spaces; no stock is an empty one
 abbrev pub stock_text : Option (List ℕ) → List ℕ
 stock_text None = []
 stock_text (Some stock) = before_spaces stock
@@ -29,7 +29,7 @@ abbrev pub attribution_word : Option (List ℕ) → List ℕ
 attribution_word None = []
 attribution_word (Some mpid) = codes " [" ++ before_spaces mpid ++ codes "]"
 
--- what stands after a message: the side, stock and price of the order, its shares before and after, and its attribution
+-- the part after a message: the side, stock and price of the order, its shares before and after, and its attribution
 abbrev pub order_words : Behind → List ℕ
 order_words b =
     codes " | " ++ side_byte b.order.side ∷ [] ++ codes " [" ++ stock_text b.stock ++ codes "] " ++ price_text b.order.price ++ codes " "
@@ -52,7 +52,7 @@ share_members b =
     codes ",\"shares_before\":" ++ decimal b.order.shares ++ codes ",\"shares_after\":" ++ decimal b.left
     ++ codes ",\"attribution\":" ++ attribution_value b.order.mpid ++ codes "}\n"
 
--- what stands after the members of a message
+-- the part after the members of a message
 abbrev pub order_members : Behind → List ℕ
 order_members b = price_members b ++ share_members b
 
@@ -63,7 +63,7 @@ order_columns =
     ++ codes "shares_after,attribution,executed_shares,match_number,printable,execution_price,cancelled_shares,new_order_reference_number,"
     ++ codes "shares,price\n"
 
--- what stands before all lines
+-- the heading of all lines
 abbrev pub order_head : OrderForm → List ℕ
 order_head form.Text = []
 order_head form.Named = []

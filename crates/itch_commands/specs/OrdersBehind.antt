@@ -18,18 +18,18 @@ use Rattle.itch_commands.specs.declared.show.orders.behind.Behind.{Behind}
 abbrev pub stock_at : Content → ℕ → Option (List ℕ)
 stock_at m locate = option_map (λ (s : Listing). s.entry.stock) (finite.get m.securities locate)
 
--- the shares that are left of an order of which these are taken; of one that ends, none are
+-- the remaining shares of an order from which these are taken; none if the order ends
 abbrev pub left_of : Option ℕ → ℕ → ℕ
 left_of None shares = 0
 left_of (Some taken) shares = shares - taken
 
--- the order of a reference with the stock of its locate, and the shares that are left once so many are taken, or once it ends
+-- the order of a reference with the stock of its locate, and the remaining shares once that many are taken, or once it ends
 abbrev pub order_behind : Content → ℕ → Option ℕ → Option Behind
 order_behind m reference taken =
     option_map (λ (x : Order). record { order = x; stock = stock_at m x.locate; left = left_of taken x.shares }) (book.get m.orders reference)
 
--- the order behind a message in the market before it: of an execution or a cancel the order that loses shares, of a delete the one that
--- ends, and of a replace the original one
+-- the order behind a message in the market before it: for an execution or a cancel the order that loses shares, for a delete the one that
+-- ends, and for a replace the original one
 abbrev pub behind : Content → Message → Option Behind
 behind m (is.OrderExecuted x) = order_behind m x.reference (Some x.shares)
 behind m (is.OrderExecutedWithPrice x) = order_behind m x.execution.reference (Some x.execution.shares)
@@ -47,12 +47,12 @@ changes_order (is.OrderDelete x) = true
 changes_order (is.OrderReplace x) = true
 changes_order message = false
 
--- the shares of an order; one that is not live has none
+-- the shares of an order; zero if it is not live
 abbrev pub shares_of : Option Order → ℕ
 shares_of None = 0
 shares_of (Some x) = x.shares
 
--- the order behind a message that is chosen
+-- the order behind a chosen message
 abbrev pub chosen_behind : Chosen → Content → Message → Option Behind
 chosen_behind chosen m message = if is_chosen chosen message then behind m message else None
 
@@ -65,7 +65,7 @@ line_behind form number message (Some order) = order_line form number message or
 abbrev pub line_in : OrderForm → Chosen → Content → ℕ → Message → List ℕ
 line_in form chosen m number message = line_behind form number message (chosen_behind chosen m message)
 
--- The lines of these messages, each over the market that those before it leave of this one. The messages are numbered from here on.
+-- The lines of these messages, each for the market after those before it, from this one on. The messages are numbered from here on.
 unfoldable pub lines_over : OrderForm → Chosen → Content → ℕ → List Message → List ℕ
 lines_over form chosen m number [] = []
 lines_over form chosen m number (message ∷ messages) =
@@ -75,7 +75,7 @@ lines_over form chosen m number (message ∷ messages) =
 abbrev pub lines_of_day : OrderForm → Chosen → List (List ℕ) → List ℕ
 lines_of_day form chosen payloads = lines_over form chosen empty 1 (map message_of payloads)
 
--- the line of the message that the payload after these spells
+-- the line of the message in the payload after these
 abbrev pub line_past : OrderForm → Chosen → List (List ℕ) → List ℕ → List ℕ
 line_past form chosen payloads payload =
     line_in form (chosen_past chosen (map message_of payloads)) (run (map message_of payloads)) (length payloads + 1) (message_of payload)

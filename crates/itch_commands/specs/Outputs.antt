@@ -1,4 +1,4 @@
--- What a command writes and returns.
+-- The output and the result of a command.
 use Rattle.std.specs.Prelude.{◌≡◌, ℕ, ◌+◌, ◌<◌, ◌⊎◌, Bool, List, ◌++◌, length, map, take, codes, decimal, Option, None, Some, Result, Ok, Err}
 use Rattle.std.specs.Io.KnownBytes.{Appends}
 use Rattle.itch_frame.specs.Counting.{failed}
@@ -13,7 +13,7 @@ use Rattle.itch_commands.specs.Stocks.{only_stocks}
 use Rattle.itch_commands.specs.declared.fault.ToolFault.{ToolFault}
 use Rattle.itch_commands.specs.declared.fault.ToolFault.TheVariants as tool
 
--- the line that says that this many messages follow the order rules
+-- the line that reports that this many messages follow the order rules
 abbrev pub ok_line : ℕ → List ℕ
 ok_line count = codes "ok " ++ decimal count ++ codes " messages\n"
 
@@ -21,7 +21,7 @@ ok_line count = codes "ok " ++ decimal count ++ codes " messages\n"
 abbrev pub snapshot_of : List (List ℕ) → List ℕ
 snapshot_of payloads = canon (run (map message_of payloads)) ++ closing (length payloads + 1)
 
--- the same cut down to the locates of a set, if there is one
+-- the same restricted to the locates of a set, if there is one
 abbrev pub snapshot_in : Option Wanted → List (List ℕ) → List ℕ
 snapshot_in None payloads = snapshot_of payloads
 snapshot_in (Some set) payloads = canon (only (has set) (run (map message_of payloads))) ++ closing (length payloads + 1)
@@ -30,11 +30,11 @@ snapshot_in (Some set) payloads = canon (only (has set) (run (map message_of pay
 abbrev pub directory_after : List (List ℕ) → Securities
 directory_after payloads = Content.securities (run (map message_of payloads))
 
--- the snapshot after them cut down to the locates that have one of these stocks
+-- the snapshot after them restricted to the locates that have one of these stocks
 abbrev pub stocks_snapshot : List (List ℕ) → List (List ℕ) → List ℕ
 stocks_snapshot names payloads = canon (only_stocks names (run (map message_of payloads))) ++ closing (length payloads + 1)
 
--- the bytes of the snapshot of a market, with the number of the first message that is not in it
+-- the bytes of the snapshot of a market, with the number of the first message that it does not contain
 abbrev pub closed_bytes : Content × ℕ → List ℕ
 closed_bytes done = canon done.0 ++ closing done.1
 
@@ -43,7 +43,7 @@ module _ {W : Type 0} (contents : W → Option (List ℕ)) (failures : W → Fai
   abbrev pub Wrote : List ℕ → W → W → Type 0
   Wrote bytes old new = Appends (contents old) (contents new) bytes × (failures new ≡ failures old)
 
-  -- these bytes were written, or a write failed after a beginning of them
+  -- these bytes were written, or a write failed after a prefix of them
   abbrev pub WritesText : List ℕ → W → Result (Unit {0}) ToolFault → W → Type 0
   WritesText bytes old (Ok done) new = Wrote bytes old new
   WritesText bytes old (Err (tool.Write error)) new =
@@ -55,8 +55,8 @@ module _ {W : Type 0} (contents : W → Option (List ℕ)) (failures : W → Fai
   WritesOutput bytes verdict old (Ok answer) new = (answer ≡ verdict) × WritesText bytes old (Ok tt) new
   WritesOutput bytes verdict old (Err fault) new = WritesText bytes old (Err fault) new
 
-  -- What a command writes and returns that first reads and then writes: the reading was refused and nothing is written; or it
-  -- read this, and wrote what `output` makes of it, with the verdict on it.
+  -- The output and the result of a command that first reads and then writes: the reading was refused and nothing is written; or it read
+  -- this, and wrote the `output` for it, with the verdict on it.
   abbrev pub Outputs : {X : Type 0} → (Result X ToolFault → Type 0) → (X → List ℕ) → (X → Bool) → W → Result Bool ToolFault → W → Type 0
   Outputs {X} reads output verdict old result new =
       ((fault : ToolFault) × (result ≡ Err fault) × reads (Err fault) × (new ≡ old))

@@ -1,4 +1,4 @@
--- A day file that is read on from point to point, and what that returns.
+-- Reading a day file on from point to point, and the results.
 use Rattle.std.specs.Prelude.{◌≡◌, ℕ, ◌<◌, Bool, true, false, List, map, Option, Some, None, Result, Ok, Err}
 use Rattle.std.specs.List.{AllByRecursion}
 use Rattle.itch_codec.specs.Messages.{message_of}
@@ -29,13 +29,13 @@ abbrev pub begun : Marked Content
 begun = record { sink = empty; mark = first_mark }
 
 module _ {R : Type 0} (remaining : R → Option (List ℕ)) (failures : R → Failures) where
-  -- The part of a file that a limit ends was read, up to this stop, and left this market and mark. The message that stopped it is the
-  -- next one of the reader of blocks.
+  -- The part of a file that a limit ends was read, up to this stop, with this market and mark afterwards. The message that stopped it is
+  -- the next one of the reader of blocks.
   abbrev pub Stands : Limit → Reading R → Reading R → Marked Content → Stop Refused → Type 0
   Stands limit first now marked stop =
       ReadsPart remaining failures (TakesMarked TakesMessage) (RefusesMarked RefusesMessage) limit first now 0 marked.mark.count begun stop marked
 
-  -- the part of a file that a limit ends was read, and left this market
+  -- the part of a file that a limit ends was read, with this market afterwards
   pub record IsRead (limit : Limit) (first now : Reading R) (m : Content) (mark : Mark) : Type 0 where
     pub payloads : List (List ℕ)
     pub day : ReadsDay remaining failures Only limit first now (Ok payloads)
@@ -43,9 +43,8 @@ module _ {R : Type 0} (remaining : R → Option (List ℕ)) (failures : R → Fa
     pub market : m ≡ laid (run (map message_of payloads))
     pub marked : IsMark mark payloads
 
-  -- What reading on up to the end of a part returns, and leaves: what one reading of that part would return, once it has passed the
-  -- message that stopped it. The market and the mark are those of the part's messages, and the reading may go on, also where the
-  -- file ended before.
+  -- The outcome of reading on up to the end of a part: that of one reading of that part, once the message that stopped it is passed. The
+  -- market and the mark are those of the part's messages, and the reading can continue, even if the file ended before.
   abbrev pub ReadsOn : Limit → Reading R → Reading R → Result ℕ ToolFault → Marked Content → Type 0
   ReadsOn limit first now (Ok count) marked =
       (count ≡ marked.mark.count)
@@ -54,7 +53,7 @@ module _ {R : Type 0} (remaining : R → Option (List ℕ)) (failures : R → Fa
       (stop : Stop Refused) × Stands limit first now marked stop × ReadsDay remaining failures Only limit first (left_by stop now) (Err fault)
       × ((at : Source) → (count : ℕ) → fault ≡ tool.Short at count → (count ≡ marked.mark.count) × (stop ≡ End))
 
-  -- What reading so many messages more returns, and leaves. They were read (true), or there were fewer, and the whole file was (false).
+  -- The outcome of reading that many further messages. They were read (true), or there were fewer, and the whole file was read (false).
   abbrev pub ReadsMore : ℕ → Reading R → Reading R → Result Bool ToolFault → Marked Content → Type 0
   ReadsMore most first now (Ok true) marked =
       (stop : Stop Refused) × GoesOn stop × Stands (counted (Some most)) first now marked stop

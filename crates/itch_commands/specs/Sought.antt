@@ -1,4 +1,4 @@
--- Stocks that are looked for by their names while the messages of a file pass.
+-- A search for stocks by their names while the messages of a file pass.
 use Rattle.std.specs.Prelude.{ℕ, Bool, true, false, not, List, [], ◌∷◌, Option, None, Some, bytes_eq, replicate, set, length, slice_index_or, if◌then◌else◌, ◌==◌}
 use Rattle.std.specs.List.{list_any, filter}
 use Rattle.itch_codec.specs.Headers.{header}
@@ -12,13 +12,13 @@ pub record Names : Type 0 where
   pub names : List (List ℕ)
   pub missing : List (List ℕ)
 
--- a name has come, by what is marked at it
+-- a name has come, by its mark
 abbrev pub has_come : Option Bool → Bool
 has_come None = false
 has_come (Some come) = come
 
--- The names, those of them that no Stock Directory message had so far, and for each locate whether its last Stock Directory message
--- has one of the names.
+-- The names, those that no Stock Directory message had so far, and for each locate whether its last Stock Directory message has one of the
+-- names.
 pub record Sought : Type 0 where
   pub names : List (List ℕ)
   pub missing : List (List ℕ)
@@ -28,7 +28,7 @@ pub record Sought : Type 0 where
 abbrev pub sought : List (List ℕ) → Sought
 sought names = record { names = names; missing = names; found = replicate 65536 false }
 
--- a stock is that of one of these names
+-- a stock has one of these names
 abbrev pub is_one_of : List (List ℕ) → List ℕ → Bool
 is_one_of names stock = list_any (λ name. bytes_eq name stock) names
 
@@ -50,40 +50,40 @@ sought_with (Some entry) s = record { names = s.names; missing = others s.missin
 abbrev pub sought_after : Message → Sought → Sought
 sought_after message s = sought_with (listed message) s
 
--- a locate has one of the stocks, by the messages so far
+-- a locate has one of the stocks, according to the messages so far
 abbrev pub is_found : Sought → ℕ → Bool
 is_found s locate = slice_index_or s.found locate false
 
--- a header has a locate that has one of the stocks; none has one
+-- a header has a locate with one of the stocks; a message without a header does not
 abbrev pub is_found_in : Sought → Option Header → Bool
 is_found_in s None = false
 is_found_in s (Some h) = is_found s h.locate
 
--- what is listed has one of the stocks, and otherwise the locate of a header has one
+-- the listed stock is one of the stocks, or without one the locate of the header has one
 abbrev pub is_listed : Sought → Option (ℕ × List ℕ) → Option Header → Bool
 is_listed s (Some entry) h = is_one_of s.names entry.1
 is_listed s None h = is_found_in s h
 
--- a message is about one of the stocks, by the Stock Directory messages up to it
+-- a message is about one of the stocks, according to the Stock Directory messages up to it
 abbrev pub is_about_one : Sought → Message → Bool
 is_about_one s message = is_listed s (listed message) (header message)
 
--- the same where stocks are looked for
+-- the same if stocks are searched for
 abbrev pub is_sought : Option Sought → Message → Bool
 is_sought None message = true
 is_sought (Some s) message = is_about_one s message
 
--- each of the stocks that are looked for has come
+-- each of the stocks searched for has come
 abbrev pub are_found : Option Sought → Bool
 are_found None = true
 are_found (Some s) = length s.missing == 0
 
--- a locate has one of the stocks that are looked for
+-- a locate has one of the stocks searched for
 abbrev pub found_at : Option Sought → ℕ → Bool
 found_at None locate = false
 found_at (Some s) locate = is_found s locate
 
--- what is listed has the stock of this name
+-- the listed stock has this name
 abbrev pub is_named : List ℕ → Option (ℕ × List ℕ) → Bool
 is_named name None = false
 is_named name (Some entry) = bytes_eq name entry.1
@@ -92,7 +92,7 @@ is_named name (Some entry) = bytes_eq name entry.1
 abbrev pub has_name : List ℕ → Message → Bool
 has_name name message = is_named name (listed message)
 
--- the stock of a locate, if it has one, is that of one of these names
+-- the stock of a locate, if it has one, has one of these names
 abbrev pub is_of_one : List (List ℕ) → Option (List ℕ) → Bool
 is_of_one names None = false
 is_of_one names (Some stock) = is_one_of names stock

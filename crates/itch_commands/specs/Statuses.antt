@@ -1,4 +1,4 @@
--- The status that the program ends with.
+-- The exit status of the program.
 use Rattle.std.specs.Prelude.{ℕ, Bool, true, false, Result, Ok, Err}
 use Rattle.itch_market.specs.Statuses.{stop_status}
 use Rattle.itch_snapshot.specs.Statuses.{snapshot_status}
@@ -20,7 +20,7 @@ status_of (tool.Open file error) = 3
 status_of tool.BadLocates = 2
 status_of tool.TooMany = 1
 
--- a command that was performed: true is 0 and false is 1
+-- the status of a command that was performed: 0 for true and 1 for false
 abbrev pub exit_status : Result Bool ToolFault → ℕ
 exit_status (Ok true) = 0
 exit_status (Ok false) = 1

@@ -15,50 +15,50 @@ abbrev pub with_first : ℕ → List (List ℕ) → List (List ℕ)
 with_first byte [] = (byte ∷ []) ∷ []
 with_first byte (part ∷ parts) = (byte ∷ part) ∷ parts
 
--- the names of a list: the parts between its commas, of which there is one more than of commas
+-- the names of a list: the parts between its commas, one more than there are commas
 abbrev pub names_of : List ℕ → List (List ℕ)
 names_of [] = [] ∷ []
 names_of (byte ∷ bytes) = if byte == 44 then [] ∷ names_of bytes else with_first byte (names_of bytes)
 
--- an entry of the directory has the stock of this name: the same bytes, without the spaces that pad it
+-- an entry of the directory has the stock with this name: the same bytes, without the padding
 abbrev pub is_named : List ℕ → Option Listing → Bool
 is_named name None = false
 is_named name (Some s) = bytes_eq (before_spaces s.entry.stock) name
 
--- a locate has the stock of this name
+-- a locate has the stock with this name
 abbrev pub has_stock : Securities → List ℕ → ℕ → Bool
 has_stock listings name locate = is_named name (finite.get listings locate)
 
--- a locate has the stock of one of these names
+-- a locate has the stock with one of these names
 abbrev pub has_one_of : Securities → List (List ℕ) → ℕ → Bool
 has_one_of listings names locate = list_any (λ name. has_stock listings name locate) names
 
--- a market cut down to the locates that have one of these stocks
+-- a market restricted to the locates that have one of these stocks
 abbrev pub only_stocks : List (List ℕ) → Content → Content
 only_stocks names m = only (has_one_of (Content.securities m) names) m
 
--- a locate of the directory has the stock of this name
+-- a locate of the directory has the stock with this name
 abbrev pub is_known : Securities → List ℕ → Bool
 is_known listings name = list_any (has_stock listings name) (finite.keys listings)
 
--- the same of each of these names
+-- the same for each of these names
 abbrev pub are_known : Securities → List (List ℕ) → Bool
 are_known listings names = list_all (is_known listings) names
 
--- why the locates of these names are not found: one of them is unknown, or memory is refused
+-- the reason why the locates of these names are not found: one of the names is unknown, or memory runs out
 abbrev pub IsStockFault : Securities → List (List ℕ) → ToolFault → Type 0
 IsStockFault listings names fault = ((fault ≡ tool.UnknownStock) × (are_known listings names ≡ false)) ⊎ (fault ≡ tool.OutOfMemory)
 
--- what looking these names up returns: each is known, and the set is of the locates that have one of them
+-- the result of looking these names up: each is known, and the set has the locates with one of them
 abbrev pub FindsStocks : Securities → List (List ℕ) → Result Wanted ToolFault → Type 0
 FindsStocks listings names (Ok set) = (are_known listings names ≡ true) × ((locate : ℕ) → has set locate ≡ has_one_of listings names locate)
 FindsStocks listings names (Err fault) = IsStockFault listings names fault
 
--- names of stocks once the stock of a locate has come, if it has one
+-- names of stocks after the stock of a locate has come, if it has one
 abbrev pub passed_at : Securities → ℕ → Names → Names
 passed_at listings locate n = record { names = n.names; missing = filter (λ name. not (has_stock listings name locate)) n.missing }
 
--- something is read, and the directory that it leaves knows each of these names; or the reading is refused, or they are not found
+-- a reading succeeds, and the directory after it knows each of these names; or the reading is refused, or they are not found
 abbrev pub ReadsStocks : {X : Type 0} → (X → Securities) → List (List ℕ) → (Result X ToolFault → Type 0) → Result X ToolFault → Type 0
 ReadsStocks listings names reads (Ok x) = reads (Ok x) × (are_known (listings x) names ≡ true)
 ReadsStocks {X} listings names reads (Err fault) = reads (Err fault) ⊎ ((x : X) × reads (Ok x) × IsStockFault (listings x) names fault)

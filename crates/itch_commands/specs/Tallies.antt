@@ -1,4 +1,4 @@
--- What `info` tells of messages: how many of each type, their times, the system events, and the live orders on the way.
+-- The tally of messages for `info`: how many have each type, their times, the system events, and the live orders meanwhile.
 use Rattle.std.specs.Prelude.{◌≡◌, ◌≢◌, ℕ, ◌+◌, ◌-◌, ◌^◌, ◌<◌, ◌==◌, ◌⊎◌, min, max, slice_index, if◌then◌else◌, Bool, true, false, List, [], ◌∷◌, ◌++◌, length, map, Option, None, Some}
 use Rattle.std.specs.FinMap as finite
 use Rattle.std.specs.List.{count_by}
@@ -18,11 +18,11 @@ use Rattle.itch_commands.specs.declared.info.events.Event.{Event}
 use Rattle.itch_commands.specs.declared.info.summary.Summary.{Summary}
 use Rattle.itch_commands.specs.declared.info.tally.Tally.{Tally}
 
--- how many messages have this type
+-- the number of messages with this type
 abbrev pub count_of : ℕ → List Message → ℕ
 count_of kind messages = count_by (λ message. kind_of message == kind) messages
 
--- the earlier one of two times, of which there may be none
+-- the earlier of two times, if there are any
 abbrev pub earlier : Option ℕ → Option ℕ → Option ℕ
 earlier None time = time
 earlier (Some before) None = Some before
@@ -33,12 +33,12 @@ abbrev pub earliest : Option ℕ → List Message → Option ℕ
 earliest before [] = before
 earliest before (message ∷ rest) = earliest (earlier before (time_of message)) rest
 
--- the system event that a message with this number is, if it is one
+-- the system event in a message with this number, if it is one
 abbrev pub event_of : ℕ → Message → List Event
 event_of number (is.SystemEvent x) = record { number = number; time = x.header.stamp; code = x.code } ∷ []
 event_of number message = []
 
--- the system events among these messages, of which the first has this number
+-- the system events among these messages; the first message has this number
 abbrev pub events_from : ℕ → List Message → List Event
 events_from number [] = []
 events_from number (message ∷ rest) = event_of number message ++ events_from (number + 1) rest
@@ -47,12 +47,12 @@ events_from number (message ∷ rest) = event_of number message ++ events_from (
 abbrev pub live : Content → ℕ
 live m = length m.orders
 
--- the greatest number of live orders after any of these messages, of which the first finds this market
+-- the greatest number of live orders after any of these messages, from this market on
 abbrev pub peak_from : Content → List Message → ℕ
 peak_from m [] = 0
 peak_from m (message ∷ rest) = max (live (effect m message)) (peak_from (effect m message) rest)
 
--- the summary of messages that leave this market
+-- the summary of messages after which the market is this one
 abbrev pub summary_in : Content → List (List ℕ) → Summary
 summary_in m payloads =
     record {
@@ -70,18 +70,18 @@ summary_in m payloads =
 abbrev pub summary_of : List (List ℕ) → Summary
 summary_of payloads = summary_in (run (map message_of payloads)) payloads
 
--- one message more, which leaves this market, is counted
+-- one more message, after which the market is this one, is counted
 pub record IsCounted (old : Tally) (message : Message) (m : Content) (new : Tally) : Type 0 where
   pub counts : (kind : ℕ) → kind < 256 → slice_index new.counts.counts kind ≡ slice_index old.counts.counts kind + (if kind_of message == kind then 1 else 0)
   pub first : new.first ≡ earlier old.first (time_of message)
   pub peak : new.peak ≡ max old.peak (live m)
 
--- the system event of one message more, if it is one, is in the list, unless memory is refused for it, or was for another
+-- the system event of one more message, if it is one, is in the list, unless memory ran out for it or for an earlier one
 pub record IsListed (before : Bool) (old : List Event) (number : ℕ) (message : Message) (now : Bool) (new : List Event) : Type 0 where
   pub complete : now ≡ true → (before ≡ true) × (new ≡ old ++ event_of number message)
   pub lost : now ≡ false → (before ≡ false) ⊎ (event_of number message ≢ [])
 
--- what was counted of these messages
+-- the tally of these messages
 pub record IsTally (payloads : List (List ℕ)) (mark : Mark) (m : Content) (tally : Tally) (complete : Bool) (events : List Event) : Type 0 where
   pub marked : IsMark mark payloads
   pub market : m ≡ laid (run (map message_of payloads))
@@ -98,7 +98,7 @@ pub record IsNew (tally : Tally) : Type 0 where
   pub first : tally.first ≡ None
   pub peak : tally.peak ≡ 0
 
--- the summary of what was counted
+-- the summary of the tally
 abbrev pub summary_by : Mark → Content → Tally → Summary
 summary_by mark m tally =
     record {

@@ -1,4 +1,4 @@
-//! `book`: the prices of locates.
+//! `book`: writes the prices of locates.
 ghost use Rattle.std.specs.Prelude.{◌≡◌, ◌≤◌, ◌-◌, length, option_map};
 ghost use Rattle.std.specs.Option.{option_copied};
 ghost use Rattle.itch_book.specs.Orders.{queue, next_price};
@@ -27,9 +27,9 @@ pub use one::book;
 use std::alloc::Allocator;
 pub use stocks::book_stocks;
 
-/// Writes the price levels of the locates of a set after a file of either kind, or of all locates of its directory, in any form: of
-/// each, in rising order, its title, and then a line for each price, bids before asks, the best price first; with `depth` prices of
-/// each side at most if that is given. The reader is left where the reading ended.
+/// Writes the price levels of the locates of a set, or of all locates of the directory, after a file of either kind, in any form. For each
+/// locate, in ascending order, it writes the title, and then a line for each price: bids before asks, the best price first, and with
+/// `depth` at most that many prices of each side. The reader is left where the reading ended.
 ///
 /// `UnknownLocate` if the directory lacks a locate of the set: then nothing is written.
 pub fn book_blocks<R: CountedRead, A: Allocator, B: OrderBook, W: CountedWrite>(
@@ -64,7 +64,7 @@ fn write_book<B: OrderBook, W: CountedWrite>(
     write_side(book, depth, rows, Side::Sell, out)
 }
 
-// Writes the line of each price of a side that is wanted, the best price first.
+// Writes the line of each requested price of a side, the best price first.
 fn write_side<B: OrderBook, W: CountedWrite>(
     book: &B,
     depth: Option<u64>,
@@ -86,7 +86,7 @@ fn write_side<B: OrderBook, W: CountedWrite>(
     Ok(())
 }
 
-// The price after this one, unless no more are wanted.
+// Returns the price after this one, unless no more are requested.
 fn next_wanted<B: OrderBook>(
     book: &B,
     locate: u16,

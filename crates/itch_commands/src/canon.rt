@@ -1,4 +1,4 @@
-//! `canon`: a snapshot in canonical form.
+//! `canon`: writes a snapshot in canonical form.
 ghost use Rattle.std.specs.Prelude.{◌≡◌, true, false};
 ghost use Rattle.itch_commands.specs.Canons.{ChecksSnap, canonical_line};
 ghost use Rattle.itch_commands.specs.Commands.{ChecksCanon, WritesCanon};
@@ -21,12 +21,11 @@ use itch_market::Market;
 use itch_snapshot::SnapshotReader;
 use std::alloc::Allocator;
 
-/// Writes a snapshot file in canonical form: the canonical bytes of the market that its messages leave, and an End of
-/// Snapshot with the file's number.
+/// Writes a snapshot file in canonical form: the canonical bytes of its market, and an End of Snapshot with the file's number.
 ///
-/// With `check` it only reports whether the file is already in this form: if the file's bytes are exactly these, it writes
-/// `canonical` and returns true; otherwise, as for a file with a block of length 0 at its end, it writes `not canonical` and
-/// returns false. To do so it holds the bytes of the file up to its End of Snapshot.
+/// With `check` it only reports whether the file is already in this form: if the file's bytes are exactly these, it writes `canonical` and
+/// returns true; otherwise, also for a file with an empty block at its end, it writes `not canonical` and returns false. For this it holds
+/// the bytes of the file up to its End of Snapshot.
 pub fn canon<R: CountedRead + Drop, A: Allocator + Copy, W: CountedWrite>(
     alloc: A,
     reader: R,
@@ -40,7 +39,7 @@ pub fn canon<R: CountedRead + Drop, A: Allocator + Copy, W: CountedWrite>(
     canon_blocks::<_, _, Book<A>, _>(alloc, &mut reader, check, out)
 }
 
-/// The same over a reader of blocks, which is left where the reading ended.
+/// Does the same over a reader of blocks, which is left where the reading ended.
 pub fn canon_blocks<R: CountedRead, A: Allocator, B: OrderBook, W: CountedWrite>(
     alloc: B::Alloc,
     reader: &mut BlockReader<R, A>,
@@ -78,7 +77,7 @@ fn check_canon<R: CountedRead, A: Allocator, B: OrderBook, W: CountedWrite>(
     write_verdict(canonical, out)
 }
 
-// Whether a snapshot file's bytes, all of them, are the canonical bytes of its market and the closing block of its number.
+// Returns whether all of a snapshot file's bytes are the canonical bytes of its market and the closing block of its number.
 fn is_canonical<R: CountedRead, A: Allocator, B: OrderBook>(
     alloc: B::Alloc,
     reader: &mut BlockReader<R, A>,

@@ -1,4 +1,4 @@
-//! `check`: whether a file follows the order rules.
+//! `check`: checks that a file follows the order rules.
 ghost use Rattle.std.specs.Prelude.{◌≡◌, None, true};
 ghost use Rattle.itch_commands.specs.Commands.{Checks};
 ghost use Rattle.itch_commands.specs.Expectations.{nothing};
@@ -40,9 +40,9 @@ pub fn check<R: CountedRead + Drop, A: Allocator + Copy, W: CountedWrite>(
     )
 }
 
-/// The same over a reader of blocks, for any part of the file, and in any form. The reader is left where the reading ended.
+/// Does the same over a reader of blocks, for any part of the file, and in any form. The reader is left where the reading ended.
 ///
-/// What was read has to be as expected too: otherwise `Short` or `Unmet`, and nothing is written.
+/// The part must also meet the expectations: otherwise the fault is `Short` or `Unmet`, and nothing is written.
 pub fn check_blocks<R: CountedRead, A: Allocator, B: OrderBook, W: CountedWrite>(
     alloc: B::Alloc,
     reader: &mut BlockReader<R, A>,

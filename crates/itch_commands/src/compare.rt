@@ -1,4 +1,4 @@
-//! `compare`: whether two files leave the same market.
+//! `compare`: checks whether two files leave the same market.
 ghost use Rattle.std.specs.Prelude.{◌≡◌, None, is_none};
 ghost use Rattle.itch_commands.specs.Commands.{Compares};
 ghost use Rattle.itch_commands.specs.Comparing.{place_line};
@@ -27,11 +27,11 @@ use itch_market::Market;
 use itch_snapshot::part_place;
 use std::alloc::Allocator;
 
-/// Writes `same` if two day files leave the same market, and returns true. Otherwise it writes `different at N`, and returns
-/// false: N is the place of the first message, counted from 1, in which the snapshots of the two markets differ; if one is the
-/// beginning of the other, its length plus 1.
+/// Writes `same` if two day files leave the same market, and returns true. Otherwise it writes `different at N`, and returns false: N is
+/// the place of the first message, counted from 1, in which the snapshots of the two markets differ; if one is a prefix of the other, it is
+/// the length of that one plus 1.
 ///
-/// The first file is read wholly before the second.
+/// The first file is read completely before the second.
 pub fn compare<R: CountedRead + Drop, S: CountedRead + Drop, A: Allocator + Copy, W: CountedWrite>(
     alloc: A,
     first: R,
@@ -52,7 +52,7 @@ pub fn compare<R: CountedRead + Drop, S: CountedRead + Drop, A: Allocator + Copy
     )
 }
 
-/// The same over readers of blocks, for two snapshot files or the same part of two day files, and in any form. The readers are left
+/// Does the same over readers of blocks, for two snapshot files or the same part of two day files, and in any form. The readers are left
 /// where the reading ended. If the first file is refused, nothing is read of the second.
 pub fn compare_blocks<
     R: CountedRead,

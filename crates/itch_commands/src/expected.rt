@@ -1,4 +1,4 @@
-//! What a day file is expected to be.
+//! Expectations for a day file.
 ghost use Rattle.std.specs.Prelude.{◌≡◌, Some, None, MatchResult};
 ghost use Rattle.itch_commands.specs.Expectations.{is_last, nothing, unmet, unmet_count, unmet_end};
 
@@ -8,21 +8,21 @@ use std::fmt;
 /// The code of End of Messages (TotalView-ITCH 5.0, "System Event Message").
 const END_OF_MESSAGES: u8 = b'C';
 
-/// What a day file, or the part of it that is wanted, is expected to be, apart from following the order rules.
+/// Expectations for a day file, or for the requested part of it, in addition to following the order rules.
 #[derive(Clone, Copy, Debug, PartialEq, Eq)]
 pub struct Expected {
     /// It has exactly this many messages.
     pub count: Option<u64>,
-    /// It is whole: its last System Event message is End of Messages.
+    /// It is complete: its last System Event message is End of Messages.
     pub end: bool,
 }
 
-/// How a file differs from what is expected of it, where it does not have too few messages.
+/// The difference between a file and the expectations, unless it has too few messages.
 #[derive(Clone, Copy, Debug, PartialEq, Eq)]
 pub enum Unmet {
     /// It has more messages than this.
     More { expected: u64 },
-    /// No End of Messages came, or another system event after it.
+    /// There was no End of Messages, or another system event after it.
     NoEnd,
 }
 
@@ -36,7 +36,7 @@ impl fmt::Display for Unmet {
 }
 
 impl Expected {
-    /// Any file that follows the order rules.
+    /// Expects only that a file follows the order rules.
     pub fn nothing() -> Expected
         ensures { result ≡ nothing }
     {
@@ -46,11 +46,11 @@ impl Expected {
         }
     }
 
-    /// Whether a file is as expected that has this many messages, and whose last system event is this one.
+    /// Checks that a file with this many messages, and with this last system event, meets the expectations.
     ///
     /// # Faults
     ///
-    /// `Short` if it has fewer messages than are expected, otherwise `Unmet`. A wrong number comes before a missing end.
+    /// `Short` if it has fewer messages than expected, otherwise `Unmet`. A wrong number takes precedence over a missing end.
     pub fn check(&self, count: u64, event: Option<u8>) -> Result<(), ToolFault>
         ensures { MatchResult result (λ _. unmet self.now count event ≡ None) (λ fault. unmet self.now count event ≡ Some fault) }
     {
@@ -64,7 +64,7 @@ impl Expected {
     }
 }
 
-// Whether there are as many messages as expected.
+// Checks that there are as many messages as expected.
 fn check_count(expected: u64, count: u64) -> Result<(), ToolFault>
     ensures { MatchResult result (λ _. unmet_count expected count ≡ None) (λ fault. unmet_count expected count ≡ Some fault) }
 {
@@ -80,7 +80,7 @@ fn check_count(expected: u64, count: u64) -> Result<(), ToolFault>
     Ok(())
 }
 
-// Whether a system event is the last of a day.
+// Returns whether a system event is the last of a day.
 pub(crate) fn is_last(event: Option<u8>) -> bool
     ensures { result ≡ is_last event }
 {

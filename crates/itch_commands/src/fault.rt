@@ -1,4 +1,4 @@
-//! Why a command failed: its line on standard error, and the program's status.
+//! The reasons why a command failed, with the line on standard error and the exit status.
 ghost use Rattle.std.specs.Prelude.{◌≡◌, ◌≢◌};
 ghost use Rattle.std.specs.IoError.{error_kind};
 ghost use Rattle.itch_commands.specs.Causes.{error_of, source_of};
@@ -13,21 +13,21 @@ use std::error::Error;
 use std::fmt;
 use std::io::{self, ErrorKind};
 
-/// Which of a command's files has the fault.
+/// The file of a command that has the fault.
 #[derive(Clone, Copy, Debug, PartialEq, Eq)]
 pub enum Source {
-    /// The only one.
+    /// The only file.
     Only,
     First,
     Second,
-    /// The snapshot that a feed is joined to.
+    /// The snapshot to which a feed is joined.
     Snapshot,
-    /// What the output is written to.
+    /// The output.
     Output,
 }
 
 impl fmt::Display for Source {
-    // The words before the reason of a fault.
+    // Writes the words before the reason of a fault.
     fn fmt<W: fmt::Write>(&self, f: &mut fmt::Formatter<W>) -> fmt::Result {
         f.write_str(match self {
             Source::Only | Source::Output => "",
@@ -38,21 +38,21 @@ impl fmt::Display for Source {
     }
 }
 
-/// Why a command failed. At `Write` a beginning of the output has been written. At other faults nothing has, except by `show`,
+/// The reason why a command failed. With `Write` a prefix of the output has been written. With other faults nothing has, except by `show`,
 /// which has written the lines before.
 ///
-/// `Display` gives the line for standard error, without its line feed, and allocates nothing.
+/// `Display` writes the line for standard error, without its line feed, and allocates nothing.
 #[derive(Debug, Drop)]
 pub enum ToolFault {
     /// A replay of a file stopped before its end.
     Stopped { file: Source, end: ReplayEnd },
     /// A snapshot file was refused.
     Snap { file: Source, fault: SnapFault },
-    /// A file has only this many messages, fewer than are wanted.
+    /// A file has only this many messages, fewer than requested.
     Short { file: Source, count: u64 },
-    /// A file follows the order rules, and is not what it was expected to be.
+    /// A file follows the order rules, but does not meet the expectations.
     Unmet(Unmet),
-    /// A snapshot and a feed are not joined.
+    /// A snapshot and a feed do not match.
     Misfit(Misfit),
     /// The directory has no such locate.
     UnknownLocate,
@@ -60,18 +60,18 @@ pub enum ToolFault {
     UnknownStock,
     /// A write failed.
     Write(io::Error),
-    /// Memory was refused.
+    /// Memory ran out.
     OutOfMemory,
     /// A file cannot be opened.
     Open { file: Source, error: io::Error },
-    /// The text is no list of locates.
+    /// The text is not a list of locates.
     BadLocates,
-    /// A market has too many messages for a snapshot: its End of Snapshot would have no number.
+    /// A market has too many messages for a snapshot: the number in its End of Snapshot would not be valid.
     TooMany,
 }
 
 impl ToolFault {
-    /// The status that the program ends with: 1 refused, 2 usage, 3 read, write or file, 4 memory.
+    /// Returns the exit status: 1 refused, 2 usage, 3 read, write or file, 4 memory.
     pub fn status(&self) -> u8
         ensures { result ≡ status_of self.now }
     {
@@ -86,7 +86,7 @@ impl ToolFault {
         }
     }
 
-    /// The file that the fault is in, if it is in one.
+    /// Returns the file that has the fault, if it is in one.
     pub fn source(&self) -> Option<Source>
         ensures { result ≡ source_of self.now }
     {
@@ -100,7 +100,7 @@ impl ToolFault {
         }
     }
 
-    /// The system's own error at that file: none if no call failed, or if memory ran out.
+    /// Returns the system's own error at that file; `None` if no call failed, or if memory ran out.
     pub fn io_error(&self) -> Option<io::Error>
         ensures { result ≡ error_of self.now }
     {
@@ -113,7 +113,7 @@ impl ToolFault {
     }
 }
 
-/// The status of a command: 0 if it returns true, 1 if it returns false, otherwise that of its fault.
+/// Returns the exit status of a command: 0 for true, 1 for false, otherwise that of its fault.
 pub fn status(outcome: &Result<bool, ToolFault>) -> u8
     ensures { result ≡ exit_status outcome.now }
 {
@@ -124,7 +124,7 @@ pub fn status(outcome: &Result<bool, ToolFault>) -> u8
     }
 }
 
-/// The fault of a system call: `OutOfMemory` if the error says so, otherwise `otherwise`.
+/// Returns the fault for a system call: `OutOfMemory` if the error says so, else `otherwise`.
 pub fn system_fault(error: io::Error, otherwise: ToolFault) -> ToolFault
     ensures memory { error_kind error ≡ ErrorKind.OutOfMemory → result ≡ ToolFault.OutOfMemory }
     ensures otherwise { error_kind error ≢ ErrorKind.OutOfMemory → result ≡ otherwise }

@@ -1,28 +1,27 @@
-//! Which messages of a day a feed has, and where a join ends.
+//! The messages of a day in a feed, and the end of a join.
 ghost use Rattle.std.specs.Prelude.{◌≡◌, ◌<◌, ◌≤◌};
 ghost use Rattle.itch_commands.specs.FeedParts.{beyond, misfit_of, part_of, wanted_of, whole};
 
 use itch_day::Limit;
 use std::fmt;
 
-/// Which messages of a day a feed has, and where a join ends. Messages are counted from the first of the day.
+/// The messages of a day in a feed, and the end of a join. Messages are counted from the first of the day.
 #[derive(Clone, Copy, Debug, PartialEq, Eq)]
 pub struct FeedPart {
-    /// How many messages of the day come before the feed's first one.
+    /// The number of messages of the day before the feed's first one.
     pub before: u64,
-    /// The messages of the day that the snapshot after both has.
+    /// The messages of the day in the resulting snapshot.
     pub limit: Limit,
 }
 
-/// Why a snapshot and a feed are not joined.
+/// The reason why a snapshot and a feed are not joined.
 #[derive(Clone, Copy, Debug, PartialEq, Eq)]
 pub enum Misfit {
-    /// The message with the number `next`, the first that the snapshot lacks, is among the `before` messages that come before the
-    /// feed's first one.
+    /// The message with the number `next`, the first that the snapshot lacks, is among the `before` messages before the feed's first one.
     Gap { next: u64, before: u64 },
     /// The snapshot has `held` messages, more than the `wanted` ones.
     Beyond { held: u64, wanted: u64 },
-    /// The snapshot has the message with this number, which is at the time where the join ends, or later.
+    /// The snapshot contains the message with this number, which is at the end time of the join, or later.
     Late { number: u64 },
 }
 
@@ -45,7 +44,7 @@ impl fmt::Display for Misfit {
 }
 
 impl FeedPart {
-    /// The whole of a feed that begins with the first message of its day.
+    /// Returns the whole of a feed that begins with the first message of its day.
     pub fn whole() -> FeedPart
         ensures { result ≡ whole }
     {
@@ -55,7 +54,7 @@ impl FeedPart {
         }
     }
 
-    /// Why no feed of this kind is joined to a snapshot whose next message has this number, if there is a reason.
+    /// Returns the reason why no feed of this kind is joined to a snapshot whose next message has this number, if there is one.
     pub fn misfit(&self, next: u64) -> Option<Misfit>
         ensures { result ≡ misfit_of self.now next }
     {
@@ -68,7 +67,7 @@ impl FeedPart {
         beyond(self.limit.after, next - 1)
     }
 
-    /// The part of the feed that is wanted after such a snapshot, counted from the feed's first message.
+    /// Returns the requested part of the feed after such a snapshot, counted from the feed's first message.
     pub fn wanted(&self, next: u64) -> Limit
         requires { self.now.before < next }
         ensures { result ≡ part_of self.now next }
@@ -80,7 +79,7 @@ impl FeedPart {
     }
 }
 
-// A snapshot has this many messages, and may have as many as are wanted.
+// Returns the misfit of a snapshot that has more messages than requested.
 fn beyond(wanted: Option<u64>, held: u64) -> Option<Misfit>
     ensures { result ≡ beyond wanted held }
 {
@@ -92,7 +91,7 @@ fn beyond(wanted: Option<u64>, held: u64) -> Option<Misfit>
     }
 }
 
-// How many messages of a feed are wanted that begins after `before` others: none, where a snapshot has them all.
+// Returns how many messages are requested of a feed that begins after `before` others: none, if a snapshot contains them all.
 fn wanted_after(wanted: Option<u64>, before: u64, held: u64) -> Option<u64>
     requires { before ≤ held }
     ensures { result ≡ wanted_of wanted before held }

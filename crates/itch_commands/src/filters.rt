@@ -1,9 +1,14 @@
-//! Which messages are asked for, in words.
+//! The filters for messages, as given on the command line.
 ghost use Rattle.std.specs.Prelude.{◌≡◌, None};
+ghost use Rattle.itch_commands.specs.Starts.{first};
 
-/// What chooses the messages that are shown. A message is shown if all that is given chooses it.
+use crate::start::Start;
+
+/// The filters for the messages that are shown. A message is shown if it meets all filters that are given.
 #[derive(Clone, Copy, Debug, PartialEq, Eq)]
 pub struct Filters<'a> {
+    /// The beginning of the range of messages.
+    pub start: Start,
     /// A list of locates: messages whose header has one of them.
     pub only: Option<&'a str>,
     /// Names of stocks, separated by commas: messages whose locate has one of them, by the Stock Directory messages so far.
@@ -15,11 +20,12 @@ pub struct Filters<'a> {
 }
 
 impl Filters<'_> {
-    /// Nothing is given, and every message is shown.
+    /// Returns no filters, so that every message is shown.
     pub fn none() -> Self
-        ensures { result ≡ record { only = None; stocks = None; types = None; reference = None } }
+        ensures { result ≡ record { start = first; only = None; stocks = None; types = None; reference = None } }
     {
         Filters {
+            start: Start::first(),
             only: None,
             stocks: None,
             types: None,

@@ -1,6 +1,6 @@
-//! The forms of output: for the eye, and for other programs.
+//! The forms of output: for people, and for programs.
 
-/// How a verdict or a count is written.
+/// The form of a verdict or a count.
 #[derive(Clone, Copy, Debug, PartialEq, Eq)]
 pub enum Form {
     /// A line of text.
@@ -9,7 +9,7 @@ pub enum Form {
     Json,
 }
 
-/// How a book is written.
+/// The form of a book.
 #[derive(Clone, Copy, Debug, PartialEq, Eq)]
 pub enum BookForm {
     /// A line `LOCATE STOCK`, and then a line for each price.
@@ -20,23 +20,26 @@ pub enum BookForm {
     Csv,
 }
 
-/// How messages are shown.
+/// The form in which messages are shown.
 #[derive(Clone, Copy, Debug, PartialEq, Eq)]
 pub enum ShowForm {
     /// A line of text.
     Text,
-    /// The same with codes as characters, and timestamps as times of the day.
+    /// A line of text with codes as characters, and timestamps as times of the day.
     Named,
     /// A line with a JSON object (RFC 8259).
     Json,
+    /// Comma-separated values (RFC 4180) of the messages of one type alone, whose letter this is: a line with the names of the columns,
+    /// and then a line for each message.
+    Csv { kind: u8 },
 }
 
-/// How messages are shown with the orders behind them.
+/// The form in which messages are shown with the orders behind them.
 #[derive(Clone, Copy, Debug, PartialEq, Eq)]
 pub enum OrderForm {
     /// A line of text.
     Text,
-    /// The same with codes as characters, and timestamps as times of the day.
+    /// A line of text with codes as characters, and timestamps as times of the day.
     Named,
     /// A line with a JSON object (RFC 8259).
     Json,

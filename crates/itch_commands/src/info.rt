@@ -1,4 +1,4 @@
-//! `info`: what a day file contains, in numbers.
+//! `info`: writes the contents of a day file, in numbers.
 ghost use Rattle.std.specs.Prelude.{None};
 ghost use Rattle.itch_commands.specs.Infos.{Informs};
 ghost use Rattle.itch_commands.specs.Readings.{FromBlocks, FromReader};
@@ -23,8 +23,8 @@ use std::alloc::Allocator;
 use tallied::{new_tally, read_tally};
 use writing::write_info;
 
-/// Writes what a day file contains: how many messages, and of each type, the bytes of their blocks, the earliest and the latest time,
-/// the number of stocks, the live orders at the end and at most, whether the day has ended, and the system events.
+/// Writes the contents of a day file: the number of messages, in all and of each type, the bytes of their blocks, the earliest and the
+/// latest time, the number of stocks, the live orders at the end and at most, whether the day has ended, and the system events.
 pub fn info<R: CountedRead + Drop, A: Allocator + Copy, W: CountedWrite>(
     alloc: A,
     reader: R,
@@ -36,10 +36,10 @@ pub fn info<R: CountedRead + Drop, A: Allocator + Copy, W: CountedWrite>(
     info_blocks::<_, _, Book<A>, _>(alloc, &mut reader, Limit::whole(), Form::Text, out)
 }
 
-/// The same over a reader of blocks, for any part of the file, and in any form. The reader is left where the reading ended.
+/// Does the same over a reader of blocks, for any part of the file, and in any form. The reader is left where the reading ended.
 ///
-/// If a message is refused, the same is written of those before it, and its fault is returned then. If memory for the list of system
-/// events is refused (`OutOfMemory`), nothing is written.
+/// If a message is refused, it writes the contents before that message, and then returns the fault. If memory for the list of system events
+/// runs out (`OutOfMemory`), nothing is written.
 pub fn info_blocks<R: CountedRead, A: Allocator, B: OrderBook, W: CountedWrite>(
     alloc: B::Alloc,
     reader: &mut BlockReader<R, A>,

@@ -1,4 +1,4 @@
-//! `join`: a snapshot, and the feed that continues after it.
+//! `join`: joins a feed to a snapshot.
 ghost use Rattle.std.specs.Prelude.{◌≡◌};
 ghost use Rattle.itch_codec.specs.Widths.{IsSequence};
 ghost use Rattle.itch_market.specs.Wanted.{has};
@@ -30,21 +30,20 @@ use start::read_start;
 use std::alloc::Allocator;
 pub use stocks::join_stocks;
 
-/// Joins a feed to a snapshot, and writes the snapshot after both: the canonical bytes of the market that the snapshot's
-/// messages leave, and then the feed's from the snapshot's number on, and an End of Snapshot with the number of the first
-/// message that is not contained.
+/// Joins a feed to a snapshot, and writes the snapshot after both: the canonical bytes of the market after the snapshot's messages and the
+/// feed's from the snapshot's number on, and an End of Snapshot with the number of the first message that it does not contain.
 ///
-/// The snapshot is read up to its End of Snapshot, before anything of the feed. The feed's messages are numbered from 1, and
-/// those below the snapshot's number may be anything. A feed that ends before that number leaves the snapshot as it is.
+/// The snapshot is read up to its End of Snapshot, before any of the feed. The feed's messages are numbered from 1, and those below the
+/// snapshot's number may be anything. If the feed ends before that number, the snapshot is the result.
 ///
-/// With a set, messages at locates that it does not contain are decoded, in both files, but follow no rule and change
-/// nothing: what is written is the snapshot cut down to the set.
+/// With a set, messages at locates that it does not contain are decoded, in both files, but no rule is applied to them and they change
+/// nothing: the output is the snapshot restricted to the set.
 ///
 /// # Faults
 ///
-/// `Snap` for the snapshot; `Stopped` for the feed, with the number of messages before. In both, out of memory at a message is
-/// the rule `OutOfMemory`. `TooMany` if the market has more than 10^19 - 1 messages. `OutOfMemory` if there is no memory for a
-/// block of each file.
+/// `Snap` for the snapshot; `Stopped` for the feed, with the number of messages before the stop. In both, out of memory at a message is the
+/// rule `OutOfMemory`. `TooMany` if the market has more than 10^19 - 1 messages. `OutOfMemory` if there is no memory for a block of each
+/// file.
 pub fn join<R: CountedRead + Drop, S: CountedRead + Drop, A: Allocator + Copy, W: CountedWrite>(
     alloc: A,
     snapshot: R,
@@ -66,17 +65,17 @@ pub fn join<R: CountedRead + Drop, S: CountedRead + Drop, A: Allocator + Copy, W
     )
 }
 
-/// The same over readers of blocks, which are left where the reading ended: that of the snapshot after its End of Snapshot.
-/// If the snapshot is refused, nothing is read of the feed.
+/// Does the same over readers of blocks, which are left where the reading ended: that of the snapshot after its End of Snapshot. If the
+/// snapshot is refused, nothing is read of the feed.
 ///
-/// The feed may begin later in its day, and the join may end before the feed does: a [`FeedPart`] tells how many messages of the day
-/// come before the feed's first one, and which messages of the day the written snapshot has. All numbers are those of the day.
+/// The feed may begin later in its day, and the join may end before the feed does: a [`FeedPart`] gives the number of messages of the day
+/// before the feed's first one, and the messages of the day that the resulting snapshot has. All numbers are those of the day.
 ///
 /// # Faults
 ///
-/// Those of `join`. `Misfit` if the snapshot and the part do not fit: before anything is read of the feed where numbers alone tell,
-/// and at the message of the feed that the snapshot should not have, since it is at the time where the join ends, or later. `Short`,
-/// with the number of the day's last message, if the feed ends before as many messages as are wanted.
+/// Those of `join`. `Misfit` if the snapshot and the part do not match: before anything is read of the feed if the numbers alone decide it,
+/// and otherwise at a message of the feed that the snapshot contains although it is at the end time of the join, or later. `Short`, with
+/// the number of the day's last message, if the feed ends before as many messages as requested.
 pub fn join_blocks<
     R: CountedRead,
     S: CountedRead,
@@ -99,7 +98,7 @@ pub fn join_blocks<
     join_with(&mut joiner, snapshot, feed, part, out)
 }
 
-// A joiner in which nothing may wait.
+// Creates a joiner without room for waiting messages.
 fn new_joiner<B: OrderBook>(alloc: B::Alloc, only: Option<LocateSet<B::Alloc>>) -> Joiner<B>
     ensures state { result.state ≡ fresh }
     ensures read { as_read (has result.set) ≡ read_by only }
@@ -110,7 +109,7 @@ fn new_joiner<B: OrderBook>(alloc: B::Alloc, only: Option<LocateSet<B::Alloc>>) 
     }
 }
 
-// The same with a joiner that has taken nothing.
+// Does the same with a joiner that has taken nothing.
 fn join_with<
     R: CountedRead,
     S: CountedRead,

@@ -1,4 +1,4 @@
-//! A file of either kind, and the market that it leaves.
+//! A file of either kind, and its market.
 ghost use Rattle.std.specs.Prelude.{◌≡◌, ◌<◌, ◌^◌, length, IfOk};
 ghost use Rattle.itch_snapshot.specs.Snapshot.{snap};
 ghost use Rattle.itch_commands.specs.Files.{LeavesFile, ReadsFile};
@@ -15,7 +15,7 @@ use itch_market::Market;
 use itch_snapshot::read_snapshot;
 use std::alloc::Allocator;
 
-/// What a file is, and what is read of it.
+/// The kind of a file, and the part of it to read.
 #[derive(Clone, Copy, Debug, PartialEq, Eq)]
 pub enum FileKind {
     /// A day file, or a part of one.
@@ -24,9 +24,9 @@ pub enum FileKind {
     Snapshot,
 }
 
-/// The market that a file leaves, and the number of the first message that is not in it.
+/// Returns the market after a file, and the number of the first message that it does not contain.
 ///
-/// A day file is refused as [`read_market`](crate::read_market) says, and a snapshot file as `canon` refuses it.
+/// A day file is refused as by [`read_market`](crate::read_market), and a snapshot file as by `canon`.
 pub fn file_market<R: CountedRead, A: Allocator, B: OrderBook>(
     alloc: B::Alloc,
     reader: &mut BlockReader<R, A>,
@@ -67,7 +67,7 @@ fn recorded_market<R: CountedRead, A: Allocator, B: OrderBook>(
     Ok((market, next))
 }
 
-/// The market and the number of a snapshot file.
+/// Returns the market and the number of a snapshot file.
 pub fn snapshot_market<R: CountedRead, A: Allocator, B: OrderBook>(
     alloc: B::Alloc,
     reader: &mut BlockReader<R, A>,
@@ -82,7 +82,7 @@ pub fn snapshot_market<R: CountedRead, A: Allocator, B: OrderBook>(
     }
 }
 
-// A market that is only looked at from here on.
+// Settles a market that is only looked at from here on.
 fn settled<B: OrderBook>(mut market: Market<B>) -> Market<B>
     ensures { result ≡ market }
 {

@@ -1,10 +1,10 @@
 //! The commands over files: each is a public function over readers and a writer.
 //!
-//! A command has a module of its own, with two functions. One takes a reader of bytes and makes the reader of their blocks, which
+//! Each command has a module of its own, with two functions. One takes a reader of bytes and makes the reader of their blocks, which
 //! allocates memory; the other, with `_blocks` in its name, takes the readers of blocks, and works over any book of orders. Both return
 //! true, except that `compare` and `compare_first` return false for two markets that differ, and `canon` for a file that is not canonical.
-//! [`perform`] and [`perform_pair`] do what a [`Command`] says. A [`ToolFault`] says why a command failed; it has the line for standard
-//! error and the program's status.
+//! [`perform`] and [`perform_pair`] execute a [`Command`]. A [`ToolFault`] is the reason why a command failed, with the line for standard
+//! error and the exit status.
 //!
 //! ```
 //! let file = b"\0\x0cS\0\0\0\0\0\0\0\0\0\0O";
@@ -19,6 +19,7 @@ pub mod canon;
 pub mod check;
 mod choice;
 pub mod compare;
+mod cut;
 mod expected;
 mod fault;
 mod feed_part;
@@ -39,6 +40,7 @@ mod selection;
 pub mod show;
 pub mod snap;
 mod sought;
+mod start;
 mod stock_names;
 mod stocks;
 mod writing;
@@ -58,5 +60,6 @@ pub use reading::read_market;
 pub use request::{Command, PairCommand, Request, path_of};
 pub use runs::write_locates;
 pub use selection::Selection;
+pub use start::Start;
 pub use stocks::stock_locates;
 pub use writing::{write_closed, write_text};

@@ -1,17 +1,18 @@
-//! A line of output, made part by part.
+//! A line of output, built part by part.
 ghost use Rattle.std.specs.Prelude.{◌≡◌, ◌+◌, ◌*◌, ◌/◌, ◌%◌, ◌<◌, ◌≤◌, ◌++◌, [], ◌∷◌, length};
 ghost use Rattle.itch_codec.specs.Clock.{clock, two_digits, nine_digits};
 ghost use Rattle.itch_codec.specs.Json.{escaped};
 ghost use Rattle.itch_codec.specs.Lines.{hex_digit, price_text};
 ghost use Rattle.itch_codec.specs.Named.{character};
 ghost use Rattle.itch_commands.specs.Forms.{csv_text, json_text, quoted_char};
+ghost use Rattle.itch_commands.specs.Rows.{code_char, codes_field};
 ghost use Rattle.std.specs.List.{flat_map};
 
 use arrayvec::ArrayVec;
 use itoa::{Buffer, Integer};
 use std::marker::Model;
 
-/// A line of at most 256 bytes. It is held in the value itself and allocates nothing.
+/// A line of at most 256 bytes. It is stored in the value itself and allocates nothing.
 #[derive(Drop)]
 pub struct Line {
     bytes: ArrayVec<u8, 256>,
@@ -34,7 +35,7 @@ impl Line {
         }
     }
 
-    /// The line so far.
+    /// Returns the line so far.
     pub fn as_bytes(&self) -> &[u8]
         ensures bytes { result.now ≡ self.now }
         ensures short { length result.now ≤ 256 }
@@ -122,8 +123,8 @@ impl Line {
         ]);
     }
 
-    /// Appends a byte as a character between single quotes: after a reverse solidus if it is a single quote or one itself, and as `\\x`
-    /// and two hexadecimal digits if it is not printable.
+    /// Appends a byte as a character in single quotes: a single quote or a reverse solidus after a reverse solidus, and a byte that is not
+    /// printable as `\\x` and two hexadecimal digits.
     pub fn character(&mut self, byte: u8)
         requires { length self.old ≤ 252 }
         ensures text { self.new ≡ self.old ++ character byte }
@@ -139,8 +140,8 @@ impl Line {
         }
     }
 
-    /// Appends any byte within a string of JSON: after a reverse solidus if it is a quotation mark or one itself, and as `\\u00` and two
-    /// hexadecimal digits if it is not printable.
+    /// Appends any byte within a string of JSON: a quotation mark or a reverse solidus after a reverse solidus, and a byte that is not
+    /// printable as `\\u00` and two hexadecimal digits.
     pub fn escaped(&mut self, byte: u8)
         requires { length self.old ≤ 250 }
         ensures text { self.new ≡ self.old ++ escaped byte }
@@ -194,7 +195,44 @@ impl Line {
         }
     }
 
-    // Appends a text, with each quotation mark twice.
+    /// Appends bytes of any kind as a field of comma-separated values: one that is not printable as `\\x` and two hexadecimal digits.
+    #[tactic(auto, unfolding(crate::specs::Rows::codes_field))]
+    pub fn codes(&mut self, bytes: &[u8])
+        requires { length self.old + 8 * length bytes.now + 2 ≤ 256 }
+        ensures text { self.new ≡ self.old ++ codes_field bytes.now }
+        ensures short { length self.new ≤ length self.old + 8 * length bytes.now + 2 }
+    {
+        let mut text = Line::new();
+        text.code_chars(bytes);
+        self.csv_text(text.as_bytes());
+    }
+
+    // Appends bytes of any kind.
+    fn code_chars(&mut self, bytes: &[u8])
+        requires { length self.old + 4 * length bytes.now ≤ 256 }
+        ensures text { self.new ≡ self.old ++ flat_map code_char bytes.now }
+        ensures short { length self.new ≤ length self.old + 4 * length bytes.now }
+    {
+        for &byte in bytes {
+            self.code_char(byte);
+        }
+    }
+
+    // Appends a byte of any kind: as `\\x` and two hexadecimal digits if it is not printable.
+    fn code_char(&mut self, byte: u8)
+        requires { length self.old ≤ 252 }
+        ensures text { self.new ≡ self.old ++ code_char byte }
+        ensures short { length self.new ≤ length self.old + 4 }
+    {
+        if byte < b' ' || byte > b'~' {
+            self.text(b"\\x");
+            self.hex(byte);
+        } else {
+            self.text(&[byte]);
+        }
+    }
+
+    // Appends a text, and doubles its quotation marks.
     fn quoted_text(&mut self, text: &[u8])
         requires { length self.old + 2 * length text.now ≤ 256 }
         ensures text { self.new ≡ self.old ++ flat_map quoted_char text.now }
@@ -209,7 +247,7 @@ impl Line {
     }
 }
 
-// The last decimal digit of a number.
+// Returns the last decimal digit of a number.
 fn digit(number: u64) -> u8
     ensures { result ≡ 48 + number % 10 }
 {

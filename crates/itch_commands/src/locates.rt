@@ -7,12 +7,12 @@ use crate::fault::ToolFault;
 use itch_market::LocateSet;
 use std::alloc::Allocator;
 
-/// Reads a list of locates: one or more of them, or of ranges of them such as `1-40`, separated by commas. A locate is a decimal
-/// number from 0 to 65535, and the second one of a range is no lower than the first.
+/// Reads a list of locates: one or more of them, or of ranges of them such as `1-40`, separated by commas. A locate is a decimal number
+/// from 0 to 65535, and the second one of a range is not lower than the first.
 ///
 /// # Faults
 ///
-/// `BadLocates` if the text is no such list, and `OutOfMemory` if memory is refused before that is known.
+/// `BadLocates` if the text is not such a list, and `OutOfMemory` if memory runs out before that is known.
 pub fn read_locates<A: Allocator + Copy>(alloc: A, text: &str) -> Result<LocateSet<A>, ToolFault>
     ensures { ReadsLocates text.now result }
 {
@@ -26,7 +26,7 @@ pub fn read_locates<A: Allocator + Copy>(alloc: A, text: &str) -> Result<LocateS
     Ok(set)
 }
 
-/// The path of the file that has a list, where the words for it are `@` and this path.
+/// Returns the path of the file with a list, if the argument for it is `@` and this path.
 pub fn list_file(words: &str) -> Option<&str>
     ensures { option_map (λ path. path.now) result ≡ list_file words.now }
 {
@@ -34,11 +34,11 @@ pub fn list_file(words: &str) -> Option<&str>
     if before.is_empty() { Some(path) } else { None }
 }
 
-/// Reads a locate or a range, and inserts what it is.
+/// Reads a locate or a range, and inserts its locates.
 ///
 /// # Faults
 ///
-/// As those of `read_locates`.
+/// The same as those of `read_locates`.
 pub fn insert_locates<A: Allocator + Copy>(
     set: &mut LocateSet<A>,
     text: &str,
@@ -85,7 +85,7 @@ fn read_range(text: &str) -> Result<(u16, u16), ToolFault>
     Ok((first, last))
 }
 
-// Reads a locate. The bytes are tested first, since `parse` also accepts a leading plus sign.
+// Reads a locate. It checks the bytes first, since `parse` also accepts a leading plus sign.
 fn read_locate(text: &str) -> Result<u16, ToolFault>
     ensures { MatchResult result (λ locate. IsLocate text.now locate)
         (λ fault. (fault ≡ ToolFault.BadLocates) × ((locate : ℕ) → ¬ (IsLocate text.now locate))) }

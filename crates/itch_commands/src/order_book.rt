@@ -2,5 +2,5 @@
 
 use itch_book::SettledBook;
 
-/// The one for a market that is looked at once all messages are read, or seldom. It is settled before.
+/// The book for a market that is only looked at once all messages are read, or seldom. It is settled first.
 pub type Book<A> = SettledBook<A>;

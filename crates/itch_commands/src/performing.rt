@@ -1,12 +1,14 @@
 //! Commands over the blocks of their files.
 ghost use Rattle.std.specs.Option.{option_copied};
-ghost use Rattle.itch_commands.specs.Requests.{Performs, PerformsBook, PerformsJoin, PerformsPair, PerformsSnap, ShowsFile};
+ghost use Rattle.itch_commands.specs.Requests.{Performs, PerformsBook, PerformsJoin, PerformsPair, PerformsSnap, ShowsBelow, ShowsFile, ShowsKind};
+ghost use Rattle.itch_commands.specs.declared.form.ShowForm.TheVariants.{Csv};
 
 use crate::book::{book_blocks, book_stocks};
 use crate::canon::canon_blocks;
 use crate::check::check_blocks;
 use crate::choice::Choice;
 use crate::compare::{compare_blocks, compare_first_blocks};
+use crate::cut::cut_blocks;
 use crate::fault::ToolFault;
 use crate::feed_part::FeedPart;
 use crate::filters::Filters;
@@ -16,7 +18,7 @@ use crate::join::{join_blocks, join_stocks};
 use crate::kind::FileKind;
 use crate::request::{Command, PairCommand};
 use crate::selection::Selection;
-use crate::show::{orders_blocks, show_blocks, show_snapshot};
+use crate::show::{orders_blocks, show_blocks, show_snapshot, write_heading};
 use crate::snap::{snap_blocks, snap_stocks};
 use itch_book::OrderBook;
 use itch_day::Limit;
@@ -24,7 +26,7 @@ use itch_frame::{BlockReader, CountedRead, CountedWrite};
 use itch_market::LocateSet;
 use std::alloc::Allocator;
 
-/// Performs a command over one file, with the set of the locates that are wanted, if not all are.
+/// Performs a command over one file, with the set of the requested locates, if not all are.
 pub fn perform<R: CountedRead, A: Allocator, B: OrderBook, W: CountedWrite>(
     alloc: B::Alloc,
     command: Command<'_>,
@@ -56,6 +58,7 @@ pub fn perform<R: CountedRead, A: Allocator, B: OrderBook, W: CountedWrite>(
             form,
             filters,
         } => orders_blocks::<R, A, B, W>(alloc, reader, limit, form, filters, only, out),
+        Command::Cut { limit, filters } => cut_blocks(alloc, reader, limit, filters, only, out),
         Command::Canon { check } => canon_blocks::<R, A, B, W>(alloc, reader, check, out),
         Command::Book {
             selection,
@@ -66,7 +69,7 @@ pub fn perform<R: CountedRead, A: Allocator, B: OrderBook, W: CountedWrite>(
     }
 }
 
-/// Performs a command over two files, with the set of the locates that are wanted, if not all are.
+/// Performs a command over two files, with the set of the requested locates, if not all are.
 pub fn perform_pair<
     R: CountedRead,
     S: CountedRead,
@@ -97,7 +100,7 @@ pub fn perform_pair<
     }
 }
 
-// `snap` of what is selected: by the names of stocks, or by the set.
+// Performs `snap` for a selection: by the names of stocks, or by the set.
 fn snap_selected<R: CountedRead, A: Allocator, B: OrderBook, W: CountedWrite>(
     alloc: B::Alloc,
     limit: Limit,
@@ -115,7 +118,7 @@ fn snap_selected<R: CountedRead, A: Allocator, B: OrderBook, W: CountedWrite>(
     }
 }
 
-// `book` of the same.
+// Performs `book` for a selection.
 fn book_selected<R: CountedRead, A: Allocator, B: OrderBook, W: CountedWrite>(
     alloc: B::Alloc,
     selection: Selection<'_>,
@@ -139,7 +142,7 @@ fn book_selected<R: CountedRead, A: Allocator, B: OrderBook, W: CountedWrite>(
     }
 }
 
-// `join` of the same.
+// Performs `join` for a selection.
 fn join_selected<
     R: CountedRead,
     S: CountedRead,
@@ -182,6 +185,57 @@ fn show_file<R: CountedRead, A: Allocator, B: OrderBook, W: CountedWrite>(
     ensures { ShowsFile R.remaining R.failures W.contents W.failures kind form (option_copied only.entry) filters.entry reader.old reader.new out.old result out.new }
 {
     let choice = Choice::new(alloc, only, filters)?;
+    show_below::<R, A, B, W>(alloc, kind, form, choice, reader, out)
+}
+
+// The same of what is chosen, below a heading in the form that has one.
+fn show_below<R: CountedRead, A: Allocator, B: OrderBook, W: CountedWrite>(
+    alloc: B::Alloc,
+    kind: FileKind,
+    form: ShowForm,
+    choice: Choice<'_, B::Alloc>,
+    reader: &mut BlockReader<R, A>,
+    out: &mut W,
+) -> Result<bool, ToolFault>
+    ensures { ShowsBelow R.remaining R.failures W.contents W.failures kind form choice.entry reader.old reader.new out.old result out.new }
+{
+    match form {
+        ShowForm::Csv { kind: letter } => {
+            show_columns::<R, A, B, W>(alloc, kind, letter, choice, reader, out)
+        }
+        ShowForm::Text | ShowForm::Named | ShowForm::Json => {
+            show_kind::<R, A, B, W>(alloc, kind, form, choice, reader, out)
+        }
+    }
+}
+
+// The heading of a type, and the rows of its messages.
+fn show_columns<R: CountedRead, A: Allocator, B: OrderBook, W: CountedWrite>(
+    alloc: B::Alloc,
+    kind: FileKind,
+    letter: u8,
+    choice: Choice<'_, B::Alloc>,
+    reader: &mut BlockReader<R, A>,
+    out: &mut W,
+) -> Result<bool, ToolFault>
+    ensures { ShowsBelow R.remaining R.failures W.contents W.failures kind (Csv letter) choice.entry reader.old reader.new out.old result out.new }
+{
+    write_heading(letter, out)?;
+    let form = ShowForm::Csv { kind: letter };
+    show_kind::<R, A, B, W>(alloc, kind, form, choice, reader, out)
+}
+
+// The lines alone.
+fn show_kind<R: CountedRead, A: Allocator, B: OrderBook, W: CountedWrite>(
+    alloc: B::Alloc,
+    kind: FileKind,
+    form: ShowForm,
+    choice: Choice<'_, B::Alloc>,
+    reader: &mut BlockReader<R, A>,
+    out: &mut W,
+) -> Result<bool, ToolFault>
+    ensures { ShowsKind R.remaining R.failures W.contents W.failures kind form choice.entry reader.old reader.new out.old result out.new }
+{
     match kind {
         FileKind::Day(limit) => show_blocks(reader, limit, form, choice, out),
         FileKind::Snapshot => show_snapshot::<R, A, B, W>(alloc, reader, form, choice, out),

@@ -1,4 +1,4 @@
-//! A day file, or the part of it that is wanted, read into a market.
+//! Reads a day file, or the requested part of it, into a market.
 ghost use Rattle.std.specs.Prelude.{◌≡◌};
 ghost use Rattle.itch_frame.specs.Reading.{bytes_left};
 ghost use Rattle.itch_commands.specs.Readings.{ReadsMarket, CountsRead, LeavesDay, stopped};
@@ -10,10 +10,10 @@ use itch_frame::{BlockReader, CountedRead};
 use itch_market::{Market, ReplayEnd, Stop, replay_part};
 use std::alloc::Allocator;
 
-/// Applies the messages of a day file to a market, or of the part of it that is wanted, and returns how many there are.
+/// Applies the messages of a day file, or of the requested part of it, to a market, and returns their number.
 ///
-/// Nothing is read after them, except for the message at the time where the part ends. A fault before that is returned as it is,
-/// and an end of the file before as many messages as are wanted as `Short`.
+/// Nothing is read after them, except the message at the end time of the part. A fault before that is returned as it is, and an end of the
+/// file before as many messages as requested as `Short`.
 pub fn read_market<R: CountedRead, A: Allocator, B: OrderBook>(
     reader: &mut BlockReader<R, A>,
     market: &mut Market<B>,
@@ -31,7 +31,7 @@ pub fn read_market<R: CountedRead, A: Allocator, B: OrderBook>(
     }
 }
 
-/// The same, for a market that is only looked at from then on: it is settled.
+/// Does the same for a market that is only looked at afterwards: it is settled.
 pub(crate) fn read_settled<R: CountedRead, A: Allocator, B: OrderBook>(
     reader: &mut BlockReader<R, A>,
     market: &mut Market<B>,
@@ -47,7 +47,7 @@ pub(crate) fn read_settled<R: CountedRead, A: Allocator, B: OrderBook>(
     read
 }
 
-// What a stop after this many messages returns: the end of the file is none, unless more messages are wanted.
+// Returns the result of a stop after this many messages: the end of the file is not a fault, unless more messages were requested.
 pub(crate) fn stopped(
     stop: Stop,
     wanted: Option<u64>,

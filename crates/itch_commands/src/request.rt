@@ -1,4 +1,4 @@
-//! What the program is asked to do over files.
+//! The requests of the program over files.
 ghost use Rattle.std.specs.Prelude.{◌≡◌, ◌↔◌, Some, IsNone, IfSome, option_map, codes};
 ghost use Rattle.itch_commands.specs.Requests.{is_binary, only_of};
 
@@ -10,7 +10,7 @@ use crate::kind::FileKind;
 use crate::selection::Selection;
 use itch_day::Limit;
 
-/// What the program is asked to do. A file is its path, or none for standard input.
+/// A request to the program. A file is given by its path, or is standard input without one.
 #[derive(Clone, Copy, Debug, PartialEq, Eq)]
 pub enum Request<'a> {
     /// Read one file.
@@ -24,7 +24,7 @@ pub enum Request<'a> {
         second: Option<&'a str>,
         command: PairCommand<'a>,
     },
-    /// Write the snapshot at a point of the day, from the nearest of its snapshots in a folder, for the locates that are selected only.
+    /// Write the snapshot at a point of the day, starting from the nearest snapshot in a folder, for the selected locates.
     At {
         folder: &'a str,
         feed: Option<&'a str>,
@@ -33,21 +33,21 @@ pub enum Request<'a> {
     },
 }
 
-/// What is done with one file. A limit says which part of it is wanted.
+/// A command over one file. A limit gives the requested part of the file.
 #[derive(Clone, Copy, Debug, PartialEq, Eq)]
 pub enum Command<'a> {
-    /// Write the snapshot after the file's messages, cut down to the locates that are selected.
+    /// Write the snapshot after the file's messages, restricted to the selected locates.
     Snap {
         limit: Limit,
         selection: Selection<'a>,
     },
-    /// Check that a file follows the order rules and is as expected, and count its messages.
+    /// Check that a file follows the order rules and meets the expectations, and count its messages.
     Check {
         limit: Limit,
         expected: Expected,
         form: Form,
     },
-    /// Tell what a day file contains, in numbers.
+    /// Write the contents of a day file, in numbers.
     Info {
         limit: Limit,
         form: Form,
@@ -64,11 +64,16 @@ pub enum Command<'a> {
         form: OrderForm,
         filters: Filters<'a>,
     },
+    /// Write the blocks of the kept messages of a day file.
+    Cut {
+        limit: Limit,
+        filters: Filters<'a>,
+    },
     /// Write a snapshot in canonical form, or only check whether it is in that form.
     Canon {
         check: bool,
     },
-    /// Write the price levels of the locates that are selected, or the first ones of each side.
+    /// Write the price levels of the selected locates, or the first ones of each side.
     Book {
         selection: Selection<'a>,
         depth: Option<u64>,
@@ -77,7 +82,7 @@ pub enum Command<'a> {
     },
 }
 
-/// What is done with two files.
+/// A command over two files.
 #[derive(Clone, Copy, Debug, PartialEq, Eq)]
 pub enum PairCommand<'a> {
     /// Check whether they leave the same market.
@@ -90,7 +95,7 @@ pub enum PairCommand<'a> {
         limit: Limit,
         form: Form,
     },
-    /// Join the second file, a feed, to the first, a snapshot, and write the snapshot after both, for the locates that are selected only.
+    /// Join the second file, a feed, to the first, a snapshot, and write the snapshot after both, for the selected locates.
     Join {
         part: FeedPart,
         selection: Selection<'a>,
@@ -98,21 +103,21 @@ pub enum PairCommand<'a> {
 }
 
 impl<'a> Request<'a> {
-    /// Whether the output is a snapshot, not text.
+    /// Returns whether the output is a snapshot or the blocks of messages, not text.
     pub fn is_binary(&self) -> bool
         ensures { result ≡ is_binary self.now }
     {
         match self {
             Request::One { command, .. } => matches!(
                 command,
-                Command::Snap { .. } | Command::Canon { check: false }
+                Command::Snap { .. } | Command::Cut { .. } | Command::Canon { check: false }
             ),
             Request::Two { command, .. } => matches!(command, PairCommand::Join { .. }),
             Request::At { .. } => true,
         }
     }
 
-    /// The list of the locates that are wanted, if there is one.
+    /// Returns the list of the requested locates, if there is one.
     pub fn only(&self) -> Option<&'a str>
         ensures { option_map (λ list. list.now) result ≡ only_of self.now }
     {
@@ -121,6 +126,7 @@ impl<'a> Request<'a> {
                 Command::Snap { selection, .. } | Command::Book { selection, .. } =>
                     selection.list(),
                 Command::Show { filters, .. } | Command::ShowOrders { filters, .. } => filters.only,
+                Command::Cut { filters, .. } => filters.only,
                 Command::Check { .. } | Command::Info { .. } | Command::Canon { .. } => None,
             },
             Request::Two { command, .. } => match command {
@@ -132,7 +138,7 @@ impl<'a> Request<'a> {
     }
 }
 
-/// The path of a file with this name, or none if that is standard input: the name is `-`, or there is no name.
+/// Returns the path of a file with this name, or `None` for standard input: the name is `-`, or there is no name.
 pub fn path_of<'a>(name: Option<&'a str>) -> Option<&'a str>
     ensures standard { IsNone result ↔ IfSome name.entry (λ path. path.now ≡ codes "-") }
     ensures path { IfSome result (λ path. name.entry ≡ Some path) }

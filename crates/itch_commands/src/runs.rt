@@ -1,4 +1,4 @@
-//! The list of a set of locates, as text.
+//! Writes the list of a set of locates, as text.
 ghost use Rattle.std.specs.Prelude.{◌≡◌, ◌+◌, ◌++◌, ◌∷◌, [], true, false, if◌then◌else◌, IfOk, OnOk, Some, None};
 ghost use Rattle.std.specs.String.{string_bytes};
 ghost use Rattle.itch_market.specs.Wanted.{Wanted, has};
@@ -9,7 +9,7 @@ use itch_market::LocateSet;
 use itoa::Buffer;
 use std::alloc::{AllocError, Allocator};
 
-/// The list of a set's locates, with one range for each run of them, in rising order.
+/// Returns the list of a set's locates, with one range for each run of them, in ascending order.
 pub fn write_locates<A: Allocator + Copy>(
     alloc: A,
     set: &LocateSet<A>,
@@ -28,7 +28,7 @@ pub fn write_locates<A: Allocator + Copy>(
 struct Runs<A: Allocator> {
     list: String<A>,
     is_first: bool,
-    // Where a run began that has not ended, and is not in the list.
+    // The beginning of a run that has not ended, and is not in the list yet.
     begun: Option<u16>,
 }
 
@@ -43,7 +43,7 @@ impl<A: Allocator> Runs<A> {
         }
     }
 
-    // The next locate comes, which is in the set or not.
+    // Passes the next locate, which is in the set or not.
     fn pass(&mut self, locate: u16, is_in: bool) -> Result<(), AllocError>
         ensures { OnOk result ((set : Wanted) → IsWritten set (string_bytes self.old.list) self.old.is_first self.old.begun locate → is_in ≡ has set locate
             → IsWritten set (string_bytes self.new.list) self.new.is_first self.new.begun (locate + 1)) }
@@ -63,7 +63,7 @@ impl<A: Allocator> Runs<A> {
         }
     }
 
-    // The list of the whole set.
+    // Returns the complete list.
     fn end(mut self) -> Result<String<A>, AllocError>
         ensures { IfOk result (λ list. (set : Wanted) → IsWritten set (string_bytes self.list) self.is_first self.begun 65536 → IsListText set (string_bytes list)) }
     {

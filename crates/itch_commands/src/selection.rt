@@ -1,20 +1,20 @@
-//! Which locates of a market are selected.
+//! A selection of locates of a market.
 ghost use Rattle.std.specs.Prelude.{◌≡◌, option_map};
 ghost use Rattle.itch_commands.specs.Requests.{list_of};
 
-/// Which locates of a market are selected, in words.
+/// A selection of locates of a market, as given on the command line.
 #[derive(Clone, Copy, Debug, PartialEq, Eq)]
 pub enum Selection<'a> {
-    /// All of them.
+    /// All locates.
     All,
-    /// Those of a list, such as `1-40,77`.
+    /// The locates of a list, such as `1-40,77`.
     Locates(&'a str),
-    /// Those that have one of these stocks in the directory, such as `AAPL,MSFT`.
+    /// The locates that have one of these stocks in the directory, such as `AAPL,MSFT`.
     Stocks(&'a str),
 }
 
 impl<'a> Selection<'a> {
-    /// The list of the locates, if they are selected by one.
+    /// Returns the list of the locates, if they are selected by one.
     pub fn list(&self) -> Option<&'a str>
         ensures { option_map (λ list. list.now) result ≡ list_of self.now }
     {

@@ -1,4 +1,4 @@
-//! `show`: the messages of a file as lines of text.
+//! `show`: shows the messages of a file as lines of text.
 ghost use Rattle.std.specs.Prelude.{◌≡◌, Bool, None, Err};
 ghost use Rattle.itch_commands.specs.Choices.{everything};
 ghost use Rattle.itch_day.specs.Limits.{counted};
@@ -8,26 +8,30 @@ ghost use Rattle.itch_commands.specs.declared.fault.ToolFault.TheVariants.{OutOf
 ghost use Rattle.itch_commands.specs.declared.form.ShowForm.TheVariants.{Text};
 
 mod found;
+mod headings;
 mod lines;
 mod orders;
 mod recorded;
+mod rows;
 mod sink;
 
 use crate::choice::Choice;
 use crate::fault::{Source, ToolFault};
 use crate::form::ShowForm;
-use found::if_found;
+pub(crate) use found::if_found;
+pub(crate) use headings::write_heading;
 use itch_day::{Limit, Stop as PartStop, pass_stop, read_part};
 use itch_frame::{BlockReader, CountedRead, CountedWrite};
 use itch_market::Stop;
 pub use orders::orders_blocks;
 pub use recorded::show_snapshot;
-use sink::{ShownLines, stopped};
+use sink::ShownLines;
+pub(crate) use sink::stopped;
 use std::alloc::Allocator;
 
 /// Writes a line for each message of a day file or a snapshot file, in the form of [`itch_codec::show`].
 ///
-/// The errors are those of [`show_blocks`]. Memory is needed for one block only, before anything is read.
+/// The errors are those of [`show_blocks`]. It allocates memory for only one block, before anything is read.
 pub fn show<R: CountedRead + Drop, A: Allocator, W: CountedWrite>(
     alloc: A,
     reader: R,
@@ -42,7 +46,8 @@ pub fn show<R: CountedRead + Drop, A: Allocator, W: CountedWrite>(
 }
 
 /// The same over a reader of blocks, for any part of the file, of those messages that are chosen, and in any form. A message has the
-/// number that it has in the file. The reader is left after the block that ended the reading.
+/// number that it has in the file. The reader is left after the block that ended the reading. The form of comma-separated values has no
+/// heading here.
 ///
 /// No order rule is applied, and an End of Snapshot is shown as any other message. The file is never held: each line is written
 /// as its message is read. If a block spells no message, or the file has fewer messages than are wanted (`Short`), the lines before
@@ -61,7 +66,7 @@ pub fn show_blocks<R: CountedRead, B: Allocator, A: Allocator, W: CountedWrite>(
     if_found(found)
 }
 
-// The same. Returns whether each of the stocks that are looked for has come.
+// Does the same. Returns whether each of the stocks searched for has come.
 fn show_part<R: CountedRead, B: Allocator, A: Allocator, W: CountedWrite>(
     reader: &mut BlockReader<R, B>,
     limit: Limit,
@@ -83,8 +88,8 @@ fn show_part<R: CountedRead, B: Allocator, A: Allocator, W: CountedWrite>(
     answer(stop, limit.after, count, lines.has_found_all())
 }
 
-// What is returned where a part goes no further. The end of the file is no fault, unless more messages are wanted.
-fn answer(
+// Returns the result if a part ends. The end of the file is not a fault, unless more messages were requested.
+pub(crate) fn answer(
     stop: PartStop<ToolFault>,
     wanted: Option<u64>,
     count: u64,

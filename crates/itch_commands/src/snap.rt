@@ -1,23 +1,18 @@
-//! `snap`: the canonical snapshot of a file.
+//! `snap`: writes the canonical snapshot of a file.
 ghost use Rattle.std.specs.Option.{option_copied};
 ghost use Rattle.itch_commands.specs.Commands.{Snaps};
 ghost use Rattle.itch_day.specs.Limits.{counted};
 ghost use Rattle.itch_commands.specs.Readings.{FromBlocks, FromReader};
 
 mod checkpoint;
-mod fingerprint;
-mod index;
 mod pass;
-mod passed;
 mod stocks;
 
 use crate::fault::{Source, ToolFault};
 use crate::order_book::Book;
 use crate::reading::read_settled;
 use crate::writing::write_closed_of;
-pub use checkpoint::{Latest, has_each};
-pub use fingerprint::{Fingerprint, MOST_FIRST, MOST_LAST, Unfit, why_unfit};
-pub use index::write_index;
+pub use checkpoint::has_each;
 use itch_book::OrderBook;
 use itch_codec::Seq;
 use itch_day::Limit;
@@ -25,16 +20,15 @@ pub use itch_day::Mark;
 use itch_frame::{BlockReader, CountedRead, CountedWrite};
 use itch_market::{LocateSet, Market};
 pub use pass::Pass;
-pub use passed::Passed;
 use std::alloc::Allocator;
 pub use stocks::snap_stocks;
 
-/// Writes the canonical snapshot after a day file's messages, or after its first ones: the canonical bytes of the market
-/// that they leave, and an End of Snapshot with the number of the first message that it does not contain.
+/// Writes the canonical snapshot after a day file's messages, or after its first ones: the canonical bytes of the market after them, and an
+/// End of Snapshot with the number of the first message that it does not contain.
 ///
 /// With `after`, reading stops after that many messages. A fault before that is returned as it is, and an earlier end as `Short`.
 ///
-/// With a set, the snapshot is cut down to its locates. Still, every message has to follow the order rules.
+/// With a set, the snapshot is restricted to its locates. Every message must still follow the order rules.
 pub fn snap<R: CountedRead + Drop, A: Allocator + Copy, W: CountedWrite>(
     alloc: A,
     reader: R,
@@ -48,7 +42,7 @@ pub fn snap<R: CountedRead + Drop, A: Allocator + Copy, W: CountedWrite>(
     snap_blocks::<_, _, Book<A>, _>(alloc, &mut reader, Limit::counted(after), only, out)
 }
 
-/// The same over a reader of blocks, and for any part of the file. The reader is left where the reading ended.
+/// Does the same over a reader of blocks, and for any part of the file. The reader is left where the reading ended.
 pub fn snap_blocks<R: CountedRead, A: Allocator, B: OrderBook, W: CountedWrite>(
     alloc: B::Alloc,
     reader: &mut BlockReader<R, A>,

@@ -1,6 +1,6 @@
-//! Stocks that are looked for by their names while the messages of a file pass.
+//! Searches for stocks by their names while the messages of a file pass.
 ghost use Rattle.std.specs.Prelude.{◌≡◌, ◌==◌, IfOk, length, replicate, false};
-ghost use Rattle.itch_commands.specs.Sought.{sought, sought_after, is_about_one};
+ghost use Rattle.itch_commands.specs.Sought.{sought, sought_after, is_about_one, is_found};
 ghost use Rattle.itch_commands.specs.Stocks.{names_of};
 
 use crate::stock_names::StockNames;
@@ -8,7 +8,7 @@ use itch_codec::Message;
 use std::alloc::{AllocError, Allocator};
 use std::marker::Model;
 
-/// Names of stocks, and the locates that have one of them by the Stock Directory messages so far.
+/// Names of stocks, and the locates that have one of them according to the Stock Directory messages so far.
 #[derive(Drop)]
 pub struct SoughtStocks<'a, A: Allocator> {
     stocks: StockNames<'a, A>,
@@ -28,8 +28,8 @@ impl<'a, A: Allocator> Model for SoughtStocks<'a, A> {
 }
 
 impl<'a, A: Allocator + Copy> SoughtStocks<'a, A> {
-    /// The stocks of these names, which are separated by commas, before any message. All memory is taken here: for the names, and a
-    /// byte for each locate.
+    /// Creates a search for the stocks with these names, which are separated by commas, before any message. It allocates all its memory
+    /// here: for the names, and a byte for each locate.
     pub fn new(alloc: A, names: &'a str) -> Result<Self, AllocError>
         ensures { IfOk result (λ s. s ≡ sought (names_of names.now)) }
     {
@@ -41,7 +41,7 @@ impl<'a, A: Allocator + Copy> SoughtStocks<'a, A> {
 }
 
 impl<A: Allocator> SoughtStocks<'_, A> {
-    /// Whether a message is about one of the stocks.
+    /// Returns whether a message is about one of the stocks.
     pub fn is_about_one(&self, message: &Message<'_>) -> bool
         ensures { result ≡ is_about_one self.now message.now }
     {
@@ -51,10 +51,18 @@ impl<A: Allocator> SoughtStocks<'_, A> {
                 self.stocks.have(stock.text())
             }
             _ => match message.header() {
-                Some(header) => self.found[usize::from(header.locate)],
+                Some(header) => self.has(header.locate),
                 None => false,
             },
         }
+    }
+
+    /// Returns whether a locate has one of the stocks, according to the messages so far.
+    #[inline(always)]
+    pub fn has(&self, locate: u16) -> bool
+        ensures { result ≡ is_found self.now locate }
+    {
+        self.found[usize::from(locate)]
     }
 
     /// Passes a message, after which its locate may have another stock.
@@ -67,7 +75,7 @@ impl<A: Allocator> SoughtStocks<'_, A> {
         }
     }
 
-    /// Whether each of the stocks has come.
+    /// Returns whether each of the stocks has come.
     pub fn are_found(&self) -> bool
         ensures { result ≡ (length self.now.missing == 0) }
     {
@@ -75,7 +83,7 @@ impl<A: Allocator> SoughtStocks<'_, A> {
     }
 }
 
-// No locate has any stock yet.
+// Returns the table of locates before any of them has a stock.
 fn none_found<A: Allocator>(alloc: A) -> Result<Vec<bool, A>, AllocError>
     ensures { IfOk result (λ found. found.items ≡ replicate 65536 false) }
 {

@@ -1,4 +1,4 @@
-//! Names of stocks that are looked for, and which of them have come.
+//! The names of stocks in a search, and which of them have come.
 ghost use Rattle.std.specs.Prelude.{◌≡◌, ◌==◌, ℕ, List, IfOk, Some, None, cond, map, length, bytes_eq, false};
 ghost use Rattle.std.specs.List.{list_all, list_any};
 ghost use Rattle.std.specs.HashMap.{get_by};
@@ -13,7 +13,7 @@ use std::marker::Model;
 // For each name whether it has come.
 type Marks<'a, A> = HashMap<&'a str, bool, BuildHasherDefault<FoldHasher>, A>;
 
-/// Names of stocks that are looked for, and which of them have come. Each is found by its hash, however many there are.
+/// The names of stocks in a search, and which of them have come. Each is found by its hash, so their number does not matter.
 #[derive(Drop)]
 pub struct StockNames<'a, A: Allocator> {
     names: Vec<&'a str, A>,
@@ -34,7 +34,7 @@ impl<'a, A: Allocator> Model for StockNames<'a, A> {
 }
 
 impl<'a, A: Allocator + Copy> StockNames<'a, A> {
-    /// The names of a list, which are separated by commas, none of which has come. All memory is taken here.
+    /// Creates the names of a list, which are separated by commas; none has come yet. It allocates all its memory here.
     pub fn new(alloc: A, names: &'a str) -> Result<Self, AllocError>
         ensures { IfOk result (λ s. s ≡ record { names = names_of names.now; missing = names_of names.now }) }
     {
@@ -45,14 +45,14 @@ impl<'a, A: Allocator + Copy> StockNames<'a, A> {
 }
 
 impl<A: Allocator> StockNames<'_, A> {
-    /// Whether a stock is that of one of the names.
+    /// Returns whether a stock has one of the names.
     pub fn have(&self, stock: &str) -> bool
         ensures { result ≡ is_one_of self.now.names stock.now }
     {
         self.come.contains_key(stock)
     }
 
-    /// A stock comes. Returns whether it is that of one of the names.
+    /// Marks the name of a stock as come. Returns whether it is one of the names.
     pub fn pass(&mut self, stock: &str) -> bool
         ensures is { result ≡ is_one_of self.old.names stock.now }
         ensures passed { self.new ≡ record { names = self.old.names; missing = others self.old.missing stock.now } }
@@ -64,7 +64,7 @@ impl<A: Allocator> StockNames<'_, A> {
         true
     }
 
-    /// Whether each of them has come.
+    /// Returns whether all of them have come.
     pub fn have_all_come(&self) -> bool
         ensures { result ≡ (length self.now.missing == 0) }
     {
@@ -72,7 +72,7 @@ impl<A: Allocator> StockNames<'_, A> {
     }
 }
 
-// Whether each of these names has come.
+// Returns whether all of these names have come.
 fn all_come<A: Allocator>(come: &Marks<'_, A>, names: &[&str]) -> bool
     ensures { result ≡ list_all (λ name. has_come (get_by (λ k. bytes_eq name.now k.now) come.now)) names.now }
 {
@@ -88,7 +88,7 @@ fn has_come<A: Allocator>(come: &Marks<'_, A>, name: &str) -> bool
     }
 }
 
-// The names of a list.
+// Returns the names of a list.
 fn names_in<'a, A: Allocator>(alloc: A, text: &'a str) -> Result<Vec<&'a str, A>, AllocError>
     ensures { IfOk result (λ names. map (λ n. n.now) names.items ≡ names_of text.now) }
 {
@@ -102,7 +102,7 @@ fn names_in<'a, A: Allocator>(alloc: A, text: &'a str) -> Result<Vec<&'a str, A>
     Ok(names)
 }
 
-// None of the names has come yet.
+// Returns the names, none of which has come yet.
 fn none_come<'a, A: Allocator + Copy>(
     alloc: A,
     names: &[&'a str],

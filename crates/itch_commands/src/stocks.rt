@@ -7,14 +7,14 @@ use crate::stock_names::StockNames;
 use itch_book::OrderBook;
 use itch_market::{LocateSet, Market};
 
-/// The locates whose entry in the directory has one of these stocks. The names are separated by commas, and are the stocks' bytes
-/// without the spaces that pad them. Several locates may have one stock.
+/// Returns the locates whose directory entry has one of these stocks. The names are separated by commas, and are the stocks' bytes without
+/// the padding. Several locates may have the same stock.
 ///
-/// The directory is gone through once, however many names there are.
+/// It goes through the directory once, for any number of names.
 ///
 /// # Faults
 ///
-/// `UnknownStock` if no entry has the stock of a name, and `OutOfMemory` if memory is refused before that is known.
+/// `UnknownStock` if no entry has the stock of a name, and `OutOfMemory` if memory runs out before that is known.
 pub fn stock_locates<B: OrderBook>(
     alloc: B::Alloc,
     market: &Market<B>,
@@ -36,7 +36,7 @@ pub fn stock_locates<B: OrderBook>(
     }
 }
 
-// The stock of a locate comes, if it has one. Returns whether it is that of one of the names.
+// Passes the stock of a locate, if it has one. Returns whether it has one of the names.
 fn pass_locate<B: OrderBook>(
     market: &Market<B>,
     stocks: &mut StockNames<'_, B::Alloc>,

@@ -1,4 +1,4 @@
-//! Text, and the snapshot of a market, on the output.
+//! Writes text, and the snapshot of a market, to the output.
 ghost use Rattle.std.specs.Prelude.{◌<◌, ◌^◌, ◌++◌, length, true};
 ghost use Rattle.itch_snapshot.specs.Bytes.{canon, closing};
 ghost use Rattle.itch_snapshot.specs.Cursor.{cut_to};
@@ -24,7 +24,7 @@ pub fn write_closed<B: OrderBook, W: CountedWrite>(
     write_closed_of(market, None, next, out)
 }
 
-/// The same, for the market cut down to the locates of a set if there is one.
+/// Does the same for the market restricted to the locates of a set if there is one.
 pub fn write_closed_of<'a, B: OrderBook, W: CountedWrite>(
     market: &'a Market<B>,
     set: Option<&'a LocateSet<B::Alloc>>,

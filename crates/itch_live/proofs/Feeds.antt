@@ -16,7 +16,7 @@ use Rattle.itch_live.specs.declared.news.Source.{Source}
 use Rattle.itch_live.specs.declared.news.Source.TheVariants as source
 use Rattle.itch_live.specs.declared.news.News.{News}
 use Rattle.itch_live.specs.Follows.{Following, Calls, ActsOn, HearsFeed}
-use Rattle.itch_live.specs.Feeds.{Did, Connects, Ticks, Hears, FitsAct, IsHonest, IsJoining, Does, Followed, StandsJoined}
+use Rattle.itch_live.specs.Feeds.{Did, Connects, Ticks, Replays, Hears, FitsAct, IsHonest, IsJoining, Does, Followed, StandsJoined}
 
 -- the joiner is as before
 same_joining : (set : Wanted) (cap : ℕ) (feed : List (List ℕ)) (f g : Following) → g.joining ≡ f.joining → IsJoining set cap feed f → IsJoining set cap feed g
@@ -71,6 +71,7 @@ module _ {W : Type 0} (contents : W → Option (List ℕ)) (failures : W → Fai
   does set cap feed f g (Connects credentials now) is honest j =
       called set cap feed f g CallRestart (ap (λ x. x.joining.state) is, ap (λ x. x.joining.cap) is, ap (λ x. x.joining.set) is) tt j
   does set cap feed f g (Ticks now) is honest j = same_joining set cap feed f g (ap (λ x. x.joining) is) j
+  does set cap feed f g (Replays number payload result) (calls, is) honest j = called set cap feed f g (CallLive number payload result) calls honest j
   does set cap feed f g (Hears piece now result old new) step honest j = heard set cap feed f g piece now result old new step honest j
 
   pub joining : (set : Wanted) (cap : ℕ) (feed : List (List ℕ)) (begun : Following) (past : List (Did W)) (f : Following) → IsJoining set cap feed begun

@@ -27,7 +27,7 @@ use Rattle.itch_live.specs.declared.news.Source.TheVariants as source
 use Rattle.itch_live.specs.declared.sessions.Sessions.{Sessions}
 use Rattle.itch_live.specs.Sessions.{expected, other_name, known_after}
 use Rattle.itch_live.specs.Follows.{Following, Means, ActsOn, HearsFeed, named_in, accepted_as}
-use Rattle.itch_live.specs.Feeds.{Did, Connects, Ticks, Hears}
+use Rattle.itch_live.specs.Feeds.{Did, Connects, Ticks, Replays, Hears}
 use Rattle.itch_live.specs.Identity.{StaysConnected, Led, IsInSession}
 use Rattle.itch_live.proofs.Shutting.{none_known}
 
@@ -164,6 +164,8 @@ module _ {W : Type 0} (contents : W → Option (List ℕ)) (failures : W → Fai
     holds (Ticks now ∷ past) g (f, is, led) = λ at.
         on past (Ticks now) f g tt (ap (λ x. x.sessions) is) (ap (λ x. x.source) is)
         (holds past f led (ticked_on (tick_answer f.session.connection now) f.session.connection now (sym (ap (λ x. x.session.connection.stage) is) ∙ at)))
+    holds (Replays number payload result ∷ past) g (f, (calls, is), led) = λ at.
+        on past (Replays number payload result) f g tt (ap (λ x. x.sessions) is) (ap (λ x. x.source) is) (holds past f led (sym (ap (λ x. x.session.connection.stage) is) ∙ at))
     holds (Hears piece now result old new ∷ past) g (f, (held, took, inr (none, says, kept, is)), led) = λ at.
         on past (Hears piece now result old new) f g tt (ap (λ x. x.sessions) is) (ap (λ x. x.source) is) (holds past f led (sym (ap (λ x. x.session.connection.stage) is) ∙ at))
     holds (Hears piece now result old new ∷ past) g (f, (held, took, inl (payload, block, (answer, named, t, means, inl (other, is, (says, shut, kept, same))), from, none)), led) = λ at.

@@ -6,6 +6,7 @@ pub mod OneStory
 pub mod Same
 pub mod Feeds
 pub mod Recorded
+pub mod Continued
 pub mod Played
 pub mod PlayedFile
 pub mod Places

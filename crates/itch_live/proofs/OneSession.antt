@@ -9,7 +9,7 @@ use Rattle.itch_live.specs.declared.news.Source.TheVariants as source
 use Rattle.itch_live.specs.declared.sessions.Sessions.{Sessions}
 use Rattle.itch_live.specs.Sessions.{known_after}
 use Rattle.itch_live.specs.Follows.{Following, accepted_as}
-use Rattle.itch_live.specs.Feeds.{Did, Connects, Ticks, Hears, Does}
+use Rattle.itch_live.specs.Feeds.{Did, Connects, Ticks, Replays, Hears, Does}
 use Rattle.itch_live.specs.Desks as desks
 use Rattle.itch_live.specs.Desks.{Desk, shot_for, with_shot, answered_with, Call, Event, History}
 
@@ -24,6 +24,7 @@ module _ {W : Type 0} (contents : W → Option (List ℕ)) (failures : W → Fai
   does_stay : (f g : Following) (did : Did W) (session : List ℕ) → Does contents failures f did g → f.sessions.feed ≡ Some session → g.sessions.feed ≡ Some session
   does_stay f g (Connects credentials now) session is there = ap (λ x. x.sessions.feed) is ∙ there
   does_stay f g (Ticks now) session is there = ap (λ x. x.sessions.feed) is ∙ there
+  does_stay f g (Replays number payload result) session (calls, is) there = ap (λ x. x.sessions.feed) is ∙ there
   does_stay f g (Hears piece now result old new) session (held, took, inl (payload, block, (answer, named, t, means, inl (other, is, (says, shut, kept, same))), from, none)) there =
       ap (λ (r : News × Sessions). r.1.feed) says ∙ there
   does_stay f g (Hears piece now result old new) session (held, took, inl (payload, block, (answer, named, t, means, inr (own, goes, (acts, pins))), from, none)) there =

@@ -35,7 +35,7 @@ use Rattle.itch_live.specs.declared.news.Source.TheVariants as source
 use Rattle.itch_live.specs.declared.sessions.Sessions.{Sessions}
 use Rattle.itch_live.specs.declared.news.News.{News}
 use Rattle.itch_live.specs.Follows.{Following, Calls, Records, ActsOn, HearsFeed, snapshot_news}
-use Rattle.itch_live.specs.Feeds.{Did, Connects, Ticks, Hears, FitsAct, IsHonest, IsJoining, Followed}
+use Rattle.itch_live.specs.Feeds.{Did, Connects, Ticks, Replays, Hears, FitsAct, IsHonest, IsJoining, Followed}
 use Rattle.itch_live.specs.Records.{IsWritten, IsOneRecord, joined_in, joined_by, first_recorded, between, RecordsUpTo, IsRecord}
 use Rattle.itch_live.proofs.Feeds.{joining, stands_joined, positive_next}
 
@@ -352,6 +352,7 @@ module _ {W : Type 0} (contents : W → Option (List ℕ)) (failures : W → Fai
       unchanged past (Connects credentials now) e f w w refl refl (ap (λ x. x.joining.state.joined) is ∙ restarted_joined e.joining.state.joined e.joining.state) (all_recorded j past e w before one)
   all_recorded j (Ticks now ∷ past) f w (e, is, honest, before) one =
       unchanged past (Ticks now) e f w w refl refl (ap (λ x. x.joining.state.joined) is) (all_recorded j past e w before one)
+  all_recorded j (Replays number payload result ∷ past) f w (e, step, honest, before) one = absurd one
   all_recorded j (Hears piece now result old new ∷ past) f w (e, hears, honest, before) (is, written, one) =
       subst (λ w. Kept (Hears piece now result old new ∷ past) f w) (sym is)
       (heard past piece now result old new e f hears honest (joining contents failures set 0 feed begun past e j before) written (all_recorded j past e old before one))

@@ -20,7 +20,7 @@ use Rattle.itch_live.specs.declared.news.Source.{Source}
 use Rattle.itch_live.specs.declared.news.Source.TheVariants as source
 use Rattle.itch_live.specs.declared.news.News.{News}
 use Rattle.itch_live.specs.Follows.{Following, ActsOn}
-use Rattle.itch_live.specs.Feeds.{Did, Connects, Ticks, Hears, Does}
+use Rattle.itch_live.specs.Feeds.{Did, Connects, Ticks, Replays, Hears, Does}
 use Rattle.itch_live.specs.Desks as desks
 use Rattle.itch_live.specs.Desks.{Desk, shot_for, with_shot, answered_with, Call, Event, History}
 use Rattle.itch_live.specs.FeedDesks.{GoesOn}
@@ -125,6 +125,8 @@ module _ {W : Type 0} (contents : W → Option (List ℕ)) (failures : W → Fai
   pub does : (f g : Following) (did : Did W) → Does contents failures f did g → Advances f.joining.state.joined g.joining.state.joined
   does f g (Connects credentials now) is = same_position _ _ (ap (λ x. x.joining.state.joined) is ∙ restarted_same f.joining.state.joined f.joining.state)
   does f g (Ticks now) is = same_position _ _ (ap (λ x. x.joining.state.joined) is)
+  does f g (Replays number payload result) (calls, is) =
+      live_rises (rules_of (has f.joining.set)) f.joining.state g.joining.state number payload result f.joining.cap (live_case f.joining.cap f.joining.state number payload) calls.0
   does f g (Hears piece now result old new) (held, took, inl (payload, block, (answer, named, t, means, inl (other, is, (says, shut, kept, same))), from, none)) =
       same_position _ _ (ap (λ x. x.state.joined) same)
   does f g (Hears piece now result old new) (held, took, inl (payload, block, (answer, named, t, means, inr (own, goes, (acts, pins))), from, none)) =

@@ -1,10 +1,12 @@
 -- What follows a feed, over every list of its calls.
-use Rattle.std.specs.Prelude.{◌≡◌, ℕ, ◌-◌, true, List, [], ◌∷◌, Option, Some, slice_get}
+use Rattle.std.specs.Prelude.{◌≡◌, ℕ, ◌-◌, true, List, [], ◌∷◌, Option, Some, Result, slice_get}
 use Rattle.itch_codec.specs.Fields.{AreBytes}
 use Rattle.itch_frame.specs.Blocks.{IsBlockOf}
 use Rattle.itch_frame.specs.Cuts.{IsTake}
 use Rattle.itch_frame.specs.declared.tally.Failures.{Failures}
 use Rattle.itch_market.specs.Wanted.{Wanted, has}
+use Rattle.itch_join.specs.declared.fault.JoinFault.{JoinFault}
+use Rattle.itch_join.specs.declared.outcome.Live.{Live}
 use Rattle.itch_join.specs.Rules.{Rules, rules_of}
 use Rattle.itch_join.specs.States.{State, is_number}
 use Rattle.itch_join.specs.Steps.{snapshot_case}
@@ -17,12 +19,14 @@ use Rattle.itch_soup.specs.Clients.{Client}
 use Rattle.itch_live.specs.declared.news.Source.{Source}
 use Rattle.itch_live.specs.declared.news.Source.TheVariants as source
 use Rattle.itch_live.specs.declared.news.News.{News}
-use Rattle.itch_live.specs.Follows.{Following, connected, ticked, Means, HearsFeed}
+use Rattle.itch_live.specs.Follows.{Following, connected, ticked, Means, HearsFeed, Replayed}
 
--- what a caller does: it begins a connection with a login, lets time pass, or hands in bytes, with the result and the record before and after
+-- what a caller does: it begins a connection with a login, lets time pass, hands in a message that the record has, or hands in bytes, with the
+-- result and the record before and after
 pub data Did (W : Type 0) : Type 0 where
   Connects : (credentials : Credentials) (now : ℕ) → Did W
   Ticks : (now : ℕ) → Did W
+  Replays : (number : ℕ) (payload : List ℕ) (result : Result Live JoinFault) → Did W
   Hears : (piece : List ℕ) (now : ℕ) (result : ℕ × News) (old new : W) → Did W
 
 -- a message of the live feed is the feed's with its number; one of a snapshot is bytes, and the snapshot is one of the feed
@@ -34,10 +38,11 @@ abbrev pub FitsAct : Rules → List (List ℕ) → Following → ClientAct → T
 FitsAct R feed f (act.Data number payload) = FitsSource R feed f.joining.state f.source number payload
 FitsAct R feed f other = Unit {0}
 
--- the premise on servers: what a packet that is heard means is of the feed
+-- the premise on servers, and on the record: what a packet that is heard means is of the feed, and so is a message that is replayed
 abbrev pub IsHonest : {W : Type 0} → Rules → List (List ℕ) → Following → Did W → Type 0
 IsHonest R feed f (Connects credentials now) = Unit {0}
 IsHonest R feed f (Ticks now) = Unit {0}
+IsHonest R feed f (Replays number payload result) = FitsSource R feed f.joining.state source.Live number payload
 IsHonest R feed f (Hears piece now result old new) =
     (held payload : List ℕ) (answer : ClientAct) (named : Option (List ℕ)) (t : Client) → IsTake f.held piece result.0 held → IsBlockOf payload held
     → Means f.session payload now answer named t → FitsAct R feed f answer
@@ -54,6 +59,7 @@ module _ {W : Type 0} (contents : W → Option (List ℕ)) (failures : W → Fai
   abbrev pub Does : Following → Did W → Following → Type 0
   Does f (Connects credentials now) g = g ≡ connected f credentials now
   Does f (Ticks now) g = g ≡ ticked f now
+  Does f (Replays number payload result) g = Replayed f number payload result g
   Does f (Hears piece now result old new) g = HearsFeed contents failures f piece now old result new g
 
   -- these calls have led from one to the other, and what servers sent was of this feed; the latest stands first

@@ -94,6 +94,10 @@ ticked f now = record f { session = client_after_tick f.session now }
 abbrev pub Calls : Joining → Call → Joining → Type 0
 Calls old call new = Step (rules_of (has old.set)) old.cap old.state call new.state × (new.cap ≡ old.cap) × (new.set ≡ old.set)
 
+-- a message of the feed is delivered that its record has already
+abbrev pub Replayed : Following → ℕ → List ℕ → Result Live JoinFault → Following → Type 0
+Replayed f number payload result g = Calls f.joining (CallLive number payload result) g.joining × (g ≡ record f { joining = g.joining })
+
 -- a message of the snapshot is delivered
 abbrev pub snapshot_news : Result Snap JoinFault → News
 snapshot_news (Ok snap.More) = news.Nothing

@@ -7,18 +7,19 @@ use Rattle.itch_join.specs.Deliveries.{or_else}
 use Rattle.itch_live.specs.declared.news.News.{News}
 use Rattle.itch_live.specs.declared.news.News.TheVariants as news
 use Rattle.itch_live.specs.Follows.{Following}
-use Rattle.itch_live.specs.Feeds.{Did, Connects, Ticks, Hears}
+use Rattle.itch_live.specs.Feeds.{Did, Connects, Ticks, Replays, Hears}
 
 -- no write failed
 abbrev pub IsWritten : News → Type 0
 IsWritten (news.Unrecorded fault) = ⊥
 IsWritten other = Unit {0}
 
--- there is one record, which each call is given as the one before it left it, and no write to it failed
+-- there is one record, which each call is given as the one before it left it, and no write to it failed; it was replayed before these calls
 abbrev pub IsOneRecord : {W : Type 0} → W → List (Did W) → W → Type 0
 IsOneRecord begun [] record_now = record_now ≡ begun
 IsOneRecord begun (Connects credentials now ∷ past) record_now = IsOneRecord begun past record_now
 IsOneRecord begun (Ticks now ∷ past) record_now = IsOneRecord begun past record_now
+IsOneRecord begun (Replays number payload result ∷ past) record_now = ⊥
 IsOneRecord begun (Hears piece now result old new ∷ past) record_now = (record_now ≡ new) × IsWritten result.1 × IsOneRecord begun past old
 
 -- the number with which this call has joined
@@ -29,6 +30,7 @@ joined_in other = None
 abbrev pub joined_by : {W : Type 0} → Did W → Option ℕ
 joined_by (Connects credentials now) = None
 joined_by (Ticks now) = None
+joined_by (Replays number payload result) = None
 joined_by (Hears piece now result old new) = joined_in result.1
 
 -- the number of the first message that is recorded: the next one when the calls began, or that with which the joiner has joined since

@@ -1,6 +1,7 @@
 //! The feed of a live server.
 ghost use Rattle.std.specs.Prelude.{◌≡◌, IfOk, option_map};
 ghost use Rattle.std.specs.Option.{option_copied};
+ghost use Rattle.itch_day.specs.Sinks.{Decodes};
 ghost use Rattle.itch_live.specs.Follows as follows;
 ghost use Rattle.itch_soup.specs.Connections.{tick_answer};
 ghost use Rattle.itch_soup.specs.Clients.{login_of};
@@ -9,9 +10,9 @@ ghost use Rattle.itch_soup.specs.Packets.{packet_spelling};
 use crate::news::{News, Source};
 use crate::sessions::{Sessions, other_name};
 use itch_book::OrderBook;
-use itch_codec::{Alpha, GREATEST_SEQ};
+use itch_codec::{Alpha, CodecFault, GREATEST_SEQ, Message};
 use itch_frame::{CountedWrite, Splitter, write_block};
-use itch_join::{Joiner, Live, Snap};
+use itch_join::{JoinFault, Joiner, Live, Snap};
 use itch_market::Market;
 use itch_soup::{ClientAct, ClientSession, Credentials, Origin, Packet, Tick, parse_packet};
 use std::alloc::AllocError;
@@ -108,6 +109,19 @@ impl<B: OrderBook> Follower<B> {
         );
         self.splitter.clear();
         (count, news)
+    }
+
+    /// Takes the message of the feed with this number from its record, which has it already.
+    pub fn replay(
+        &mut self,
+        number: u64,
+        payload: &[u8],
+        message: &Result<Message<'_>, CodecFault>,
+    ) -> Result<Live, JoinFault>
+        requires decoded { Decodes payload.now message.now }
+        ensures { follows.Replayed self.old number payload.now result self.new }
+    {
+        self.joiner.live_decoded(number, payload, message)
     }
 
     /// What is to be sent, or done, at this moment.

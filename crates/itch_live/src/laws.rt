@@ -2,9 +2,10 @@
 //!
 //! Each function here does nothing: its clauses are the laws, over every list of calls. They do not say that a peer sends or takes
 //! anything, that it is served before another one, or how long anything takes.
-ghost use Rattle.std.specs.Prelude.{◌≡◌, ℕ, ◌+◌, ◌*◌, ◌≤◌, List, ◌∷◌, ◌++◌, true, length, max, Some};
+ghost use Rattle.std.specs.Prelude.{◌≡◌, ℕ, ◌+◌, ◌-◌, ◌*◌, ◌≤◌, List, ◌∷◌, ◌++◌, true, length, max, take, Some};
 ghost use Rattle.std.specs.List.{AllByRecursion};
 ghost use Rattle.itch_codec.specs.Fields.{AreBytes};
+ghost use Rattle.itch_frame.specs.Blocks.{blocks};
 ghost use Rattle.itch_market.specs.Content.{Content};
 ghost use Rattle.itch_market.specs.Wanted.{Wanted, has};
 ghost use Rattle.itch_join.specs.Rules.{rules_of, market_rules};
@@ -119,6 +120,16 @@ pub fn record_of_the_feed<W: CountedWrite>()
     ensures { (set : Wanted) → (feed : List (List ℕ)) → (begun : Following) → (past : List (Did W)) → (f : Following) → (record_begun record_now : W) → AllByRecursion AreBytes feed
         → IsJoining set 0 feed begun → Followed W.contents W.failures (rules_of (has set)) feed begun past f → IsOneRecord record_begun past record_now
         → IsRecord W.contents feed begun past record_begun f record_now }
+{}
+
+/// One process after another may append to a record: one that begins where the record's messages end, which have come from the feed,
+/// leaves a record that has exactly the blocks of the feed's messages before its next one. Where it begins does not matter: with a
+/// snapshot of the feed and the messages of the record after it, or with all of these.
+pub fn record_goes_on<W: CountedWrite>()
+    ensures { (set : Wanted) → (feed : List (List ℕ)) → (begun : Following) → (past : List (Did W)) → (f : Following) → (i j : Position) → (record_begun record_now : W) → AllByRecursion AreBytes feed
+        → IsJoining set 0 feed begun → begun.joining.state.joined ≡ Some i → W.contents record_begun ≡ Some (blocks (take (i.next - 1) feed))
+        → Followed W.contents W.failures (rules_of (has set)) feed begun past f → IsOneRecord record_begun past record_now → f.joining.state.joined ≡ Some j
+        → W.contents record_now ≡ Some (blocks (take (j.next - 1) feed)) }
 {}
 
 /// All of this of a desk whose follower is sent one feed: what the present client at a place was sent is the beginning of nothing, of

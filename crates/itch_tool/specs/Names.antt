@@ -1,12 +1,12 @@
--- What a failure is about, and its name.
+-- The subject of a failure, and its name.
 use Rattle.std.specs.Prelude.{◌≡◌, ℕ, List, Option, Some, None, option_map}
 use Rattle.std.specs.Borrow.{Bor}
 use Rattle.itch_commands.specs.declared.fault.Source.{Source}
 use Rattle.itch_commands.specs.declared.fault.Source.TheVariants as source
 use Rattle.itch_commands.specs.declared.request.Request.{Request}
 use Rattle.itch_commands.specs.declared.request.Request.TheVariants.{One, Two, At}
-use Rattle.itchsnap_live.specs.declared.session_fault.SessionDevice.{SessionDevice}
-use Rattle.itchsnap_live.specs.declared.session_fault.SessionDevice.TheVariants as device
+use Rattle.itch_sessions.specs.declared.session_fault.SessionDevice.{SessionDevice}
+use Rattle.itch_sessions.specs.declared.session_fault.SessionDevice.TheVariants as device
 use Rattle.itch_tool.specs.declared.names.CommandFiles.{CommandFiles}
 use Rattle.itch_tool.specs.declared.names.Name.{Name}
 use Rattle.itch_tool.specs.declared.names.Name.TheVariants as name
@@ -14,17 +14,17 @@ use Rattle.itch_tool.specs.declared.names.SessionNames.{SessionNames}
 use Rattle.itch_tool.specs.declared.names.Subject.{Subject}
 use Rattle.itch_tool.specs.declared.names.Subject.TheVariants as subject
 
--- what is read from a path, or else from standard input
+-- the input at a path, or else standard input
 abbrev pub input_name : Option (Bor (List ℕ)) → Name
 input_name None = name.Input
 input_name (Some path) = name.Path path
 
--- what is written to a path, or else to standard output
+-- the output at a path, or else standard output
 abbrev pub output_name : Option (Bor (List ℕ)) → Name
 output_name None = name.Output
 output_name (Some path) = name.Path path
 
--- the file of a command that a fault is in
+-- the file of a command that has the fault
 abbrev pub subject_of : CommandFiles → Source → Subject
 subject_of files source.Only = subject.Input files.last
 subject_of files source.First = subject.Input files.first
@@ -32,7 +32,7 @@ subject_of files source.Second = subject.Input files.last
 subject_of files source.Snapshot = subject.Input files.first
 subject_of files source.Output = subject.Output files.output
 
--- the name of what a session failed at
+-- the name of the device that failed in a session
 abbrev pub name_of : SessionNames → SessionDevice → Name
 name_of names device.DayFile = input_name names.day_file
 name_of names device.Folder = input_name names.folder

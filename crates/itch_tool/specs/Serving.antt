@@ -1,15 +1,15 @@
--- What serving the market of a file returns and leaves.
+-- The outcome of serving the market of a file.
 use Rattle.std.specs.Prelude.{◌≡◌, ℕ, ◌⊎◌, Bool, List, Option, None, Result, Ok, Err}
 use Rattle.itch_frame.specs.declared.tally.Failures.{Failures}
 use Rattle.itch_market.specs.Content.{Content, laid}
 use Rattle.itch_soup.specs.declared.login.ServerConfig.{ServerConfig}
 use Rattle.itch_commands.specs.declared.fault.ToolFault.{ToolFault}
-use Rattle.itchsnap_live.specs.Sessions.{ServesMarket}
-use Rattle.itchsnap_live.specs.declared.session_fault.SessionFault.{SessionFault}
+use Rattle.itch_sessions.specs.Sessions.{ServesMarket}
+use Rattle.itch_sessions.specs.declared.session_fault.SessionFault.{SessionFault}
 use Rattle.itch_tool.specs.declared.failure.Failure.{Failure}
 use Rattle.itch_tool.specs.declared.failure.Failure.TheVariants.{Command, Session}
 
--- what a session returns is what the job does
+-- the result of a session is that of the job
 abbrev pub of_session : {X : Type 0} → Result X SessionFault → Result X Failure
 of_session (Ok x) = Ok x
 of_session (Err fault) = Err (Session fault)

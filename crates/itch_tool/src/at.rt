@@ -1,12 +1,13 @@
-//! The snapshot at a point of the day, from the checkpoint that is nearest to it.
+//! Writes the snapshot at a point of the day, starting from the nearest checkpoint.
 
 use crate::beginning::Beginning;
-use crate::checkpoints::{Checkpoint, EMPTY_SNAPSHOT, nearest, path_of};
+use crate::checkpoints::{EMPTY_SNAPSHOT, nearest_of, path_of};
 use crate::failure::Failure;
 use crate::feed::{FeedFault, open_after};
 use crate::opened::open;
 use crate::run::perform_pair_over;
-use itch_commands::snap::{Unfit, has_each};
+use itch_checkpoints::{Checkpoint, Unfit};
+use itch_commands::snap::has_each;
 use itch_commands::{FeedPart, Limit, PairCommand, Selection, Source, ToolFault, read_locates};
 use itch_frame::CountedWrite;
 use itch_market::LocateSet;
@@ -14,7 +15,7 @@ use itchsnap_cli::input::Progress;
 use std::alloc::{AllocError, Global};
 use std::rt::{Clock, Files};
 
-/// Joins a day file to the checkpoint that is nearest to a point of the day. The file is read from there on.
+/// Joins a day file to the checkpoint nearest to a point of the day. The file is read from the checkpoint on.
 pub fn join_at<'x, R: Files + Input + Eprint + AllocGlobal + Clock, W: CountedWrite>(
     rt: &R,
     folder: &str,
@@ -27,7 +28,7 @@ pub fn join_at<'x, R: Files + Input + Eprint + AllocGlobal + Clock, W: CountedWr
     out: &mut W,
 ) -> Result<bool, Failure> {
     let alloc = rt.alloc();
-    let checkpoint = nearest(rt, folder, point)?;
+    let checkpoint = nearest_of(rt, folder, point)?;
     if !has_wanted(alloc, &checkpoint, only.as_ref())? {
         return Err(unfit(alloc, Unfit::Partial, folder, feed)?);
     }
@@ -37,11 +38,11 @@ pub fn join_at<'x, R: Files + Input + Eprint + AllocGlobal + Clock, W: CountedWr
         Err(FeedFault::Unfit(why)) => return Err(unfit(alloc, why, folder, feed)?),
     };
     let part = FeedPart {
-        before: checkpoint.mark.count,
+        before: checkpoint.count,
         limit: point,
     };
     let join = PairCommand::Join { part, selection };
-    if checkpoint.mark.count == 0 {
+    if checkpoint.count == 0 {
         return Ok(perform_pair_over(alloc, join, only, EMPTY_SNAPSHOT, feed, out)?);
     }
     let path = path_of(alloc, folder, &checkpoint)?;
@@ -61,7 +62,7 @@ pub fn join_at<'x, R: Files + Input + Eprint + AllocGlobal + Clock, W: CountedWr
     }
 }
 
-// The failure of a fault that may be in the checkpoint's file.
+// Returns the failure for a fault that may be in the checkpoint's file.
 fn in_checkpoint(fault: ToolFault, path: String) -> Failure {
     let checkpoint = match fault.source() {
         Some(Source::Snapshot) => Some(path),
@@ -70,7 +71,7 @@ fn in_checkpoint(fault: ToolFault, path: String) -> Failure {
     Failure::Command { fault, checkpoint }
 }
 
-// Whether the snapshot of a checkpoint has each locate that is wanted. What has a stock may be at any locate.
+// Returns whether the snapshot of a checkpoint has each requested locate. Stocks may be at any locate.
 fn has_wanted(
     alloc: Global,
     checkpoint: &Checkpoint,
@@ -86,7 +87,7 @@ fn has_wanted(
     }
 }
 
-// The failure of a checkpoint that does not fit, with what there is to say of it.
+// Returns the failure for a checkpoint that does not fit, with the details for its message.
 fn unfit(
     alloc: Global,
     why: Unfit,

@@ -1,10 +1,10 @@
-//! The first bytes of standard input, which tell whether it is compressed.
+//! The first bytes of standard input, which show whether it is compressed.
 
 use itchsnap_cli::input::{MOST_MAGIC, Packing};
 use std::cell::Cell;
 use std::io::{self, Read};
 
-/// The first bytes that came from standard input, and how many came.
+/// The first bytes of standard input, and their number.
 #[derive(Drop)]
 pub struct Beginning {
     bytes: Cell<[u8; MOST_MAGIC]>,
@@ -12,7 +12,7 @@ pub struct Beginning {
 }
 
 impl Beginning {
-    /// Nothing has come.
+    /// Starts before any bytes.
     pub fn new() -> Beginning {
         Beginning {
             bytes: Cell::new([0; MOST_MAGIC]),
@@ -20,7 +20,7 @@ impl Beginning {
         }
     }
 
-    /// The form of a packed file that its bytes tell, if they do.
+    /// Returns the form of a packed file with these first bytes, if it is one.
     pub fn packing(&self) -> Option<Packing> {
         if self.count.get() < MOST_MAGIC {
             return None;
@@ -38,7 +38,7 @@ impl Beginning {
     }
 }
 
-/// A reader that reads as the one inside does, and notes the first bytes.
+/// A reader that reads as its inner reader does, and notes the first bytes.
 #[derive(Drop)]
 pub struct Begun<'a, T> {
     inner: T,

@@ -1,4 +1,4 @@
-//! What is said on standard error, and the status that goes with it.
+//! Writes the messages on standard error, and returns the exit status for them.
 
 use crate::beginning::Beginning;
 use crate::failure::Failure;
@@ -9,14 +9,15 @@ use crate::second_look::{lacked_stock, last_event};
 use crate::selected::Selected;
 use clap::Error;
 use clap::error::ErrorKind;
-use itch_commands::snap::Unfit;
+use itch_checkpoints::Unfit;
 use itch_commands::{Source, ToolFault, Unmet, system_fault};
+use itch_records::{LiveFault, Names};
+use itch_sessions::{SessionCause, SessionDevice, SessionFault};
 use itch_soup::SoupFault;
-use itchsnap_live::{LiveFault, Names, SessionCause, SessionDevice, SessionFault};
 use std::io;
 use std::rt::Files;
 
-/// Says a failure on standard error, and returns the status. Of a closed pipe nothing is said.
+/// Writes the message of a failure on standard error, and returns the exit status. For a closed pipe it writes nothing.
 pub fn finish<R: Files + Eprint + AllocGlobal>(
     rt: &R,
     names: &JobNames<'_>,
@@ -32,7 +33,7 @@ pub fn finish<R: Files + Eprint + AllocGlobal>(
     }
 }
 
-/// What follows a feed has ended so. What only it can say is said here.
+/// Handles the end of a live server or a follower. Messages that need their names are written here.
 pub fn said<R: Eprint>(
     rt: &R,
     names: Names<'_>,
@@ -40,15 +41,45 @@ pub fn said<R: Eprint>(
 ) -> Result<bool, Failure> {
     match outcome {
         Ok(answer) => Ok(answer),
-        Err(LiveFault::Session(fault)) => Err(Failure::from(fault)),
+        Err(LiveFault::Session(fault)) => Err(said_of_day(rt, fault, names)),
         Err(fault) => {
-            // Where standard error takes nothing, the status still tells.
+            // If standard error cannot be written, the exit status still tells.
             let _ = say_live(rt, &fault, names);
             Err(Failure::Said {
                 status: fault.status(),
             })
         }
     }
+}
+
+// Returns the failure of a session. A fault of a file of the day is reported here, since the command line may not name that file.
+fn said_of_day<R: Eprint>(rt: &R, fault: SessionFault, names: Names<'_>) -> Failure {
+    let Some(cause) = fault.cause() else {
+        return Failure::from(fault);
+    };
+    let path = match cause.device {
+        SessionDevice::DayFile => names.record,
+        SessionDevice::Folder => names.snapshots,
+        SessionDevice::Output | SessionDevice::Socket => "",
+    };
+    if path.is_empty() {
+        return Failure::from(fault);
+    }
+    // If standard error cannot be written, the exit status still tells.
+    let _ = say_session_at(rt, &fault, cause, Name::Path(path));
+    Failure::Said {
+        status: fault.status(),
+    }
+}
+
+fn say_session_at<R: Eprint>(
+    rt: &R,
+    fault: &SessionFault,
+    cause: SessionCause,
+    name: Name<'_>,
+) -> io::Result<()> {
+    rt.eprintln(fault)?;
+    say_cause(rt, cause, name)
 }
 
 fn say_live<R: Eprint>(rt: &R, fault: &LiveFault, names: Names<'_>) -> io::Result<()> {
@@ -59,7 +90,7 @@ fn say_live<R: Eprint>(rt: &R, fault: &LiveFault, names: Names<'_>) -> io::Resul
     }
 }
 
-/// Prints what help or a usage fault has to say, and returns the status.
+/// Prints the help or the message of a usage fault, and returns the exit status.
 pub fn explain<R: Files + Print + Eprint + AllocGlobal>(rt: &R, error: Error) -> u8 {
     if matches!(error.kind(), ErrorKind::OutOfMemory) {
         return finish(
@@ -80,7 +111,7 @@ pub fn explain<R: Files + Print + Eprint + AllocGlobal>(rt: &R, error: Error) ->
     }
 }
 
-// Writes the line of a failure, and a second one where there is more to say. What follows a feed has said it.
+// Writes the line of a failure, and a second one if there is more to report. For a live server or a follower they have already been written.
 fn say<R: Files + Eprint + AllocGlobal>(
     rt: &R,
     names: &JobNames<'_>,
@@ -112,7 +143,7 @@ fn say<R: Files + Eprint + AllocGlobal>(
     }
 }
 
-// What the fault of a command is about, if it is about a file.
+// Returns the subject of a command's fault, if it concerns a file.
 fn subject_of<'a>(
     files: &CommandFiles<'a>,
     fault: &ToolFault,
@@ -124,7 +155,7 @@ fn subject_of<'a>(
     }
 }
 
-// Of a command: which file failed and what the system says, or what a file is that is no day file.
+// For a command: writes which file failed and the system's error, or the kind of a file that is not a day file.
 fn say_subject<R: Files + Eprint>(
     rt: &R,
     fault: &ToolFault,
@@ -144,7 +175,7 @@ fn say_subject<R: Files + Eprint>(
     }
 }
 
-// Of a command: what its words name that is not there, or what its file lacks.
+// For a command: writes which name on the command line does not exist, or what its file lacks.
 fn say_lack<R: Files + Eprint + AllocGlobal>(
     rt: &R,
     fault: &ToolFault,
@@ -173,7 +204,7 @@ fn say_lack<R: Files + Eprint + AllocGlobal>(
     }
 }
 
-// The first item of a list that may be a stock: it begins with a capital letter, and has no more than 8 characters.
+// Returns the first item of a list that may be a stock: it begins with a capital letter, and has at most 8 characters.
 fn stock_in(list: &str) -> Option<&str> {
     list.split(',').find(|item| {
         item.len() <= 8
@@ -184,24 +215,24 @@ fn stock_in(list: &str) -> Option<&str> {
     })
 }
 
-// Of a session: which device failed and what the system says, or how its peer broke the rules.
+// For a session: writes which device failed and the system's error, or how its peer broke the protocol.
 fn say_session<R: Eprint>(
     rt: &R,
     fault: &SessionFault,
     names: &SessionNames<'_>,
 ) -> io::Result<()> {
-    rt.eprintln(fault)?;
     let name = names.name(fault);
     if let Some(cause) = fault.cause() {
-        return say_cause(rt, cause, name);
+        return say_session_at(rt, fault, cause, name);
     }
+    rt.eprintln(fault)?;
     match fault.peer_fault() {
         Some(peer) => say_peer(rt, &peer, name),
         None => Ok(()),
     }
 }
 
-// Writes why a checkpoint does not fit. A feed may have other bytes there since it is compressed.
+// Writes why a checkpoint does not fit. A feed may have other bytes there because it is compressed.
 fn say_unfit<R: Files + Eprint>(
     rt: &R,
     why: Unfit,
@@ -223,7 +254,7 @@ fn say_unfit<R: Files + Eprint>(
 fn say_cause(rt: &impl Eprint, cause: SessionCause, name: Name<'_>) -> io::Result<()> {
     let SessionCause { device, error } = cause;
     match (device, error.kind()) {
-        // A read from a socket ends so if it has waited for as long as `--timeout` says.
+        // A read from a socket ends with this error after the time of `--timeout`.
         (SessionDevice::Socket, io::ErrorKind::WouldBlock) => {
             eprintln!(rt; "  {name}: no answer in time")
         }
@@ -238,7 +269,7 @@ fn say_peer(rt: &impl Eprint, fault: &SoupFault, name: Name<'_>) -> io::Result<(
     eprintln!(rt; "  {name}: {fault}")
 }
 
-// Whether what came is no packet at all, or none that a server sends.
+// Returns whether the bytes were not a packet at all, or not one that a server sends.
 fn is_packet_fault(fault: &SoupFault) -> bool {
     matches!(
         fault,

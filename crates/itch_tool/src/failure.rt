@@ -1,46 +1,46 @@
-//! Why a job failed: what commands, sessions and the files of either can get, with the status that it ends with.
+//! The reasons why a job failed, for commands, sessions and their files, with the exit status.
 ghost use Rattle.std.specs.Prelude.{◌≡◌};
 ghost use Rattle.itch_tool.specs.Endings.{failure_status};
 
+use itch_checkpoints::Unfit;
 use itch_commands::ToolFault;
-use itch_commands::snap::Unfit;
-use itchsnap_live::{LoginsFault, SessionFault};
+use itch_sessions::{LoginsFault, SessionFault};
 use std::alloc::{AllocError, Global};
 use std::io::{self, ErrorKind};
 
-/// Why a job failed.
+/// The reason why a job failed.
 #[derive(Drop)]
 pub enum Failure {
-    /// A command failed, in the checkpoint of this path where no word of the command line is that.
+    /// A command failed, in the checkpoint at this path if the command line does not name it.
     Command {
         fault: ToolFault,
         checkpoint: Option<String>,
     },
-    /// A session over sockets, a live server or what follows a feed failed.
+    /// A session over sockets, a live server or a follower failed.
     Session(SessionFault),
-    /// The file or the folder of this path cannot be opened or written, or a server of this name is not found.
+    /// The file or the folder at this path cannot be opened or written, or a server with this name is not found.
     Open {
         name: String,
         error: io::Error,
     },
-    /// The checkpoint that is nearest to a point of the day does not fit.
+    /// The checkpoint nearest to a point of the day does not fit.
     Checkpoint {
         why: Unfit,
         detail: String,
     },
-    /// The file of users of this path is wrong.
+    /// The users file at this path is invalid.
     Users {
         path: String,
         fault: LoginsFault,
     },
-    /// What follows a feed has ended with this status, and its lines are said.
+    /// A live server or a follower has ended with this exit status, and its messages were written.
     Said {
         status: u8,
     },
 }
 
 impl Failure {
-    /// The failure of what has this name and cannot be opened: out of memory, if the system had none for it.
+    /// Returns the failure for something with this name that cannot be opened: out of memory, if the system had none for it.
     pub fn open(alloc: Global, name: &str, error: io::Error) -> Failure {
         if matches!(error.kind(), ErrorKind::OutOfMemory) {
             return Failure::from(ToolFault::OutOfMemory);
@@ -51,7 +51,7 @@ impl Failure {
         }
     }
 
-    /// The status that the program ends with: 1 refused, 2 usage, 3 read, write, file or socket, 4 memory.
+    /// Returns the exit status: 1 refused, 2 usage, 3 read, write, file or socket, 4 memory.
     pub fn status(&self) -> u8
         ensures { result ≡ failure_status self.now }
     {

@@ -1,18 +1,17 @@
-//! The feed of a checkpoint, opened right after the messages that the checkpoint has.
+//! The feed of a checkpoint, opened directly after the checkpoint's messages.
 
 use crate::beginning::{Beginning, Begun};
-use crate::checkpoints::Checkpoint;
 use crate::opened::{read_fault, size};
-use itch_commands::snap::{Fingerprint, MOST_FIRST, MOST_LAST, Passed, Unfit, why_unfit};
+use itch_checkpoints::{Checkpoint, Fingerprint, Passed, Unfit, fingerprint_before, why_unfit};
 use itch_commands::{Source, ToolFault, system_fault};
+use itch_sessions::sessions::PIECE;
 use itchsnap_cli::input::{Opened, Progress, Watched};
-use itchsnap_live::sessions::PIECE;
 use std::alloc::{AllocError, Global};
 use std::fs;
-use std::io::{self, ErrorKind, Read, Seek, SeekFrom};
+use std::io::{self, ErrorKind, Read};
 use std::rt::{Clock, Files};
 
-/// Why a feed is not read on from a checkpoint.
+/// The reason why a feed is not continued from a checkpoint.
 #[derive(Drop)]
 pub enum FeedFault {
     Tool(ToolFault),
@@ -31,8 +30,8 @@ impl From<AllocError> for FeedFault {
     }
 }
 
-/// Opens the feed of a checkpoint, from its offset on. Where the index says what the bytes before are, they have to be those: of a file
-/// as many are read as a fingerprint has, and of a pipe all.
+/// Opens the feed of a checkpoint, from its offset on. If the index has a fingerprint of the bytes before, the feed must match it: of a
+/// file only as many bytes are read as the fingerprint covers, and of a pipe all.
 pub fn open_after<'a, R: Files + Input + Eprint + AllocGlobal + Clock>(
     rt: &R,
     path: Option<&str>,
@@ -40,7 +39,7 @@ pub fn open_after<'a, R: Files + Input + Eprint + AllocGlobal + Clock>(
     progress: Option<&'a Progress<'a, R>>,
     beginning: &'a Beginning,
 ) -> Result<Watched<'a, Opened<R::File, Begun<'a, R::Reader>>, R>, FeedFault> {
-    let offset = checkpoint.mark.offset;
+    let offset = checkpoint.offset;
     let Some(path) = path else {
         let standard = Begun::new(rt.reader(), beginning);
         return read_after(rt, Opened::Standard(standard), checkpoint, progress);
@@ -63,7 +62,10 @@ pub fn open_after<'a, R: Files + Input + Eprint + AllocGlobal + Clock>(
     if size < offset {
         return Err(FeedFault::Unfit(Unfit::Beyond));
     }
-    let found = found_in(seek_after(rt.alloc(), &mut file, offset), checkpoint)?;
+    let found = found_in(
+        fingerprint_before(rt.alloc(), &mut file, offset),
+        checkpoint,
+    )?;
     refuse(why_unfit(checkpoint.fingerprint, found))?;
     if let Some(progress) = progress {
         progress.add_file(Some(size - offset));
@@ -71,7 +73,7 @@ pub fn open_after<'a, R: Files + Input + Eprint + AllocGlobal + Clock>(
     Ok(Watched::new(Opened::File(file), progress))
 }
 
-// The same where there is no way to the offset but through all bytes before.
+// Does the same if the offset can only be reached by reading all bytes before it.
 fn read_after<'a, R: Files + Input + Eprint + AllocGlobal + Clock>(
     rt: &R,
     opened: Opened<R::File, Begun<'a, R::Reader>>,
@@ -82,7 +84,7 @@ fn read_after<'a, R: Files + Input + Eprint + AllocGlobal + Clock>(
         progress.add_file(None);
     }
     let mut opened = Watched::new(opened, progress);
-    let offset = checkpoint.mark.offset;
+    let offset = checkpoint.offset;
     let found = found_in(read_before(rt.alloc(), &mut opened, offset), checkpoint)?;
     refuse(why_unfit(checkpoint.fingerprint, found))?;
     Ok(opened)
@@ -95,7 +97,7 @@ fn refuse(why: Option<Unfit>) -> Result<(), FeedFault> {
     }
 }
 
-// The fingerprint that was found; none where the feed ended first.
+// Returns the fingerprint that was found; `None` if the feed ended first.
 fn found_in(
     found: io::Result<Fingerprint>,
     checkpoint: &Checkpoint,
@@ -103,23 +105,11 @@ fn found_in(
     match found {
         Ok(found) => Ok(Some(found)),
         Err(error) if error.kind() == ErrorKind::UnexpectedEof => Ok(None),
-        Err(error) => Err(FeedFault::from(read_fault(checkpoint.mark.count, error))),
+        Err(error) => Err(FeedFault::from(read_fault(checkpoint.count, error))),
     }
 }
 
-// Goes to an offset of a file. Returns the fingerprint of what is before it.
-fn seek_after<F: Read + Seek>(alloc: Global, file: &mut F, offset: u64) -> io::Result<Fingerprint> {
-    let most = usize::try_from(offset).unwrap_or(usize::MAX);
-    let mut first = vec![in alloc; 0; most.min(MOST_FIRST)]?;
-    file.read_exact(&mut first)?;
-    let mut last = [0; MOST_LAST];
-    let last = &mut last[..most.min(MOST_LAST)];
-    file.seek(SeekFrom::Start(offset - last.len() as u64))?;
-    file.read_exact(last)?;
-    Ok(Fingerprint::of(&first, last, b""))
-}
-
-// Reads up to an offset. Returns the fingerprint of what was read.
+// Reads up to an offset. Returns the fingerprint of the bytes that were read.
 fn read_before<F: Read>(alloc: Global, file: &mut F, offset: u64) -> io::Result<Fingerprint> {
     let mut passed = Passed::new(alloc)?;
     let mut buffer = vec![in alloc; 0; PIECE]?;

@@ -1,16 +1,16 @@
-//! The status of the program, also if its output pipe was closed.
+//! The exit status of the program, including the case of a closed output pipe.
 ghost use Rattle.std.specs.Prelude.{◌≡◌, ◌↔◌, IsTrue};
 ghost use Rattle.itch_tool.specs.Endings.{EndsByClosedPipe, exit_status};
 
 use crate::failure::Failure;
 use itch_commands::{ToolFault, status};
-use itchsnap_live::SessionFault;
+use itch_sessions::SessionFault;
 use std::io::ErrorKind;
 
-/// The status that a shell gives a program that SIGPIPE ended: 128 plus the signal's number.
+/// The exit status that a shell reports for a program that SIGPIPE ended: 128 plus the signal's number.
 const CLOSED_PIPE: u8 = 141;
 
-/// Whether a job failed because the pipe that it writes to was closed.
+/// Returns whether a job failed because its output pipe was closed.
 pub fn ends_by_closed_pipe(outcome: &Result<bool, Failure>) -> bool
     ensures { IsTrue result ↔ EndsByClosedPipe outcome.now }
 {
@@ -29,7 +29,7 @@ pub fn ends_by_closed_pipe(outcome: &Result<bool, Failure>) -> bool
     }
 }
 
-/// The status of the program: 141 if the pipe that it writes to was closed, otherwise that of its outcome.
+/// Returns the exit status of the program: 141 if its output pipe was closed, otherwise that of its outcome.
 pub fn final_status(outcome: &Result<bool, Failure>) -> u8
     ensures closed { EndsByClosedPipe outcome.now → result ≡ 141 }
     ensures other { (¬ EndsByClosedPipe outcome.now) → result ≡ exit_status outcome.now }
@@ -41,7 +41,7 @@ pub fn final_status(outcome: &Result<bool, Failure>) -> u8
     }
 }
 
-// The status of a job: that of its answer, or of its failure.
+// Returns the exit status for a job: that of its answer, or of its failure.
 fn exit_status(outcome: &Result<bool, Failure>) -> u8
     ensures { result ≡ exit_status outcome.now }
 {

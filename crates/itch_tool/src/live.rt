@@ -1,16 +1,16 @@
-//! A live server, what follows a feed, and a feed that is played, over files and sockets.
+//! Runs a live server, a follower, or a played feed, over files and sockets.
 
 use crate::explaining::said;
 use crate::failure::Failure;
 use crate::password::{read_account, read_users};
+use itch_clients::{Playing, play_feed};
 use itch_frame::Counted;
 use itch_live::Sessions;
+use itch_records::{DayFault, DayPaths, Names};
+use itch_sessions::sessions::{PIECE, Sending};
+use itch_sessions::{Place, Servers, SessionFault};
 use itchsnap_cli::words::{FeedWords, FollowWords, LiveWords, session_of_file};
-use itchsnap_live::sessions::{PIECE, Sending};
-use itchsnap_live::{
-    Accounts, Following, Names, Place, Playing, Servers, Serving, SessionFault, follow_feed,
-    play_feed, serve_live,
-};
+use itchsnap_live::{Accounts, Following, Serving, follow_feed, serve_live};
 use std::fs::File;
 use std::io::{self, BufWriter};
 use std::net::{Net, ToSocketAddrs};
@@ -43,13 +43,15 @@ where
         record: words.record,
         snapshots: words.snapshots,
         stay: words.stay,
+        ready: words.ready,
+        status: words.status,
+        log: words.log,
     };
     let mut out = Counted::new(io::writer(rt));
-    said(
-        rt,
-        live_names(words),
-        serve_live(rt, servers, &serving, accounts, &mut out),
-    )
+    match serve_live(rt, servers, &serving, accounts, &mut out) {
+        Ok(answer) => Ok(answer),
+        Err(DayFault { fault, paths }) => said(rt, live_names(words, &paths), Err(fault)),
+    }
 }
 
 fn places(count: u64) -> usize {
@@ -101,7 +103,7 @@ where
     Ok(play_feed(rt, &playing, users, &mut out)?)
 }
 
-// Looks up the name of a server: one that cannot be found at the start ends what follows a feed.
+// Looks up the name of a server: a live server or a follower ends if it cannot be found at the start.
 fn look_up<R: Net + AllocGlobal>(rt: &R, place: Place<'_>) -> Result<(), Failure> {
     match (place.host, place.port).to_socket_addrs(rt) {
         Ok(_) => Ok(()),
@@ -109,26 +111,31 @@ fn look_up<R: Net + AllocGlobal>(rt: &R, place: Place<'_>) -> Result<(), Failure
     }
 }
 
-// The names of what a live server works on.
-fn live_names<'a>(words: &LiveWords<'a>) -> Names<'a> {
+// Returns the names of the files and servers of a live server.
+fn live_names<'x>(words: &LiveWords<'x>, paths: &'x DayPaths) -> Names<'x> {
     Names {
-        record: match words.record {
-            Some(record) => record.path,
+        record: match &paths.record {
+            Some(path) => path.as_str(),
             None => "",
         },
-        snapshots: match words.snapshots {
-            Some(snapshots) => snapshots.folder,
+        snapshots: match &paths.snapshots {
+            Some(path) => path.as_str(),
+            None => "",
+        },
+        status: match words.status {
+            Some(place) => place.words,
             None => "",
         },
         feeds: words.feeds,
     }
 }
 
-// The same of what follows a feed, which has no file.
+// Returns the names of a follower's servers. It has no file.
 fn follow_names<'a>(words: &FollowWords<'a>) -> Names<'a> {
     Names {
         record: "",
         snapshots: "",
+        status: "",
         feeds: words.feeds,
     }
 }

@@ -1,4 +1,4 @@
-//! The list of `--only`: words, or a file that has it.
+//! The list of `--only`: an argument, or a file.
 
 use crate::failure::Failure;
 use itch_commands::{ToolFault, insert_locates, list_file, read_locates};
@@ -8,12 +8,12 @@ use std::io::{BufReader, Read};
 use std::rt::Files;
 use std::{fs, str};
 
-/// What is between two commas or ends of lines is no longer: a locate has five digits, and zeros may come before them.
+/// The greatest length of an item between two commas or ends of lines: a locate has five digits, and zeros may precede them.
 const MOST_BYTES: usize = 1 << 16;
 
-/// The locates of a list, or of the file whose path comes after an at sign. In a file a line break may stand in place of a comma.
+/// Returns the locates of a list, or of the file whose path follows an at sign. In a file, commas may also be line breaks.
 ///
-/// An error is `BadLocates`, that the file cannot be opened or read, or `OutOfMemory`.
+/// An error is `BadLocates`, a fault of the file, or `OutOfMemory`.
 pub fn read_only<R: Files + AllocGlobal>(
     rt: &R,
     words: &str,
@@ -27,7 +27,7 @@ pub fn read_only<R: Files + AllocGlobal>(
     }
 }
 
-// The list of a file, whatever its size.
+// Reads the list of a file of any size.
 fn read_file<F: Read + Drop>(
     alloc: Global,
     path: &str,
@@ -51,7 +51,7 @@ fn read_file<F: Read + Drop>(
 struct List {
     set: LocateSet<Global>,
     has_parts: bool,
-    // What came since the last comma or line break.
+    // The bytes since the last comma or line break.
     part: Vec<u8, Global>,
     is_first_in_line: bool,
 }
@@ -78,7 +78,7 @@ impl List {
         }
     }
 
-    // A part ends, and perhaps its line. Spaces at both ends of a line are dropped, and a line of nothing has no part.
+    // Ends a part, and perhaps its line. Spaces at both ends of a line are dropped, and an empty line has no part.
     fn end_part(&mut self, ends_line: bool) -> Result<(), ToolFault> {
         let Ok(mut text) = str::from_utf8(&self.part) else {
             return Err(ToolFault::BadLocates);
@@ -98,7 +98,7 @@ impl List {
         Ok(())
     }
 
-    // The set, at the end of the file.
+    // Returns the set, at the end of the file.
     fn end(mut self) -> Result<LocateSet<Global>, ToolFault> {
         self.end_part(true)?;
         if self.has_parts {

@@ -1,8 +1,8 @@
 //! `itchsnap`: market snapshots from day files of TotalView-ITCH 5.0 messages.
 //!
-//! `itchsnap_cli::words` reads the command line. The commands over files are those of `itch_commands`; `run` opens files and standard
-//! streams for them. `serve` and `fetch` are those of `itchsnap_live::sessions`, over sockets; `live`,
-//! `follow` and `feed` those of `itchsnap_live`.
+//! `itchsnap_cli::words` parses the command line. The commands over files are those of `itch_commands`; `run` opens files and standard
+//! streams for them. `serve` and `fetch` use `itch_sessions`, over sockets; `live`, `follow` and `feed` use `itchsnap_live` and
+//! `itch_clients`, and `status` asks a live server over HTTP.
 #![tactic(auto)]
 
 mod at;
@@ -12,7 +12,6 @@ mod explaining;
 mod failure;
 mod feed;
 mod final_status;
-mod lines;
 mod live;
 mod locate_list;
 mod names;
@@ -27,12 +26,15 @@ mod second_look;
 mod selected;
 mod serving;
 mod sockets;
+mod standard_streams;
+mod status;
 
 use crate::beginning::Beginning;
 use crate::explaining::{explain, finish};
 use crate::names::JobNames;
 use crate::password::password_of_environment;
 use crate::run::run;
+use crate::standard_streams::Occupied;
 use clap::Error;
 use itchsnap_cli::words::{read_job, usage_fault};
 use std::alloc::{AllocError, Global};
@@ -40,7 +42,7 @@ use std::env::{self, Args, Env};
 use std::io::{self, IsTerminal};
 use std::process::ExitCode;
 
-/// The words of the command line, of which the first is the program's name, and the password in the environment.
+/// The words of the command line, beginning with the program's name, and the password in the environment.
 #[derive(Drop)]
 struct Words {
     line: Vec<String>,
@@ -48,13 +50,14 @@ struct Words {
 }
 
 fn main(rt: HostRuntime) -> ExitCode {
+    let _occupied = Occupied::open(&rt);
     ExitCode::from(match read_words(&rt) {
         Ok(words) => perform(&rt, &words),
         Err(error) => explain(&rt, error),
     })
 }
 
-// Does what the words ask for, and returns the status.
+// Runs the command line, and returns the exit status.
 fn perform(rt: &HostRuntime, words: &Words) -> u8 {
     let password = match &words.password {
         Some(password) => Some(password.as_str()),

@@ -1,11 +1,13 @@
-//! What a failure is about, and its name in the second line.
+//! The subject of a failure, and its name in the second line.
 ghost use Rattle.std.specs.Prelude.{◌≡◌, Some, None};
 ghost use Rattle.itch_tool.specs.Names.{first_path, input_name, last_path, name_of, output_name, subject_of};
 
 use crate::selected::Selected;
 use itch_commands::{Command, PairCommand, Request, Source};
-use itchsnap_cli::words::{FeedWords, FollowWords, Job, LiveWords, PointWords, Server};
-use itchsnap_live::{SessionDevice, SessionFault};
+use itch_sessions::{SessionDevice, SessionFault};
+use itchsnap_cli::words::{
+    FeedWords, FollowWords, Job, LiveWords, PointWords, Server, StatusWords,
+};
 use std::fmt;
 use std::net::SocketAddr;
 
@@ -15,9 +17,9 @@ pub enum Name<'a> {
     Path(&'a str),
     Input,
     Output,
-    /// Where a server listens.
+    /// The address on which a server listens.
     Address(SocketAddr),
-    /// The host and the port of a server that a client connects to.
+    /// The host and the port of the server of a client.
     Server(&'a str, u16),
 }
 
@@ -48,20 +50,20 @@ impl fmt::Display for Name<'_> {
             Name::Input => f.write_str("standard input"),
             Name::Output => f.write_str("standard output"),
             Name::Address(address) => write!(f, "{address}"),
-            // The colons of an IPv6 address stand in brackets.
+            // An IPv6 address is written in brackets.
             Name::Server(host, port) if host.contains(':') => write!(f, "[{host}]:{port}"),
             Name::Server(host, port) => write!(f, "{host}:{port}"),
         }
     }
 }
 
-/// What the fault of a command is about.
+/// The subject of a command's fault.
 #[derive(Clone, Copy)]
 pub enum Subject<'a> {
     Input(InputFile<'a>),
     /// The file of a checkpoint, with its path.
     Checkpoint(&'a str),
-    /// What is written to the file or the folder of a path, or to standard output.
+    /// The output, to the file or the folder at a path, or to standard output.
     Output(Option<&'a str>),
 }
 
@@ -75,21 +77,21 @@ impl<'a> Subject<'a> {
     }
 }
 
-/// A file that a command reads: its path, or none for standard input, and the words of a command that reads it from there.
+/// An input file of a command: its path, or `None` for standard input, and the words of a command that reads it from there.
 #[derive(Clone, Copy)]
 pub struct InputFile<'a> {
     pub path: Option<&'a str>,
     pub words: &'static str,
 }
 
-/// The files of a command, of which a fault says one.
+/// The files of a command, one of which is in its fault.
 #[derive(Clone, Copy)]
 pub struct CommandFiles<'a> {
-    /// The first of two files, or the snapshot that a feed is joined to.
+    /// The first of two files, or the snapshot to which a feed is joined.
     first: InputFile<'a>,
     /// The only file, the second of two, or the feed.
     last: InputFile<'a>,
-    /// The path of the file or the folder that is written, if it is not standard output.
+    /// The path of the output file or folder, if it is not standard output.
     output: Option<&'a str>,
 }
 
@@ -153,7 +155,7 @@ impl<'a> CommandFiles<'a> {
         CommandFiles::of_one(path, "serve - ..", None)
     }
 
-    /// The only file, the second of two, or the feed.
+    /// Returns the only file, the second of two, or the feed.
     pub fn last(&self) -> InputFile<'a> {
         self.last
     }
@@ -169,20 +171,21 @@ impl<'a> CommandFiles<'a> {
     }
 }
 
-// The words of a command that reads its file from standard input.
+// Returns the words of a command that reads its file from standard input.
 fn words_of(command: &Command<'_>) -> &'static str {
     match command {
         Command::Snap { .. } => "snap",
         Command::Check { .. } => "check",
         Command::Info { .. } => "info",
         Command::Show { .. } | Command::ShowOrders { .. } => "show",
+        Command::Cut { .. } => "cut",
         Command::Canon { check: true } => "canon --check",
         Command::Canon { check: false } => "canon",
         Command::Book { .. } => "book ..",
     }
 }
 
-// The same of the first file, and of the second.
+// Returns the same for the first file, and for the second.
 fn words_of_pair(command: &PairCommand<'_>) -> (&'static str, &'static str) {
     match command {
         PairCommand::Compare { .. } => ("compare - ..", "compare .. -"),
@@ -191,21 +194,21 @@ fn words_of_pair(command: &PairCommand<'_>) -> (&'static str, &'static str) {
     }
 }
 
-/// The names of what a session works on.
+/// The names of the devices of a session.
 #[derive(Clone, Copy)]
 pub struct SessionNames<'a> {
-    // The address that it listens on, or the server that it connects to.
+    // The address on which it listens, or the server to which it connects.
     peer: Name<'a>,
-    // The day file that is played, or that a feed is recorded in.
+    // The day file to play, or the record of a feed.
     day_file: Option<&'a str>,
     // The folder of snapshots.
     folder: Option<&'a str>,
-    // The file that is written, if it is not standard output.
+    // The output file, if it is not standard output.
     output: Option<&'a str>,
 }
 
 impl<'a> SessionNames<'a> {
-    // The names of a session that reads no file.
+    // Returns the names for a session that reads no file.
     fn of_peer(peer: Name<'a>, output: Option<&'a str>) -> Self {
         SessionNames {
             peer,
@@ -226,7 +229,7 @@ impl<'a> SessionNames<'a> {
     pub fn of_live(words: &LiveWords<'a>) -> Self {
         SessionNames {
             peer: Name::Address(words.address),
-            day_file: words.record.map(|record| record.path),
+            day_file: words.record.map(|record| record.place.path()),
             folder: words.snapshots.map(|snapshots| snapshots.folder),
             output: None,
         }
@@ -246,7 +249,11 @@ impl<'a> SessionNames<'a> {
         }
     }
 
-    /// The name of the device that a session failed at, or of its peer.
+    pub fn of_status(words: &StatusWords<'a>) -> Self {
+        SessionNames::of_peer(Name::Server(words.place.host, words.place.port), None)
+    }
+
+    /// Returns the name of the device that failed in a session, or of its peer.
     pub fn name(&self, fault: &SessionFault) -> Name<'a> {
         match fault.cause() {
             Some(cause) => self.name_of(cause.device),
@@ -266,7 +273,7 @@ impl<'a> SessionNames<'a> {
     }
 }
 
-/// The names of what a job works on.
+/// The names for a job.
 #[derive(Clone, Copy)]
 pub struct JobNames<'a> {
     pub files: CommandFiles<'a>,
@@ -301,11 +308,12 @@ impl<'a> JobNames<'a> {
             Job::Live(words) => JobNames::of_session(SessionNames::of_live(words)),
             Job::Follow(words) => JobNames::of_session(SessionNames::of_follow(words)),
             Job::Feed(words) => JobNames::of_session(SessionNames::of_feed(words)),
+            Job::Status(words) => JobNames::of_session(SessionNames::of_status(words)),
             Job::Completions(_) => JobNames::none(),
         }
     }
 
-    /// Where nothing but standard output can fail.
+    /// Returns no names, for a job in which only standard output can fail.
     pub fn none() -> JobNames<'a> {
         JobNames {
             files: CommandFiles::of_one(None, "", None),

@@ -1,11 +1,11 @@
-//! A day file, of whose bytes those are noted that the fingerprint of a place needs.
+//! Reads a day file, and notes the bytes that the fingerprint of a place needs.
 
-use itch_commands::snap::{Fingerprint, Passed};
+use itch_checkpoints::{Fingerprint, Passed};
 use std::alloc::{AllocError, Global};
 use std::cell::RefCell;
 use std::io::{self, ErrorKind, Read};
 
-/// What has passed through a reader.
+/// The bytes that have passed through a reader.
 #[derive(Drop)]
 pub struct Notes {
     passed: RefCell<Passed<Global>>,
@@ -18,7 +18,7 @@ impl Notes {
         })
     }
 
-    /// The fingerprint of what passed before a place that is not far behind.
+    /// Returns the fingerprint of the bytes before a place that is not far behind.
     pub fn fingerprint(&self, place: u64) -> io::Result<Fingerprint> {
         let found = match self.passed.try_borrow() {
             Ok(passed) => passed.fingerprint(place),
@@ -35,7 +35,7 @@ impl Notes {
     }
 }
 
-/// A reader that reads as the one inside does, and notes what it reads.
+/// A reader that reads as its inner reader does, and notes the bytes.
 #[derive(Drop)]
 pub struct Noted<'a, T> {
     inner: T,

@@ -1,4 +1,4 @@
-//! What a command reads, opened.
+//! Opens the input of a command.
 
 use crate::beginning::{Beginning, Begun};
 use itch_commands::{Source, ToolFault, system_fault};
@@ -8,8 +8,8 @@ use itchsnap_cli::input::{Opened, Progress, Watched};
 use std::rt::Files;
 use std::{fs, io};
 
-/// Opens the file of a path, or standard input if there is no path. `progress` counts what is read of it, and is told its size,
-/// `source` says in a fault which file it is, and `beginning` notes the first bytes of standard input.
+/// Opens the file at a path, or standard input without one. `progress` counts the bytes read and gets the file's size, `source` is the
+/// file's role in a fault, and `beginning` notes the first bytes of standard input.
 ///
 /// An error is `Open`, or `OutOfMemory` if the system has no memory for it.
 pub fn open<'a, R: Files + Input + Eprint>(
@@ -44,7 +44,7 @@ pub fn open<'a, R: Files + Input + Eprint>(
     Ok(Watched::new(Opened::File(file), progress))
 }
 
-/// The fault of a day file that cannot be read after so many messages.
+/// Returns the fault for a day file that cannot be read after that many messages.
 pub fn read_fault(count: u64, error: io::Error) -> ToolFault {
     let end = ReplayEnd {
         count,
@@ -59,7 +59,7 @@ pub fn read_fault(count: u64, error: io::Error) -> ToolFault {
     )
 }
 
-/// The size of a file, which a pipe or a device does not have.
+/// Returns the size of a file; a pipe or a device has none.
 pub fn size<R: Files>(rt: &R, path: &str) -> Option<u64> {
     let metadata = fs::metadata(rt, path).ok()?;
     if metadata.is_file() {

@@ -1,21 +1,21 @@
-//! The file that a snapshot is written to: it gets its name once it is whole.
+//! The output file for a snapshot: it is written to a temporary file, which is renamed once it is complete.
 
 use crate::failure::Failure;
 use std::fs;
 use std::rt::Files;
 
-/// A file that is written beside the one of its path, and then gets that name: so a file of that name is whole.
+/// A temporary file next to a path, which is then renamed to the path: so a file at that path is complete.
 ///
-/// Where the path is that of a device or a pipe, that is written itself.
+/// If the path is that of a device or a pipe, it is written directly.
 #[derive(Drop)]
 pub struct Output<'a> {
     path: &'a str,
-    // The path of the file beside, if there is one.
+    // The path of the temporary file, if there is one.
     part: Option<String>,
 }
 
 impl<'a> Output<'a> {
-    /// The output at a path, and the file to write to.
+    /// Creates the output at a path, and returns it with the file to write to.
     ///
     /// An error is `Open`, or `OutOfMemory`.
     pub fn create<R: Files + AllocGlobal>(
@@ -30,7 +30,7 @@ impl<'a> Output<'a> {
         match fs::create(rt, written) {
             Ok(file) => Ok((Output { path, part }, file)),
             Err(error) => {
-                // Where the file beside is there, it is what is in the way.
+                // If the temporary file already exists, it is in the way.
                 let is_in_the_way = fs::metadata(rt, written).is_ok();
                 let named = if is_in_the_way { written } else { path };
                 Err(Failure::open(rt.alloc(), named, error))
@@ -38,7 +38,7 @@ impl<'a> Output<'a> {
         }
     }
 
-    /// Gives the file its name, where all was written to it; otherwise removes it.
+    /// Renames the temporary file, if everything was written to it; otherwise removes it.
     pub fn finish<R: Files + AllocGlobal>(
         &self,
         rt: &R,
@@ -59,7 +59,7 @@ impl<'a> Output<'a> {
     }
 }
 
-// The path of the file beside. A device or a pipe has none.
+// Returns the path of the temporary file. A device or a pipe has none.
 fn part_of<R: Files + AllocGlobal>(rt: &R, path: &str) -> Result<Option<String>, Failure> {
     match fs::metadata(rt, path) {
         Ok(metadata) if !metadata.is_file() => Ok(None),

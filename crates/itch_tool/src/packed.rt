@@ -1,4 +1,4 @@
-//! What to do with a file that is compressed, or of captured packets.
+//! Advice for a file that is compressed, or of captured packets.
 
 use crate::beginning::Beginning;
 use crate::names::{InputFile, Subject};
@@ -7,17 +7,17 @@ use std::io::Read;
 use std::rt::Files;
 use std::{fmt, fs};
 
-/// A file that is no day file, but may have one inside. `Display` says what it is, and how to read it.
+/// A file that is not a day file, but may contain one. `Display` writes what it is, and how to read it.
 #[derive(Clone, Copy)]
 pub struct PackedFile<'a> {
-    // None of standard input.
+    // `None` for standard input.
     path: Option<&'a str>,
     packing: Packing,
     words: &'static str,
 }
 
-/// The file that a refusal is about, if its first bytes are those of a packed one. It need not be refused for its first message: that may
-/// be one that is not decoded.
+/// Returns the file that caused a refusal, if its first bytes are those of a packed one. The refused message need not be the first: the
+/// first one may be of a type that is not decoded.
 pub fn packed_file<'a, R: Files>(
     rt: &R,
     subject: Subject<'a>,
@@ -37,7 +37,7 @@ pub fn packed_file<'a, R: Files>(
     })
 }
 
-// The form that the first bytes of a file tell. A pipe is not opened again.
+// Returns the form of a file, from its first bytes. A pipe is not opened again.
 fn packing<R: Files>(rt: &R, path: &str) -> Option<Packing> {
     if !fs::metadata(rt, path).ok()?.is_file() {
         return None;
@@ -66,8 +66,7 @@ impl fmt::Display for PackedFile<'_> {
     }
 }
 
-// What a file is called that is packed so, and the command that unpacks one that is named, or standard input. Nothing unpacks captured
-// packets.
+// Returns the name of a packed form, and the command that unpacks a named file or standard input. Captured packets have no such command.
 fn form_and_reader(packing: Packing, is_named: bool) -> Option<(&'static str, &'static str)> {
     match packing {
         Packing::Gzip => Some(("a gzip", "zcat")),
@@ -81,7 +80,7 @@ fn form_and_reader(packing: Packing, is_named: bool) -> Option<(&'static str, &'
     }
 }
 
-// A path as a word of a shell's command.
+// A path as a word of a shell command.
 #[derive(Drop)]
 struct Quoted<'a> {
     path: &'a str,
@@ -103,7 +102,7 @@ impl fmt::Display for Quoted<'_> {
     }
 }
 
-// Whether a byte stands for itself in a word of a shell's command.
+// Returns whether a byte needs no quoting in a word of a shell command.
 fn is_plain(byte: u8) -> bool {
     byte.is_ascii_alphanumeric() || b"./_-+=:,@%".contains(&byte) || byte >= 128
 }

@@ -1,19 +1,19 @@
-//! The logins of the command line, whose passwords are words, lines of a file, or a variable of the environment.
+//! Reads the logins of the command line, whose passwords are arguments, lines of a file, or an environment variable.
 
 use crate::failure::Failure;
+use itch_sessions::sessions::first_line;
+use itch_sessions::{LoginSource, Logins, LoginsFault};
 use itchsnap_cli::words::{LoginWords, Password, UserWords};
-use itchsnap_live::sessions::first_line;
-use itchsnap_live::{LoginSource, Logins, LoginsFault};
 use std::alloc::AllocError;
 use std::env::{self, Env, VarError};
 use std::fs::{self, File};
 use std::io::{self, Read};
 use std::rt::Files;
 
-/// More than this of a file is not read: a password that is longer is refused anyway.
+/// At most this much of a file is read: a longer password is refused anyway.
 const MOST_BYTES: u64 = 4096;
 
-/// The variable `ITCHSNAP_PASS`, if it is set and UTF-8.
+/// Returns the variable `ITCHSNAP_PASS`, if it is set and UTF-8.
 pub fn password_of_environment<R: Env + AllocGlobal>(rt: &R) -> Result<Option<String>, AllocError> {
     match env::var(rt, "ITCHSNAP_PASS") {
         Ok(password) => Ok(Some(password)),
@@ -22,7 +22,7 @@ pub fn password_of_environment<R: Env + AllocGlobal>(rt: &R) -> Result<Option<St
     }
 }
 
-/// The users of a server.
+/// Reads the users of a server.
 pub fn read_users<'a, R: Files<File = File> + AllocGlobal>(
     rt: &R,
     users: UserWords<'a>,
@@ -33,7 +33,7 @@ pub fn read_users<'a, R: Files<File = File> + AllocGlobal>(
     }
 }
 
-/// One login.
+/// Reads one login.
 pub fn read_account<'a, R: Files<File = File> + AllocGlobal>(
     rt: &R,
     login: LoginWords<'a>,
@@ -62,7 +62,7 @@ fn read_logins<'a, R: Files<File = File> + AllocGlobal>(
     }
 }
 
-/// The password that is a word, or the first line of a file.
+/// Returns the password from an argument, or the first line of a file.
 pub fn read_password<R: Files + AllocGlobal>(
     rt: &R,
     password: Password<'_>,

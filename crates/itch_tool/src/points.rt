@@ -1,4 +1,4 @@
-//! Snapshots of several points of a day file, in the files of a folder.
+//! Writes snapshots of several points of a day file to the files of a folder.
 
 use crate::beginning::Beginning;
 use crate::failure::Failure;
@@ -7,19 +7,20 @@ use crate::noted::{Noted, Notes};
 use crate::opened::{open, read_fault};
 use crate::output::Output;
 use crate::run::blocks;
-use itch_commands::snap::{Pass, write_index};
+use itch_checkpoints::index_line;
+use itch_commands::snap::Pass;
 use itch_commands::{Book, Limit, Source, ToolFault, write_locates};
 use itch_frame::{BlockReader, Counted, CountedRead};
 use itch_market::LocateSet;
+use itch_sessions::sessions::PIECE;
 use itchsnap_cli::input::Progress;
 use itchsnap_cli::words::{PointWords, Points};
-use itchsnap_live::sessions::PIECE;
 use std::alloc::{Allocator, Global};
 use std::fs;
 use std::io::{BufWriter, Write};
 use std::rt::{Clock, Files};
 
-/// Writes the snapshot of each point into the folder, and its line into the index there. What was written before a fault stays.
+/// Writes the snapshot of each point into the folder, and its line into the index there. Files that were written before a fault are kept.
 pub fn run_points<R: Files + Input + Eprint + AllocGlobal + Clock>(
     rt: &R,
     words: &PointWords<'_>,
@@ -61,17 +62,17 @@ fn save_points<R: Files + AllocGlobal, S: CountedRead + Drop, A: Allocator>(
 struct Folder<'a, R: Files> {
     rt: &'a R,
     path: &'a str,
-    index: Counted<R::File>,
+    index: R::File,
     only: Option<LocateSet<Global>>,
     // The list of the same locates.
     list: Option<String>,
     notes: &'a Notes,
-    // How many messages the last snapshot has.
+    // The number of messages in the last snapshot.
     last: Option<u64>,
 }
 
 impl<'a, R: Files + AllocGlobal> Folder<'a, R> {
-    // The folder of a path, with a new index.
+    // Opens the folder at a path, with a new index.
     fn create(
         rt: &'a R,
         path: &'a str,
@@ -87,7 +88,7 @@ impl<'a, R: Files + AllocGlobal> Folder<'a, R> {
             Ok(file) => Ok(Folder {
                 rt,
                 path,
-                index: Counted::new(file),
+                index: file,
                 only,
                 list,
                 notes,
@@ -97,7 +98,7 @@ impl<'a, R: Files + AllocGlobal> Folder<'a, R> {
         }
     }
 
-    // Writes the snapshot of the messages that were read, unless the last one is of the same.
+    // Writes the snapshot of the messages that were read, unless the last one has the same number of messages.
     fn save<S: CountedRead, A: Allocator>(
         &mut self,
         pass: &Pass<S, A, Book<Global>>,
@@ -119,7 +120,11 @@ impl<'a, R: Files + AllocGlobal> Folder<'a, R> {
             Some(list) => Some(list.as_str()),
             None => None,
         };
-        Ok(write_index(mark, fingerprint, list, &mut self.index)?)
+        let line = index_line(alloc, mark, fingerprint, list)?;
+        match self.index.write_all(&line) {
+            Ok(()) => Ok(()),
+            Err(error) => Err(Failure::from(ToolFault::Write(error))),
+        }
     }
 }
 
@@ -140,7 +145,7 @@ fn write_file<S: CountedRead, A: Allocator, W: Write + Drop>(
     }
 }
 
-// The snapshots where each of these parts of the file ends.
+// Writes the snapshots at the ends of these parts of the file.
 fn save_each<R: Files + AllocGlobal, S: CountedRead, A: Allocator>(
     folder: &mut Folder<'_, R>,
     pass: &mut Pass<S, A, Book<Global>>,
@@ -153,7 +158,7 @@ fn save_each<R: Files + AllocGlobal, S: CountedRead, A: Allocator>(
     Ok(true)
 }
 
-// The snapshots after each so many messages, and at the end.
+// Writes one snapshot per that many messages, and one at the end.
 fn save_every<R: Files + AllocGlobal, S: CountedRead, A: Allocator>(
     folder: &mut Folder<'_, R>,
     pass: &mut Pass<S, A, Book<Global>>,

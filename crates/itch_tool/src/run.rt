@@ -1,4 +1,4 @@
-//! The commands over files and standard streams.
+//! Runs the commands over files and standard streams.
 
 use crate::at::join_at;
 use crate::beginning::Beginning;
@@ -9,22 +9,23 @@ use crate::opened::open;
 use crate::output::Output;
 use crate::points::run_points;
 use crate::sockets::{run_fetch, run_serve};
+use crate::status::run_status;
 use itch_commands::{
     Book, Command, PairCommand, Request, Source, ToolFault, perform, perform_pair, system_fault,
 };
 use itch_frame::{BlockReader, Buffered, Counted, CountedWrite};
 use itch_market::LocateSet;
+use itch_sessions::sessions::{PIECE, default_session};
 use itchsnap_cli::input::Progress;
 use itchsnap_cli::words::{Completions, Job, Shell};
-use itchsnap_live::sessions::{PIECE, default_session};
 use std::alloc::{Allocator, Global};
 use std::fs::File;
 use std::io::{self, BufReader, BufWriter, Read, Write};
 use std::net::{Net, TcpListener, TcpStream};
 use std::rt::{Clock, Files};
 
-/// Performs the job, with its output on standard output. True is status 0, and false is status 1 with the output written. `beginning`
-/// notes the first bytes of standard input.
+/// Performs the job, with its output on standard output. True is exit status 0, and false is exit status 1 with the output written.
+/// `beginning` notes the first bytes of standard input.
 pub fn run<R>(rt: &R, job: &Job<'_>, beginning: &Beginning) -> Result<bool, Failure>
 where
     R: Files<File = File> + Input + Print + Eprint + AllocGlobal + Clock,
@@ -60,6 +61,7 @@ where
         Job::Live(words) => run_live(rt, words),
         Job::Follow(words) => run_follow(rt, words),
         Job::Feed(words) => run_feed(rt, words),
+        Job::Status(words) => run_status(rt, words),
         Job::Completions(shell) => Ok(print_completions(rt, *shell)?),
     }
 }
@@ -73,7 +75,7 @@ fn print_completions<R: Print + AllocGlobal>(rt: &R, shell: Shell) -> Result<boo
     }
 }
 
-// Performs a request, with its output in the file of a path, or on standard output. Its words are read first, then files are opened.
+// Performs a request, with its output in the file at a path, or on standard output. It reads its arguments first, and then opens files.
 fn run_request<R: Files + Input + Print + Eprint + AllocGlobal + Clock>(
     rt: &R,
     request: Request<'_>,
@@ -113,7 +115,7 @@ fn request_to<R: Files + Input + Eprint + AllocGlobal + Clock, W: Write + Drop>(
     }
 }
 
-// Opens what a request reads, and performs it.
+// Opens the input of a request, and performs it.
 fn answer<R: Files + Input + Eprint + AllocGlobal + Clock, W: CountedWrite>(
     rt: &R,
     request: Request<'_>,
@@ -149,7 +151,7 @@ fn answer<R: Files + Input + Eprint + AllocGlobal + Clock, W: CountedWrite>(
     }
 }
 
-// Which files the two of a command are in its faults.
+// Returns the roles in faults of the two files of a command.
 fn sources(command: &PairCommand<'_>) -> (Source, Source) {
     match command {
         PairCommand::Compare { .. } | PairCommand::CompareFirst { .. } => {
@@ -185,7 +187,7 @@ pub fn perform_pair_over<A: Allocator + Copy, R: Read + Drop, S: Read + Drop, W:
     perform_pair::<_, _, _, _, Book<A>, _>(alloc, command, only, &mut first, &mut second, out)
 }
 
-/// A reader of the blocks of a file.
+/// Creates a reader of the blocks of a file.
 pub fn blocks<A: Allocator + Copy, R: Read + Drop>(
     alloc: A,
     reader: R,

@@ -1,4 +1,4 @@
-//! A second look at the file of a command that was refused, to say more of what it lacks.
+//! Reads the file of a refused command again, to report what it lacks.
 
 use crate::names::{InputFile, Name};
 use crate::opened::size;
@@ -12,10 +12,10 @@ use std::rt::Files;
 use std::{fmt, fs};
 use strsim::osa_distance;
 
-/// The most characters that a stock has.
+/// The greatest length of a stock.
 const MOST_CHARACTERS: usize = 8;
 
-/// The first stock of a list that a file lacks. `Display` says so, and which one is similar.
+/// The first stock of a list that a file lacks. `Display` writes it, and a similar one.
 #[derive(Clone, Copy)]
 pub struct LackedStock<'a> {
     file: Name<'a>,
@@ -44,7 +44,7 @@ impl fmt::Display for LackedStock<'_> {
     }
 }
 
-/// The first stock of a list that the part of a file lacks. Where it is not looked for again, that is known of a list of one.
+/// Returns the first stock of a list that the part of a file lacks. If the file is not read again, that is only known for a list of one.
 pub fn lacked_stock<'a, R: Files + AllocGlobal>(
     rt: &R,
     file: InputFile<'a>,
@@ -75,7 +75,7 @@ fn has_stock(stocks: &BTreeSet<Alpha<8>>, name: &str) -> bool {
     }
 }
 
-// The stock to which the fewest edits lead from a name, if those are not too many. Without memory there is none.
+// Returns the stock with the fewest edits from a name, if those are not too many. Returns `None` without memory.
 fn most_similar(alloc: Global, stocks: &BTreeSet<Alpha<8>>, name: &str) -> Option<Alpha<8>> {
     if name.len() > MOST_CHARACTERS {
         return None;
@@ -92,13 +92,13 @@ fn most_similar(alloc: Global, stocks: &BTreeSet<Alpha<8>>, name: &str) -> Optio
     similar
 }
 
-// How many edits lead from a name to a stock, whatever the case of its letters.
+// Returns the number of edits from a name to a stock, ignoring the case of its letters.
 fn edits_between(alloc: Global, name: &str, stock: &str) -> Result<usize, AllocError> {
     let upper = name.to_ascii_uppercase(alloc)?;
     osa_distance(alloc, upper.as_str(), stock)
 }
 
-/// The last system event of the part of a file. `Display` says what it is, and when.
+/// The last system event of the part of a file. `Display` writes its code, and its time.
 #[derive(Clone, Copy)]
 pub struct LastEvent<'a> {
     file: Name<'a>,
@@ -122,7 +122,7 @@ impl fmt::Display for LastEvent<'_> {
     }
 }
 
-/// The last system event of the part of a file, unless it is a pipe, which cannot be read again.
+/// Returns the last system event of the part of a file, unless it is a pipe, which cannot be read again.
 pub fn last_event<'a, R: Files + AllocGlobal>(
     rt: &R,
     file: InputFile<'a>,
@@ -155,7 +155,7 @@ impl fmt::Display for TimeOfDay {
     }
 }
 
-// Reads the part of a file again, if it is a file and no pipe. A fault ends it, as it did before.
+// Reads the part of a file again, if it is a file and not a pipe. A fault ends it, as it did before.
 fn is_read_again<R: Files + AllocGlobal, S: Sink>(
     rt: &R,
     file: InputFile<'_>,
@@ -183,7 +183,7 @@ where
     true
 }
 
-// The stocks that came in Stock Directory messages.
+// Collects the stocks in Stock Directory messages.
 #[derive(Drop)]
 struct StockSink {
     stocks: BTreeSet<Alpha<8>>,
@@ -216,7 +216,7 @@ impl Sink for StockSink {
     }
 }
 
-// The last system event so far, with the number of its message.
+// Finds the last system event, with the number of its message.
 #[derive(Drop)]
 struct EventSink {
     last: Option<(u64, SystemEvent)>,

@@ -1,4 +1,4 @@
-//! What a request selects, in words, and from which part of its file.
+//! The selection of a request, and the part of its file.
 
 use itch_commands::{Command, FileKind, Limit, PairCommand, Request, Selection};
 use itchsnap_cli::words::{Job, PointWords};
@@ -8,7 +8,7 @@ use itchsnap_cli::words::{Job, PointWords};
 pub struct Selected<'a> {
     pub locates: Option<&'a str>,
     pub stocks: Option<&'a str>,
-    /// None where a second file is read too.
+    /// `None` if a second file is read too.
     pub part: Option<Limit>,
 }
 
@@ -63,7 +63,7 @@ impl<'a> Selected<'a> {
             Command::Show { kind, filters, .. } => {
                 Selected::new(filters.only, filters.stocks, Some(part_of(kind)))
             }
-            Command::ShowOrders { limit, filters, .. } => {
+            Command::ShowOrders { limit, filters, .. } | Command::Cut { limit, filters } => {
                 Selected::new(filters.only, filters.stocks, Some(limit))
             }
             Command::Check { limit, .. } | Command::Info { limit, .. } => {
@@ -82,7 +82,7 @@ impl<'a> Selected<'a> {
     }
 }
 
-// The part of a file that is read. A snapshot is read whole.
+// Returns the part of a file that is read. A snapshot is read completely.
 fn part_of(kind: FileKind) -> Limit {
     match kind {
         FileKind::Day(limit) => limit,

@@ -1,4 +1,4 @@
-//! `serve`: the market of a file, served.
+//! `serve`: serves the market of a file.
 ghost use Rattle.itch_commands.specs.Files.{ReadsFile};
 ghost use Rattle.itch_commands.specs.declared.fault.Source.TheVariants.{Only};
 ghost use Rattle.itch_tool.specs.Serving.{ServesFile};
@@ -9,17 +9,17 @@ use itch_codec::Seq;
 use itch_commands::{FileKind, Source, file_market};
 use itch_frame::{BlockReader, CountedRead, CountedWrite};
 use itch_market::Market;
+use itch_sessions::sessions::serve_market;
 use itch_soup::ServerConfig;
-use itchsnap_live::sessions::serve_market;
 use std::alloc::{Alloc, Allocator};
 use std::net::{Net, SocketAddr};
 use std::rt::Clock;
 
-/// Serves the market that a file leaves on a port of this machine: the snapshot after all of its messages, or that of a snapshot file
-/// with its number. The port 0 is a free one. A line on standard error says when the port is listened on, and which it is.
+/// Serves the market after a file on a port of this machine: the snapshot after all of its messages, or that of a snapshot file with its
+/// number. Port 0 means a free port. Once the server listens, a line on standard error reports the port.
 ///
-/// If the file is refused, or its snapshot has too many messages (`TooMany`), nothing is served. `Socket` if the port cannot be
-/// listened on.
+/// If the file is refused, or its snapshot has too many messages (`TooMany`), nothing is served. `Socket` if the server cannot listen on
+/// the port.
 pub fn serve_file<R, F: CountedRead, D: Allocator, B: OrderBook, W: CountedWrite>(
     rt: &R,
     alloc: B::Alloc,

@@ -1,4 +1,4 @@
-//! The two ends of a session over sockets.
+//! Runs the two ends of a session over sockets.
 
 use crate::beginning::Beginning;
 use crate::failure::Failure;
@@ -10,18 +10,17 @@ use crate::serving::serve_file;
 use itch_codec::{Alpha, Seq};
 use itch_commands::{Book, FileKind, Source};
 use itch_frame::{BlockReader, Buffered, Counted};
+use itch_sessions::SessionFault;
+use itch_sessions::sessions::{Login, PIECE, fetch, fetch_rest};
 use itchsnap_cli::input::Progress;
 use itchsnap_cli::words::{LoginWords, Server};
-use itchsnap_live::SessionFault;
-use itchsnap_live::sessions::{Login, PIECE, fetch, fetch_rest};
 use std::alloc::Global;
 use std::io::{self, BufReader, BufWriter, Write};
 use std::net::{Net, SocketAddr, TcpListener, TcpStream, ToSocketAddrs};
 use std::rt::{Clock, Files};
 use std::time::Duration;
 
-/// Serves the market of a file, or of standard input, on a port of this machine. The line of each connection is written once it has
-/// ended.
+/// Serves the market of a file, or of standard input, on a port of this machine. The line of each connection is written once it has ended.
 pub fn run_serve<R>(
     rt: &R,
     file: Option<&str>,
@@ -56,8 +55,8 @@ where
     )
 }
 
-/// Fetches the snapshot that a server has, or its messages from a number on. It waits until the server answers, unless there is a
-/// time limit. What is fetched is written to the file of a path, or to standard output.
+/// Fetches the snapshot of a server, or its messages from a number on. It waits until the server answers, unless there is a time limit. The
+/// output is written to the file at a path, or to standard output.
 pub fn run_fetch<R>(
     rt: &R,
     server: &Server<'_>,
@@ -119,7 +118,7 @@ where
     }
 }
 
-/// The login of the command line.
+/// Reads the login of the command line.
 pub fn read_login<R: Files + AllocGlobal>(
     rt: &R,
     login: &LoginWords<'_>,
@@ -138,7 +137,7 @@ fn connect<N: Net<Stream = TcpStream>>(
     }
 }
 
-// Connects to a server, for a login that is sent at once: nothing follows it that it could wait for.
+// Connects to a server, for a login that is sent at once, because no further data follows for which it could wait.
 fn connect_as_told<N: Net<Stream = TcpStream>>(
     net: &N,
     server: &Server<'_>,
@@ -157,8 +156,8 @@ fn connect_as_told<N: Net<Stream = TcpStream>>(
     Ok(stream)
 }
 
-// Tries each address of a host in turn, for so long each. Returns the last error where none answers.
-fn connect_within<N: Net<Stream = TcpStream>>(
+// Tries each address of a host in turn, for the given time each. Returns the last error if none answers.
+pub fn connect_within<N: Net<Stream = TcpStream>>(
     net: &N,
     address: (&str, u16),
     limit: Duration,

@@ -1,4 +1,4 @@
--- What was read of a day file, written as a snapshot and compared.
+-- A day file that was read, written as a snapshot and compared.
 use mathlib.Core.Path.{fun_ext}
 use Rattle.std.proofs.Common.{◌≡◌, ◌≢◌, ℕ, ◌+◌, ◌≤◌, ◌⊎◌, inl, inr, Bool, not, List, ◌++◌, map, length, Option, None, Some, IsSome, IfSome, IfOk, IfErr, Result, Ok, Err, sym, ap, ◌∙◌, subst, refl, arith}
 use Rattle.std.specs.List.{AllByRecursion}
@@ -45,19 +45,19 @@ use Rattle.itchsnap_c.specs.Blocks.{IsOfBlocks}
 use Rattle.itchsnap_c.specs.Codes.{stop_answer}
 use Rattle.itchsnap_c.specs.Snapshots.{is_listed, Writes, Puts, Closes, Spells}
 
--- a replay of a day file, or of its part, from the empty market stops so
+-- a replay of a day file, or of its part, from the empty market has this stop
 halts_first : (limit : Limit) (m n : Content) (day : List ℕ) (bytes new : Option (List ℕ)) (count : ℕ) (stop : Stop) → m ≡ empty → bytes ≡ Some day
     → HaltsPart limit m bytes new count stop n → HaltsPart limit empty (Some day) new count stop n
 halts_first limit m n day bytes new count stop first known halts =
     subst (λ b. HaltsPart limit empty b new count stop n) known (subst (λ x. HaltsPart limit x bytes new count stop n) first halts)
 
--- where a day file stops it
+-- the place where a day file stops the replay
 halts_at : (limit : Limit) (n : Content) (day : List ℕ) (new : Option (List ℕ)) (count : ℕ) (stop : Stop) → HaltsPart limit empty (Some day) new count stop n
     → IsDecided stop → Stops empty day count stop
 halts_at limit n day new count stop halts =
     replays_stop empty n (Some day) new count stop (halts_replays limit empty (Some day) new count stop n halts)
 
--- memory gives its bytes: what stops a replay is of the file, or memory is refused
+-- reads of memory cannot fail: the stop of a replay is caused by the file, or memory runs out
 abbrev pub no_failures : Failures
 no_failures = record { count = 0; last = None }
 
@@ -92,20 +92,20 @@ refused_at_stop limit n day new count stop going halts (inr memory) = inr (inr (
   inr (new, n, subst (λ s. HaltsPart limit empty (Some day) new count s n) memory halts),
 ))
 
--- a day file, or its part, is refused for what stopped the replay of it
+-- a day file, or its part, is refused for the stop of its replay
 pub day_stopped : (limit : Limit) (m n : Content) (day : List ℕ) (bytes new : Option (List ℕ)) (count : ℕ) (stop : Stop) → m ≡ empty → bytes ≡ Some day → stop ≢ End
     → HaltsPart limit m bytes new count stop n → Counts stop no_failures no_failures → RefusesDay day limit (outcome count 0 (stop_answer stop).detail (stop_answer stop).code)
 day_stopped limit m n day bytes new count stop first known going halts counts =
     refused_at_stop limit n day new count stop going (halts_first limit m n day bytes new count stop first known halts) (stop_decided stop counts)
 
--- or it has fewer messages than are wanted
+-- or it has fewer messages than requested
 pub day_short : (limit : Limit) (m n : Content) (day : List ℕ) (bytes new : Option (List ℕ)) (count : ℕ) → m ≡ empty → bytes ≡ Some day → IsSome limit.after
     → HaltsPart limit m bytes new count End n → RefusesDay day limit (outcome count 0 0 37)
 day_short limit m n day bytes new count first known wanted halts =
     let from_empty = halts_first limit m n day bytes new count End first known halts in
     inr (inl (count, refl, (wanted, halts.0), halts_at limit n day new count End from_empty tt, (new, n, from_empty)))
 
--- a market cut down has no more messages
+-- a restricted market has no more messages
 module _ (wanted : ℕ → Bool) (m : Content) where
   abbrev passes : Message → Bool
   passes x = not (skips wanted x)
@@ -113,12 +113,12 @@ module _ (wanted : ℕ → Bool) (m : Content) where
   pub cut_shorter : length (snap (only wanted m)) ≤ length (snap m)
   cut_shorter = omega (arith, ap length (snap_only wanted m), length-filter_both passes (λ x. not (passes x)) (λ x. refl) (snap m))
 
--- sets with the same locates cut a market down to the same bytes
+-- sets with the same locates restrict a market to the same bytes
 pub same_cut : (set : Wanted) (locates : List ℕ) (m : Content) (next : ℕ) → ((locate : ℕ) → has set locate ≡ is_listed locates locate)
     → canon (only (has set) m) ++ closing next ≡ canon (only (is_listed locates) m) ++ closing next
 same_cut set locates m next same = ap (λ wanted. canon (only wanted m) ++ closing next) (fun_ext same)
 
--- and what is written for such a set is the snapshot of the listed locates
+-- and the bytes written for such a set are the snapshot of the listed locates
 pub cut_spelled : (set : Wanted) (locates : List ℕ) (m : Content) (next number : ℕ) (made : Result (Vec ℕ Global) ℕ) → Closes m next (Ok number)
     → ((locate : ℕ) → has set locate ≡ is_listed locates locate) → IfOk made (λ bytes. bytes.items ≡ canon (only (has set) m) ++ closing number)
     → IfErr made (λ code. code ≡ 48) → Spells m (only (is_listed locates) m) next made
@@ -131,13 +131,13 @@ module _ (limit : Limit) (ps : List (List ℕ)) (m : Content) (taken : AreTaken 
   pub canon_read : canon m ≡ canon (market_of ps)
   canon_read = ap canon left ∙ canon-laid (market_of ps) (taken_good limit ps fits taken)
 
-  -- cut down to some locates, too
+  -- restricted to some locates, too
   pub canon_only_read : (wanted : ℕ → Bool) → canon (only wanted m) ≡ canon (only wanted (market_of ps))
   canon_only_read wanted =
       ap (λ xs. blocks (map spelling xs))
       (snap_only wanted m ∙ ap (kept wanted) (ap snap left ∙ snap-laid (market_of ps) (taken_good limit ps fits taken)) ∙ sym (snap_only wanted (market_of ps)))
 
-  -- and is written with the number after them, unless memory is refused
+  -- and is written with the number after them, unless memory runs out
   pub written_read : (cut : Content → Content) (count : ℕ) (old new : List ℕ) (written : Written) → length ps ≡ count → canon (cut m) ≡ canon (cut (market_of ps))
       → Puts m (cut m) (count + 1) old written new
       → Writes (canon (cut (market_of ps)) ++ closing (length ps + 1)) old written new
@@ -146,12 +146,12 @@ module _ (limit : Limit) (ps : List (List ℕ)) (m : Content) (taken : AreTaken 
   written_read cut count old new written number_is same (inr (inl (code, none, stays))) = absurd (none (omega arith, omega (arith, number_is, taken.few)))
   written_read cut count old new written number_is same (inr (inr (code, number, many, stays))) = absurd (omega (arith, many, taken_few limit ps m fits taken left))
 
--- what is read of a snapshot fails as reading does
+-- reading a snapshot fails as reading does
 fails_here : (old new : Option (List ℕ)) (fault : FrameFault) → ReadsSnapshot old new (Err (snap_fault.Frame fault)) → (mid : Option (List ℕ)) × FailsHere fault mid new
 fails_here old new fault (inl (n, (ps, mid, takes, few, (same, fails)))) = (mid, fails)
 fails_here old new fault (inr (mid, next, n, all, fails)) = (mid, fails)
 
--- why a snapshot file is refused
+-- the reason why a snapshot file is refused
 pub snapshot_refused : (day : List ℕ) (old new : Option (List ℕ)) (fault : SnapFault) → old ≡ Some day → ReadsSnapshot old new (Err fault)
     → IfSome old (λ b. IsDecidedFault fault → IsFaultOf b fault) → CountsFault fault no_failures no_failures → IsRefusedFor day fault
 snapshot_refused day old new fault known reads decided counts =
@@ -180,7 +180,7 @@ snapshot_refused day old new fault known reads decided counts =
       by_fault snap_fault.AfterEnd reads is counts = inl (is tt)
       by_fault snap_fault.TooManyMessages reads is counts = inl (is tt)
 
--- what stops a replay of blocks in memory is of the blocks, or memory is refused
+-- the stop of a replay of blocks in memory is caused by the blocks, or memory runs out
 pub of_blocks : (bytes : List ℕ) (m : Content) (known : Option (List ℕ)) (count : ℕ) (stop : Stop) → known ≡ Some bytes → IfSome known (λ b. IsDecided stop → Stops m b count stop)
     → Counts stop no_failures no_failures → IsOfBlocks bytes m count stop
 of_blocks bytes m known count stop are stops counts = by_cause (stop_decided stop counts) (subst (λ o. IfSome o (λ b. IsDecided stop → Stops m b count stop)) are stops) where

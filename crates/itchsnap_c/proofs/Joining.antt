@@ -1,4 +1,4 @@
--- What a call on a handle's joiner leaves, from what the call on the joiner does.
+-- The effect of a call on a handle's joiner, from the effect of the call on the joiner.
 use Rattle.std.proofs.Common.{Option, Some, None}
 use Rattle.itch_join.specs.States.{Joining}
 use Rattle.itchsnap_c.specs.declared.object.Object.{Object}

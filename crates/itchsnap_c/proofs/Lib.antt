@@ -4,3 +4,4 @@ pub mod Pointers
 pub mod Days
 pub mod ListedSoFar
 pub mod PassedBlocks
+pub mod PassedRows

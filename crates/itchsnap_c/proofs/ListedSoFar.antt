@@ -1,4 +1,4 @@
--- What is listed of a book so far: the orders of a locate, and the price levels of a side.
+-- The listing of a book so far: the orders of a locate, and the price levels of a side.
 use Rattle.std.proofs.Common.{◌≡◌, ℕ, List, [], ◌∷◌, ◌++◌, map, length, Option, Some, None, IfSome, refl, sym, ap, ◌∙◌, subst, append-nil, append_assoc, arith, ◌<◌}
 use Rattle.std.proofs.lemmas.List.{map-append}
 use Rattle.std.specs.List.{find, sum_by}
@@ -12,7 +12,7 @@ use Rattle.itchsnap_c.specs.declared.answers.PriceLevel.{PriceLevel}
 use Rattle.itchsnap_c.specs.Listings.{level_of, level_row, levels_of, order_row, orders_of}
 
 module _ (orders : List Order) (l : ℕ) where
-  -- these were listed, and the next one and those after it are left
+  -- these were listed, and the next one and those after it remain
   pub record OrdersSoFar (next : Option Order) (items : List BookOrder) : Type 0 where
     pub rows : orders_of orders l ≡ items ++ map order_row (from_order orders next)
     pub live : IfSome next (λ x. get orders x.reference ≡ Some x)

@@ -21,7 +21,7 @@ use Rattle.itchsnap_c.specs.Times.{Finds, IsPassed, before}
 length-block : (p : List ℕ) → length (block p) ≡ length p + 2
 length-block p = omega arith
 
--- where the blocks of a mark end
+-- the end of the blocks of a mark
 offset_after : (mark : Mark) (ps : List (List ℕ)) → mark.offset ≤ 2 ^ 64 - 1 → Mark.offset (mark_after mark ps) ≡ min (mark.offset + length (blocks ps)) (2 ^ 64 - 1)
 offset_after mark [] within = omega (arith, within)
 offset_after mark (p ∷ ps) within =
@@ -41,7 +41,7 @@ each_passed limit (p ∷ ps) full early = ((full.0, early.0), each_passed limit 
 no_number : {n : ℕ} → None ≡ Some n → ⊥
 no_number {n} h = cc
 
--- what is left begins with the block that is held
+-- the rest begins with the block that is held
 record Begins (p rest : List ℕ) : Type 0 where
   pub more : List ℕ
   pub is : rest ≡ block p ++ more
@@ -57,7 +57,7 @@ begins held p rest (Some more) same is = record { more = more; is = sym (one is)
 abbrev pub Nothing : {S F : Type 0} → S → ℕ → List ℕ → F → S → Type 0
 Nothing s number payload why t = ⊥
 
--- All is passed up to the first message that is late, over bytes of which no read fails.
+-- All messages are passed up to the first late one, if no read of the bytes fails.
 module _ {R S F : Type 0} (remaining : R → Option (List ℕ)) (failures : R → Failures) (takes : S → ℕ → List ℕ → S → Type 0) (none : Failures) (error_free : none.last ≡ None)
     (never_fails : (r : R) → failures r ≡ none) (bytes : List ℕ) (short : length bytes ≤ 2 ^ 64 - 1) (time : ℕ) (old new : Reading R) (known : bytes_left remaining old ≡ Some bytes) (count : ℕ)
     (s t : Marked S) (first : s.mark ≡ first_mark) (stop : Stop F)

@@ -1,4 +1,4 @@
--- The numbers that stand for refusals in C.
+-- The numbers of refusals in C.
 use Rattle.std.specs.Prelude.{ℕ, Option, None, Some, Result, Ok, Err}
 use Rattle.itch_codec.specs.declared.fault.CodecFault.{CodecFault}
 use Rattle.itch_codec.specs.declared.fault.CodecFault.TheVariants.{Empty, WrongLength, BadText, BadSide, BadNumber}
@@ -13,7 +13,7 @@ use Rattle.itchsnap_c.specs.declared.answers.Answer.{Answer}
 use Rattle.itchsnap_c.specs.declared.answers.Count.{Count}
 use Rattle.itchsnap_c.specs.declared.answers.Loaded.{Loaded}
 
--- a code, and what it adds
+-- a code, and its detail
 abbrev pub coded : ℕ → ℕ → Answer
 coded code detail = record { detail = detail; code = code }
 
@@ -25,19 +25,19 @@ counted count = record { count = count; code = 0 }
 abbrev pub no_count : ℕ → Count
 no_count code = record { count = 0; code = code }
 
--- the call did what it says
+-- the call succeeded
 abbrev pub done : Answer
 done = coded 0 0
 
--- memory was refused
+-- memory ran out
 abbrev pub no_memory : Answer
 no_memory = coded 48 0
 
--- the handle does not hold what the call is about
+-- the handle does not hold an object of the right kind
 abbrev pub wrong : Answer
 wrong = coded 50 0
 
--- the handle holds something already
+-- the handle already holds an object
 abbrev pub in_use : Answer
 in_use = coded 51 0
 
@@ -48,7 +48,7 @@ codec_answer (BadText offset) = coded 3 offset
 codec_answer (BadSide offset) = coded 4 offset
 codec_answer BadNumber = coded 5 0
 
--- what is returned for a payload with this fault, or with none
+-- the answer for a payload with this fault, or with none
 abbrev pub fault_answer : Option CodecFault → Answer
 fault_answer None = done
 fault_answer (Some f) = codec_answer f
@@ -74,7 +74,7 @@ stop_answer (Codec fault) = codec_answer fault
 stop_answer (Rule why) = refusal_answer why
 stop_answer TooManyMessages = coded 33 0
 
--- what is returned for a message that was taken, or not
+-- the answer for a message that was taken, or not
 abbrev pub outcome_answer : Result (Unit {0}) Stop → Answer
 outcome_answer (Ok taken) = done
 outcome_answer (Err stop) = stop_answer stop

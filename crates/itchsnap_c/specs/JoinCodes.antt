@@ -1,4 +1,4 @@
--- The numbers of what a joiner returns.
+-- The numbers of a joiner's results.
 use Rattle.std.specs.Prelude.{ℕ, true, false, Option, Some, None, Result, Ok, Err}
 use Rattle.itch_join.specs.declared.fault.Cause.{Cause}
 use Rattle.itch_join.specs.declared.fault.Cause.TheVariants.{Codec, Rule, TooMany}
@@ -12,17 +12,17 @@ use Rattle.itchsnap_c.specs.declared.answers.Answer.{Answer}
 use Rattle.itchsnap_c.specs.declared.answers.Joined.{Joined}
 use Rattle.itchsnap_c.specs.Codes.{coded, codec_answer, refusal_answer}
 
--- a code, and the number that it adds
+-- a code and its number
 abbrev pub coded_number : ℕ → ℕ → Joined
 coded_number code number = record { number = number; detail = 0; code = code; cause = 0 }
 
--- why a message is refused
+-- the reason why a message is refused
 abbrev pub cause_answer : Cause → Answer
 cause_answer (Codec f) = codec_answer f
 cause_answer (Rule why) = refusal_answer why
 cause_answer TooMany = coded 33 0
 
--- a code, the number of the message that is refused, and why it is
+-- a code, the number of the message that is refused, and the reason
 abbrev pub caused : ℕ → ℕ → Cause → Joined
 caused code number cause = record { number = number; detail = (cause_answer cause).detail; code = code; cause = (cause_answer cause).code }
 

@@ -1,4 +1,4 @@
--- What the calls on a joiner return and leave.
+-- The results and effects of the calls on a joiner.
 use Rattle.std.specs.Prelude.{◌≡◌, ◌⊎◌, ℕ, true, List, Option, Some, None, option_and_then, Result}
 use Rattle.std.specs.FinMap as map
 use Rattle.itch_join.specs.Rules.{rules_of}
@@ -32,14 +32,14 @@ new_joiner cap set = Joiner (record { cap = cap; set = set; state = states.new }
 abbrev pub FillsAll : ℕ → Option Object → Answer → Option Object → Type 0
 FillsAll cap old answer new = (set : Wanted) × ((locate : ℕ) → has set locate ≡ true) × Fills old (new_joiner cap set) answer new
 
--- the same for those of a list
+-- the same for the locates of a list
 abbrev pub FillsListed : ℕ → List ℕ → Option Object → Answer → Option Object → Type 0
 FillsListed cap locates (Some old) answer new = (answer ≡ in_use) × (new ≡ Some old)
 FillsListed cap locates None answer new =
     ((set : Wanted) × ((locate : ℕ) → has set locate ≡ is_listed locates locate) × (answer ≡ done) × (new ≡ Some (new_joiner cap set)))
     ⊎ ((answer ≡ no_memory) × (new ≡ None))
 
--- a call and what it returns take a joiner from one state to another
+-- a call with this result takes a joiner from one state to another
 abbrev pub Steps : Joining → Call → Joining → Type 0
 Steps j call k = Step (rules_of (has j.set)) j.cap j.state call k.state × (k.cap ≡ j.cap) × (k.set ≡ j.set)
 
@@ -47,7 +47,7 @@ Steps j call k = Step (rules_of (has j.set)) j.cap j.state call k.state × (k.ca
 abbrev pub Delivers : ℕ → List ℕ → Joining → Joined → Joining → Type 0
 Delivers number payload j answer k = (taken : Result Live JoinFault) × (answer ≡ live_answer taken) × Steps j (CallLive number payload taken) k
 
--- a message of the snapshot is
+-- a message of the snapshot is delivered
 abbrev pub TakesSnapshot : List ℕ → Joining → Joined → Joining → Type 0
 TakesSnapshot payload j answer k = (taken : Result Snap JoinFault) × (answer ≡ snap_answer taken) × Steps j (CallSnapshot payload taken) k
 
@@ -69,7 +69,7 @@ abbrev pub next_in : Option Joining → Count
 next_in (Some j) = next_at j.state.joined
 next_in None = no_count 50
 
--- the number of messages that wait
+-- the number of waiting messages
 abbrev pub waiting_in : Option Joining → Count
 waiting_in (Some j) = counted (map.len j.state.wait)
 waiting_in None = no_count 50

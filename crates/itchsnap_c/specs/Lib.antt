@@ -1,13 +1,16 @@
 pub mod Blocks
 pub mod Codes
-pub mod JoinCodes
+pub mod Fields
 pub mod Files
+pub mod JoinCodes
 pub mod Joiners
 pub mod Listings
 pub mod Lookups
 pub mod Markets
 pub mod Objects
 pub mod Owned
+pub mod Reasons
+pub mod Rows
 pub mod Sessions
 pub mod Snapshots
 pub mod SoupCodes

@@ -1,4 +1,4 @@
--- What a market lists in C's memory.
+-- The lists of a market in C's memory.
 use Rattle.std.specs.Prelude.{◌≡◌, ℕ, ◌⊎◌, ◌%◌, ◌/◌, ◌^◌, Bool, [], ◌∷◌, List, map, length, Option, Some, None, Result, Ok, Err}
 use Rattle.std.specs.List.{filter, sum_by}
 use Rattle.std.specs.FinMap as finite
@@ -16,15 +16,15 @@ use Rattle.itchsnap_c.specs.declared.answers.Written.{Written}
 use Rattle.itchsnap_c.specs.Lookups.{order_answer, side_of}
 use Rattle.itchsnap_c.specs.Snapshots.{Copies, unwritten}
 
--- the locates of the directory, rising
+-- the locates of the directory, in ascending order
 abbrev pub locates_of : Content → List ℕ
 locates_of m = finite.keys m.securities
 
--- an order as it is listed
+-- an order in a list
 abbrev pub order_row : Order → BookOrder
 order_row order = order_answer (Some order)
 
--- those of a locate, in snapshot order: bids before asks, each side by priority
+-- the orders of a locate, in snapshot order: bids before asks, each side by priority
 abbrev pub orders_of : List Order → ℕ → List BookOrder
 orders_of orders locate = map order_row (sides orders locate)
 
@@ -46,12 +46,12 @@ levels_of orders locate side = map (level_of (queue orders locate side)) (prices
 abbrev pub levels_at : ℕ → Bool → Content → List PriceLevel
 levels_at locate buy m = levels_of m.orders locate (side_of buy)
 
--- what listing a market returns and leaves: its items are copied, unless memory is refused; without a market none are
+-- the result of listing a market, and the memory afterwards: its items are copied, unless memory runs out; without a market none are
 abbrev pub Lists : {T : Type 0} → (Content → List T) → Option Content → List T → Written → List T → Type 0
 Lists items (Some m) old written new = Copies (items m) old written new ⊎ ((written ≡ unwritten 48) × (new ≡ old))
 Lists items None old written new = (written ≡ unwritten 50) × (new ≡ old)
 
--- the items, unless memory is refused
+-- the items, unless memory runs out
 abbrev pub Gathers : {T : Type 0} → List T → Result (Vec T Global) ℕ → Type 0
 Gathers items (Ok found) = found.items ≡ items
 Gathers items (Err code) = code ≡ 48
@@ -65,7 +65,7 @@ abbrev pub stock_answer : Option Listing → Stock
 stock_answer (Some s) = record { stock = s.entry.stock; code = 0 }
 stock_answer None = no_stock 52
 
--- the stock that a locate has in the directory
+-- the stock of a locate in the directory
 abbrev pub stock_in : Option Content → ℕ → Stock
 stock_in (Some m) locate = stock_answer (finite.get m.securities locate)
 stock_in None locate = no_stock 50

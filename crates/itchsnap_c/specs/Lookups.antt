@@ -1,4 +1,4 @@
--- What look-ups in a market are answered, and where there is none.
+-- The answers to look-ups in a market, or without one.
 use Rattle.std.specs.Prelude.{ℕ, ◌%◌, ◌/◌, ◌^◌, ◌∷◌, [], length, Bool, true, false, Option, None, Some, is_some, unwrap_or, if◌then◌else◌}
 use Rattle.itch_book.specs.Orders as book
 use Rattle.itch_book.specs.declared.order.Order.{Order}

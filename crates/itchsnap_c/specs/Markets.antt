@@ -1,4 +1,4 @@
--- What the calls on a market return and leave.
+-- The results and effects of the calls on a market.
 use Rattle.std.specs.Prelude.{◌≡◌, ◌⊎◌, ℕ, List, Option, Some, None, Result, Err}
 use Rattle.itch_market.specs.Content.{Content}
 use Rattle.itch_market.specs.Replays.{TakesOne}
@@ -14,7 +14,7 @@ use Rattle.itchsnap_c.specs.declared.object.Object.{Object}
 use Rattle.itchsnap_c.specs.declared.object.Object.TheVariants.{Market}
 use Rattle.itchsnap_c.specs.Codes.{outcome_answer, snapshot_answer, not_loaded}
 
--- the message of a payload is applied, or not and for this reason
+-- the message of a payload is applied, or it is not, for this reason
 abbrev pub Applies : List ℕ → Content → Answer → Content → Type 0
 Applies payload m answer n = (outcome : Result (Unit {0}) Stop) × (answer ≡ outcome_answer outcome) × TakesOne m payload outcome n
 
@@ -22,16 +22,16 @@ Applies payload m answer n = (outcome : Result (Unit {0}) Stop) × (answer ≡ o
 abbrev pub read_to : ℕ → Loaded
 read_to next = record { next = next; place = 0; detail = 0; code = 0 }
 
--- Memory is refused: before the first message or after the last, or for the one at this place, counted from 1. That one takes
--- memory, and no order rule refuses it.
+-- Memory runs out: before the first message or after the last, or for the one at this place, counted from 1. That message needs memory, and
+-- no order rule refuses it.
 abbrev pub RunsOutAt : List ℕ → ℕ → Type 0
 RunsOutAt bytes place = (place ≡ 0) ⊎ ((new : Option (List ℕ)) × ReadsSnapshot (Some bytes) new (Err (Rule place OutOfMemory)))
 
--- why a snapshot file is refused: for its one fault, or since memory is
+-- the reason why a snapshot file is refused: its one fault, or that memory ran out
 abbrev pub IsRefusedFor : List ℕ → SnapFault → Type 0
 IsRefusedFor bytes fault = IsFaultOf bytes fault ⊎ ((place : ℕ) × (fault ≡ Rule place OutOfMemory) × RunsOutAt bytes place)
 
--- a new market of a snapshot file is put into an empty handle, or the file is refused and nothing is
+-- a new market of a snapshot file is put into an empty handle, or the file is refused and nothing is put there
 abbrev pub LoadsNew : List ℕ → Loaded → Option Object → Type 0
 LoadsNew bytes answer new =
     ((done : Content × ℕ) × IsMarketOf bytes done × (answer ≡ read_to done.1) × (new ≡ Some (Market done.0)))

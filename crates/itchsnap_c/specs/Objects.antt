@@ -1,4 +1,4 @@
--- What a handle holds, and what a call on it leaves.
+-- The object in a handle, and the effect of a call on it.
 use Rattle.std.specs.Prelude.{◌≡◌, ◌⊎◌, Option, Some, None, option_map, option_and_then}
 use Rattle.itch_join.specs.States.{Joining}
 use Rattle.itch_market.specs.Content.{Content}
@@ -9,29 +9,30 @@ use Rattle.itchsnap_c.specs.declared.object.Object.{Object}
 use Rattle.itchsnap_c.specs.declared.object.Object.TheVariants.{Market, Joiner, Client, Server}
 use Rattle.itchsnap_c.specs.Codes.{done, no_memory, in_use}
 
--- the market that look-ups are made in: of a joiner the one that it keeps once it has joined
+-- the market for look-ups: for a joiner the one that it keeps once it has joined
 abbrev pub market_of : Object → Option Content
 market_of (Market m) = Some m
 market_of (Joiner j) = option_map (λ at. at.market) j.state.joined
 market_of (Client c) = None
 market_of (Server s) = None
 
--- the same of a handle
+-- the same for a handle
 abbrev pub held_market : Option Object → Option Content
 held_market held = option_and_then market_of held
 
--- what a call that fills a handle returns and leaves: one that holds something stays as it was, as does one for which memory is refused
+-- the result of a call that fills a handle, and the handle afterwards: a handle that holds an object is unchanged, and so is one for which
+-- memory runs out
 abbrev pub Fills : Option Object → Object → Answer → Option Object → Type 0
 Fills (Some old) made answer new = (answer ≡ in_use) × (new ≡ Some old)
 Fills None made answer new = ((answer ≡ done) × (new ≡ Some made)) ⊎ ((answer ≡ no_memory) × (new ≡ None))
 
--- What a call on an object returns and leaves, and the answer where the handle holds none.
+-- The result of a call on an object, and the object afterwards; and the answer if the handle holds none.
 abbrev pub OnHandle : {A : Type 0} → A → (Object → A → Object → Type 0) → Option Object → A → Option Object → Type 0
 OnHandle wrong call (Some old) answer (Some new) = call old answer new
 OnHandle wrong call (Some old) answer None = ⊥
 OnHandle wrong call None answer new = (answer ≡ wrong) × (new ≡ None)
 
--- What a call on one part of an object returns and leaves; an object without that part stays as it was.
+-- The result of a call on one part of an object, and the object afterwards; an object without that part is unchanged.
 abbrev pub AtPart : {A P : Type 0} → (P → Object) → A → (P → A → P → Type 0) → Option P → Object → A → Object → Type 0
 AtPart {A} {P} made wrong call (Some old_part) old answer new = (new_part : P) × call old_part answer new_part × (new ≡ made new_part)
 AtPart made wrong call None old answer new = (answer ≡ wrong) × (new ≡ old)
@@ -61,7 +62,7 @@ server_of (Joiner j) = None
 server_of (Client c) = None
 server_of (Server s) = Some s
 
--- what a call on a market, a joiner, a client's session or a server's returns and leaves
+-- the result of a call on a market, a joiner, a client's session or a server's, and the object afterwards
 abbrev pub AtMarket : {A : Type 0} → A → (Content → A → Content → Type 0) → Object → A → Object → Type 0
 AtMarket wrong call old answer new = AtPart Market wrong call (plain_market_of old) old answer new
 

@@ -1,4 +1,4 @@
--- What the pointer to an object owns.
+-- The ownership of a pointer to an object.
 use Rattle.std.specs.Prelude.{Option, Some, None}
 use base.Fml.{Fml, ftrue}
 use denote.RattleType.{RattleType}
@@ -8,7 +8,7 @@ use Rattle.std.specs.contracts.impls.GlobalAllocator.TheImpl as heap
 use Rattle.itchsnap_c.specs.contracts.object.Object as object
 use Rattle.itchsnap_c.specs.declared.object.Object.{Object}
 
--- the type of the objects that C keeps
+-- the type of the objects in C's handles
 abbrev pub object_row : RattleType
 object_row = object.the_row
 

@@ -1,4 +1,4 @@
--- What the calls on sessions return and leave.
+-- The results and effects of the calls on sessions.
 use Rattle.std.specs.Prelude.{◌≡◌, ◌⊎◌, ◌<◌, ◌≤◌, ◌-◌, ◌^◌, ℕ, List, replicate, Option, Some, None, option_and_then}
 use Rattle.itch_codec.specs.Text.{IsPrintable}
 use Rattle.itch_soup.specs.Clients as soup
@@ -38,22 +38,22 @@ credentials_of login = record { username = login.username; password = login.pass
 abbrev pub config_of : Login → ServerConfig
 config_of login = record { username = login.username; password = login.password; session = login.session }
 
--- a handle is filled with a new session, unless a text is invalid, or else the number is above the most, for which this is the code
+-- a handle is filled with a new session, unless a text is invalid, or the number is above the greatest; this is the code for the latter
 abbrev pub FillsSession : Login → ℕ → ℕ → ℕ → Object → Option Object → Answer → Option Object → Type 0
 FillsSession login number most code session old answer new =
     (AreTexts login × (number ≤ most) × Fills old session answer new)
     ⊎ ((¬ AreTexts login) × (answer ≡ coded 3 0) × (new ≡ old))
     ⊎ (AreTexts login × (most < number) × (answer ≡ coded code 0) × (new ≡ old))
 
--- so with a client's session and its number
+-- the same for a client's session and its number
 abbrev pub FillsClient : Login → ℕ → ℕ → Option Object → Answer → Option Object → Type 0
 FillsClient login number now = FillsSession login number (10 ^ 19) 54 (Client (soup.new_client (credentials_of login) number now))
 
--- and with a server's session and its number of messages
+-- the same for a server's session and its number of messages
 abbrev pub FillsServer : Login → ℕ → ℕ → Option Object → Answer → Option Object → Type 0
 FillsServer config total now = FillsSession config total (10 ^ 19 - 1) 33 (Server (soup_server.new_server (config_of config) total now))
 
--- a block is a packet of this side, and is answered in this way; or it is not, and the session is left as it was
+-- a block is a packet of this side, and gets this answer; or it is not, and the session is unchanged
 abbrev pub Hears : {S : Type 0} → Origin → (S → Packet → Act) → (S → Packet → S) → List ℕ → S → Act → S → Type 0
 Hears side answer_to after block s answer t =
     ((packet : Packet) × PacketSpells packet block side × (answer ≡ answer_to s packet) × (t ≡ after s packet))
@@ -65,14 +65,14 @@ ClientHears block now = Hears from.Server (λ c packet. client_act (soup.client_
 abbrev pub ServerHears : List ℕ → ℕ → soup_server.Server → Act → soup_server.Server → Type 0
 ServerHears block now = Hears from.Client (λ s packet. server_act (soup_server.server_answer s packet)) (λ s packet. soup_server.server_after_packet s packet now) block
 
--- a session is asked what is due at a moment
+-- the action due in a session at a time
 abbrev pub Ticks : ℕ → Object → Answer → Object → Type 0
 Ticks now (Market m) answer new = (answer ≡ wrong) × (new ≡ Market m)
 Ticks now (Joiner j) answer new = (answer ≡ wrong) × (new ≡ Joiner j)
 Ticks now (Client c) answer new = (answer ≡ tick_answer (due c.connection now)) × (new ≡ Client (soup.client_after_tick c now))
 Ticks now (Server s) answer new = (answer ≡ tick_answer (due s.connection now)) × (new ≡ Server (soup_server.server_after_tick s now))
 
--- a session notes that something was sent at a moment
+-- a session notes that a packet was sent at a time
 abbrev pub Notes : ℕ → Object → Answer → Object → Type 0
 Notes now (Market m) answer new = (answer ≡ wrong) × (new ≡ Market m)
 Notes now (Joiner j) answer new = (answer ≡ wrong) × (new ≡ Joiner j)
@@ -93,7 +93,7 @@ login_in None = record { bytes = replicate 47 0; code = 50 }
 abbrev pub no_acceptance : ℕ → AcceptancePacket
 no_acceptance code = record { bytes = replicate 31 0; code = code }
 
--- the acceptance of a session from a number on, which is one that messages have
+-- the acceptance of a session from a number on, which is a valid message number
 abbrev pub Accepts : Option soup_server.Server → ℕ → AcceptancePacket → Type 0
 Accepts (Some s) next answer =
     (IsNumber next × (answer ≡ record { bytes = packet_spelling (is.LoginAccepted (soup_server.acceptance s.config next)); code = 0 }))

@@ -1,4 +1,4 @@
--- The numbers of what a session does.
+-- The numbers of a session's actions.
 use Rattle.std.specs.Prelude.{ℕ}
 use Rattle.itch_soup.specs.declared.client.ClientAct.{ClientAct}
 use Rattle.itch_soup.specs.declared.client.ClientAct.TheVariants as client
@@ -12,7 +12,7 @@ use Rattle.itchsnap_c.specs.declared.answers.Act.{Act}
 use Rattle.itchsnap_c.specs.declared.answers.Answer.{Answer}
 use Rattle.itchsnap_c.specs.Codes.{coded, done}
 
--- a code, and the number and the detail that it adds
+-- a code, and its number and detail
 abbrev pub act : ℕ → ℕ → ℕ → Act
 act code number detail = record { number = number; detail = detail; code = code }
 
@@ -33,7 +33,7 @@ soup_fault_act (fault.WrongStart next asked) = act 101 0 0
 soup_fault_act fault.EndedEarly = act 101 0 0
 soup_fault_act (fault.Snapshot why) = act 101 0 0
 
--- what a client learns; the bytes of a message follow the first byte of its packet
+-- the meaning of a packet for a client; the bytes of a message follow the first byte of its packet
 abbrev pub client_act : ClientAct → Act
 client_act (client.Accepted next) = act 80 next 0
 client_act (client.Rejected code) = act 81 0 code
@@ -42,7 +42,7 @@ client_act client.Nothing = act 0 0 0
 client_act client.Ended = act 83 0 0
 client_act (client.Fault f) = soup_fault_act f
 
--- what a server does
+-- the action of a server
 abbrev pub server_act : ServerAct → Act
 server_act (server.Accept next) = act 80 next 0
 server_act (server.Reject code) = act 81 0 code
@@ -50,7 +50,7 @@ server_act server.Nothing = act 0 0 0
 server_act server.Close = act 84 0 0
 server_act (server.Fault f) = soup_fault_act f
 
--- what is due
+-- the action due
 abbrev pub tick_answer : Tick → Answer
 tick_answer tick.Nothing = done
 tick_answer tick.Heartbeat = coded 85 0

@@ -1,13 +1,13 @@
-//! What C gets: small structs, each with a code.
+//! The results for C: small structs, each with a code.
 //!
-//! A code is 0 where the call did what it says, and else the number of its refusal, as `c/itchsnap.h` has it.
+//! A code is 0 if the call succeeded, and else the number of its refusal, as in `c/itchsnap.h`.
 
 /// The result of a call.
 #[repr(C)]
 #[derive(Clone, Copy, Drop)]
 pub struct Answer {
-    /// The detail of the refusal, 0 if it has none: the offset of a bad byte, the length that is wanted, the shares that remain,
-    /// or the bytes of an unfinished block.
+    /// The detail of the refusal, 0 if it has none: the offset of a bad byte, the expected length, the shares that remain, or the number of
+    /// bytes of an unfinished block.
     pub detail: u64,
     pub code: u32,
 }
@@ -21,11 +21,11 @@ pub struct BookOrder {
     pub price: u32,
     pub shares: u32,
     pub locate: u16,
-    /// Whether it is an order to buy.
+    /// True for an order to buy.
     pub buy: bool,
-    /// Whether it came with a market participant.
+    /// True if the order came with an MPID.
     pub attributed: bool,
-    /// The market participant, padded with spaces; zeros if there is none.
+    /// The MPID, padded with spaces; zeros if there is none.
     pub mpid: [u8; 4],
     pub code: u32,
 }
@@ -34,11 +34,11 @@ pub struct BookOrder {
 #[repr(C)]
 #[derive(Clone, Copy, Drop)]
 pub struct Level {
-    /// The sum of the shares, of which these are the lower 64 bits.
+    /// The lower 64 bits of the sum of the shares.
     pub shares_low: u64,
-    /// The upper 64 bits of the sum.
+    /// The upper 64 bits of the sum of the shares.
     pub shares_high: u64,
-    /// How many orders there are.
+    /// The number of orders.
     pub orders: u64,
     pub code: u32,
 }
@@ -47,7 +47,7 @@ pub struct Level {
 #[repr(C)]
 #[derive(Clone, Copy, Drop)]
 pub struct Price {
-    /// With four implied decimals.
+    /// The price with four implied decimals.
     pub price: u32,
     pub code: u32,
 }
@@ -64,13 +64,13 @@ pub struct Count {
 #[repr(C)]
 #[derive(Clone, Copy, Drop)]
 pub struct PriceLevel {
-    /// The sum of the shares, of which these are the lower 64 bits.
+    /// The lower 64 bits of the sum of the shares.
     pub shares_low: u64,
-    /// The upper 64 bits of the sum.
+    /// The upper 64 bits of the sum of the shares.
     pub shares_high: u64,
-    /// How many orders there are.
+    /// The number of orders.
     pub orders: u64,
-    /// With four implied decimals.
+    /// The price with four implied decimals.
     pub price: u32,
 }
 
@@ -83,22 +83,22 @@ pub struct Stock {
     pub code: u32,
 }
 
-/// How blocks were applied.
+/// The result of applying blocks.
 #[repr(C)]
 #[derive(Clone, Copy, Drop)]
 pub struct Applied {
-    /// How many messages were applied.
+    /// The number of messages that were applied.
     pub count: u64,
-    /// As in `Answer`, of what comes after them.
+    /// As in `Answer`, for the block after them.
     pub detail: u64,
     pub code: u32,
 }
 
-/// What was written into a caller's memory.
+/// The result of writing into a caller's memory.
 #[repr(C)]
 #[derive(Clone, Copy, Drop)]
 pub struct Written {
-    /// How many bytes or items there are, if they were written or there is no room for them.
+    /// The number of bytes or items, if they were written or there is no room for them.
     pub len: usize,
     pub code: u32,
 }
@@ -109,28 +109,28 @@ pub struct Written {
 pub struct Loaded {
     /// The number of the first message that the snapshot does not contain.
     pub next: u64,
-    /// The place of the message that is refused, or that memory is refused for, counted from 1; 0 if there is none.
+    /// The place of the message that is refused, or for which memory ran out, counted from 1; 0 if there is none.
     pub place: u64,
     /// As in `Answer`.
     pub detail: u64,
     pub code: u32,
 }
 
-/// What a joiner did.
+/// The result of a joiner's call.
 #[repr(C)]
 #[derive(Clone, Copy, Drop)]
 pub struct Joined {
-    /// The number of the next message, of the message that is refused, or of the place in the snapshot; or the number of messages
-    /// that may wait, if as many do.
+    /// The number of the next message, of the message that is refused, or of the place in the snapshot; or the greatest number of waiting
+    /// messages, if it is reached.
     pub number: u64,
-    /// As in `Answer`, of the cause.
+    /// As in `Answer`, for the cause.
     pub detail: u64,
     pub code: u32,
     /// The code of the reason why a message is refused; 0 if none is.
     pub cause: u32,
 }
 
-/// What a session does after a packet.
+/// The action of a session after a packet.
 #[repr(C)]
 #[derive(Clone, Copy, Drop)]
 pub struct Act {
@@ -141,8 +141,7 @@ pub struct Act {
     pub code: u32,
 }
 
-/// What a client logs in with, or the login that a server accepts and the session that it serves. Each text is padded with
-/// spaces.
+/// The credentials of a client, or those that a server accepts and the session that it serves. Each text is padded with spaces.
 #[repr(C)]
 #[derive(Clone, Copy, Drop)]
 pub struct Login {
@@ -167,26 +166,26 @@ pub struct AcceptancePacket {
     pub code: u32,
 }
 
-/// How a call over a day file ended.
+/// The result of a call over a day file.
 #[repr(C)]
 #[derive(Clone, Copy, Drop)]
 pub struct Outcome {
-    /// How many messages were taken. The place of the one that is refused, counted from 1, is one more.
+    /// The number of messages that were taken. The place of the one that is refused, counted from 1, is one more.
     pub count: u64,
-    /// How many bytes the snapshot has, if it was written or there is no room for it.
+    /// The length of the snapshot in bytes, if it was written or there is no room for it.
     pub len: usize,
     /// As in `Answer`.
     pub detail: u64,
     pub code: u32,
 }
 
-/// How two day files compare.
+/// The result of comparing two day files.
 #[repr(C)]
 #[derive(Clone, Copy, Drop)]
 pub struct Comparison {
     /// 0 if the markets are the same, otherwise the place of the first message, counted from 1, in which their snapshots differ.
     pub place: u64,
-    /// How many messages of the file that is refused were taken.
+    /// The number of messages that were taken of the file that is refused.
     pub count: u64,
     /// As in `Answer`.
     pub detail: u64,

@@ -1,4 +1,4 @@
-//! Blocks of a day file, applied to a market that C keeps.
+//! Applies blocks of a day file to a market in C's handle.
 ghost use Rattle.std.specs.Prelude.{◌≡◌};
 ghost use Rattle.itchsnap_c.specs.Blocks.{AppliesBlocks, applied, unapplied};
 ghost use Rattle.itchsnap_c.specs.Objects.{OnHandle, AtMarket};
@@ -14,8 +14,8 @@ use std::alloc::Global;
 
 /// Applies the messages of blocks to a market, in order, up to the first that is not taken; an empty block ends them.
 ///
-/// The blocks may be a piece of a day file: of an unfinished block at the end the answer says how many bytes there are, and they come
-/// first in the next piece.
+/// The blocks may be a piece of a day file: if it ends inside a block, the answer is that of an unfinished block and `detail` counts the
+/// bytes left over; pass them again at the front of the next piece.
 #[unsafe(no_mangle)]
 pub extern "C" fn itchsnap_market_apply_blocks(
     alloc: Global,
@@ -49,7 +49,7 @@ fn apply_all(alloc: Global, market: &mut Market<Book>, blocks: &[u8]) -> Applied
     applied(end.count, stop_answer(&end.stop))
 }
 
-// So many messages were applied, and this came after them.
+// Returns the result after that many applied messages, with this answer for the stop.
 fn applied(count: u64, answer: Answer) -> Applied
     ensures { result ≡ applied count answer }
 {
@@ -60,7 +60,7 @@ fn applied(count: u64, answer: Answer) -> Applied
     }
 }
 
-// No message was applied, for this reason.
+// Returns the result without an applied message, for this reason.
 fn unapplied(code: u32) -> Applied
     ensures { result ≡ unapplied code }
 {

@@ -1,4 +1,4 @@
-//! The sessions of clients that C keeps.
+//! The sessions of clients in C's handles.
 ghost use Rattle.std.specs.Prelude.{◌≡◌};
 ghost use Rattle.itchsnap_c.specs.Objects.{OnHandle, AtClient};
 ghost use Rattle.itchsnap_c.specs.Sessions.{FillsClient, ClientHears, held_client, login_in, wrong_act};
@@ -13,8 +13,8 @@ use itch_codec::GREATEST_SEQ;
 use itch_soup::{ClientSession, Origin, parse_packet};
 use std::alloc::Global;
 
-/// Puts a client's session into an empty handle. It begins at this moment, in milliseconds, and asks for the messages from number
-/// `from` on; 0 asks for all of them.
+/// Puts a client's session into an empty handle. It begins at `now_ms`, in milliseconds, and requests the messages from number `from` on; 0
+/// requests all of them.
 #[unsafe(no_mangle)]
 pub extern "C" fn itchsnap_client_new(
     alloc: Global,
@@ -37,7 +37,7 @@ pub extern "C" fn itchsnap_client_new(
     )
 }
 
-/// The login request to send first.
+/// Returns the login request to send first.
 #[unsafe(no_mangle)]
 pub extern "C" fn itchsnap_client_login(alloc: Global, handle: &mut Handle) -> LoginPacket
     ensures login { result ≡ login_in (held_client handle.old.kept.object) }
@@ -53,8 +53,8 @@ pub extern "C" fn itchsnap_client_login(alloc: Global, handle: &mut Handle) -> L
     )
 }
 
-/// What a packet means that was heard at this moment, in milliseconds. A block that is no packet of a server is refused, and
-/// leaves the session as it was.
+/// Returns the meaning of a packet received at `now_ms`, in milliseconds. A block that is not a packet of a server is refused, and the
+/// session is unchanged.
 #[unsafe(no_mangle)]
 pub extern "C" fn itchsnap_client_packet(
     alloc: Global,
@@ -76,7 +76,7 @@ fn hear(session: &mut ClientSession, block: &[u8], now_ms: u64) -> Act
     }
 }
 
-// The answer where a handle holds no client's session.
+// The result if a handle holds no client's session.
 const NO_LOGIN: LoginPacket = LoginPacket {
     bytes: [0; 47],
     code: WRONG_HANDLE,

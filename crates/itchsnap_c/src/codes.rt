@@ -11,7 +11,7 @@ use itch_snapshot::SnapFault;
 /// There are no bytes.
 pub(crate) const EMPTY: u32 = 1;
 
-/// There are more or fewer bytes than the type has.
+/// The length is not that of the type.
 pub(crate) const WRONG_LENGTH: u32 = 2;
 
 /// A byte of a text is not printable.
@@ -26,16 +26,16 @@ pub(crate) const TOO_MANY_MESSAGES: u32 = 33;
 /// A block was not read.
 pub(crate) const UNREAD: u32 = 34;
 
-/// Memory was refused.
+/// Memory ran out.
 pub(crate) const OUT_OF_MEMORY: u32 = 48;
 
 /// The caller's memory is too short.
 pub(crate) const NO_ROOM: u32 = 49;
 
-/// The handle does not hold what the call is about.
+/// The handle does not hold an object of the right kind.
 pub(crate) const WRONG_HANDLE: u32 = 50;
 
-/// The handle already holds something.
+/// The handle already holds an object.
 pub(crate) const IN_USE: u32 = 51;
 
 /// There is no such order, price, stock or message.
@@ -47,49 +47,49 @@ pub(crate) const NOT_JOINED: u32 = 53;
 /// The number is not from 1 to 10^19.
 pub(crate) const NO_NUMBER: u32 = 54;
 
-/// The call did its work.
+/// The call succeeded.
 pub(crate) const DONE: Answer = Answer { detail: 0, code: 0 };
 
-/// The answer of a call on a handle that does not hold what the call is about.
+/// The answer of a call on a handle that does not hold an object of the right kind.
 pub(crate) const WRONG: Answer = Answer {
     detail: 0,
     code: WRONG_HANDLE,
 };
 
-/// The answer if memory was refused.
+/// The answer if memory ran out.
 pub(crate) const NO_MEMORY: Answer = Answer {
     detail: 0,
     code: OUT_OF_MEMORY,
 };
 
-/// The answer of a call that would fill a handle which holds something.
+/// The answer of a call that would fill a handle that holds an object.
 pub(crate) const TAKEN: Answer = Answer {
     detail: 0,
     code: IN_USE,
 };
 
-/// A code, and what it adds.
+/// Returns a code and its detail.
 pub(crate) fn coded(code: u32, detail: u64) -> Answer
     ensures { result ≡ coded code detail }
 {
     Answer { detail, code }
 }
 
-/// A number.
+/// Returns a number.
 pub(crate) fn counted(count: u64) -> Count
     ensures { result ≡ counted count }
 {
     Count { count, code: 0 }
 }
 
-/// No number, for this reason.
+/// Returns no number, for this reason.
 pub(crate) fn no_count(code: u32) -> Count
     ensures { result ≡ no_count code }
 {
     Count { count: 0, code }
 }
 
-/// What is returned for a message that was taken or not.
+/// Returns the answer for a message that was taken or not.
 pub(crate) fn outcome_answer(outcome: &Result<(), Stop>) -> Answer
     ensures { result ≡ outcome_answer outcome.now }
 {
@@ -99,7 +99,7 @@ pub(crate) fn outcome_answer(outcome: &Result<(), Stop>) -> Answer
     }
 }
 
-/// What is returned for a payload that spells no message.
+/// Returns the answer for a payload that is not a valid message.
 pub(crate) fn codec_answer(fault: &CodecFault) -> Answer
     ensures { result ≡ codec_answer fault.now }
 {
@@ -112,7 +112,7 @@ pub(crate) fn codec_answer(fault: &CodecFault) -> Answer
     }
 }
 
-/// What is returned for the end of a replay.
+/// Returns the answer for the end of a replay.
 pub(crate) fn stop_answer(stop: &Stop) -> Answer
     ensures { result ≡ stop_answer stop.now }
 {
@@ -126,7 +126,7 @@ pub(crate) fn stop_answer(stop: &Stop) -> Answer
     }
 }
 
-/// What is returned for a message that a market refuses.
+/// Returns the answer for a message that a market refuses.
 pub(crate) fn refusal_answer(why: &Refusal) -> Answer
     ensures { result ≡ refusal_answer why.now }
 {
@@ -143,7 +143,7 @@ pub(crate) fn refusal_answer(why: &Refusal) -> Answer
     }
 }
 
-/// What is returned if no snapshot was read.
+/// Returns the result if no snapshot was read.
 pub(crate) fn not_loaded(code: u32) -> Loaded
     ensures { result ≡ not_loaded code }
 {
@@ -155,7 +155,7 @@ pub(crate) fn not_loaded(code: u32) -> Loaded
     }
 }
 
-// What is returned for a message of a snapshot that is refused.
+// Returns the result for a message of a snapshot that is refused.
 fn refused_at(place: u64, answer: Answer) -> Loaded
     ensures { result ≡ refused_at place answer }
 {
@@ -167,7 +167,7 @@ fn refused_at(place: u64, answer: Answer) -> Loaded
     }
 }
 
-/// What is returned for a snapshot file that is refused.
+/// Returns the result for a snapshot file that is refused.
 pub(crate) fn snapshot_answer(fault: &SnapFault) -> Loaded
     ensures { result ≡ snapshot_answer fault.now }
 {

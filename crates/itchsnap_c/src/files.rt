@@ -1,4 +1,4 @@
-//! Whole files in C's memory.
+//! Calls over whole files in C's memory.
 ghost use Rattle.std.specs.Prelude.{◌≡◌, IfOk, IfErr};
 ghost use Rattle.itchsnap_c.specs.Codes.{stop_answer};
 ghost use Rattle.itchsnap_c.specs.Files.{outcome, part_of, wanted, Checks, Snaps, Compares, ReadsDay, RefusesDay, parted, refused_in};
@@ -16,13 +16,13 @@ use itch_market::{Market, Stop, replay_part};
 use itch_snapshot::part_place;
 use std::alloc::Global;
 
-/// A file has fewer messages than are wanted.
+/// A file has fewer messages than requested.
 const SHORT: u32 = 37;
 
-/// The market of a day file, which is looked at once all messages are read.
+/// The market of a day file, which is only looked at once all messages are read.
 type DayMarket = Market<SettledBook<Global>>;
 
-/// The number of messages, and the time, that mean all messages of a file.
+/// As a number of messages or as a time, this requests all messages of a file.
 const ALL: u64 = u64::MAX;
 
 /// All messages.
@@ -31,7 +31,7 @@ const WHOLE: Limit = Limit {
     until: None,
 };
 
-/// Whether a day file follows the order rules: its number of messages, or where and why the first is refused.
+/// Checks that a day file follows the order rules. Returns its number of messages, or where and why the first one is refused.
 #[unsafe(no_mangle)]
 pub extern "C" fn itchsnap_check(alloc: Global, day: &[u8]) -> Outcome
     ensures { Checks day.now result }
@@ -42,8 +42,8 @@ pub extern "C" fn itchsnap_check(alloc: Global, day: &[u8]) -> Outcome
     }
 }
 
-/// Writes the canonical snapshot of a part of a day file to the front of `out`: of its first `after` messages, or of those before the
-/// first at the time `until` or later, whichever ends first.
+/// Writes the canonical snapshot of a part of a day file to the front of `out`: of its first `after` messages, or of those before the first
+/// at the time `until` or later, whichever comes first.
 #[unsafe(no_mangle)]
 pub extern "C" fn itchsnap_snap(
     alloc: Global,
@@ -60,7 +60,7 @@ pub extern "C" fn itchsnap_snap(
     }
 }
 
-/// The same for the market cut down to the locates of a list. Still, every message has to follow the order rules.
+/// Does the same for the market restricted to the locates of a list. Every message must still follow the order rules.
 #[unsafe(no_mangle)]
 pub extern "C" fn itchsnap_snap_only(
     alloc: Global,
@@ -80,8 +80,8 @@ pub extern "C" fn itchsnap_snap_only(
     }
 }
 
-/// Whether two day files leave the same market: 0, or the place of the first message, counted from 1, in which the snapshots
-/// of the two markets differ.
+/// Compares the markets of two day files. Returns 0 if they are the same, or the place of the first message, counted from 1, in which the
+/// snapshots of the two markets differ.
 #[unsafe(no_mangle)]
 pub extern "C" fn itchsnap_compare(alloc: Global, first: &[u8], second: &[u8]) -> Comparison
     ensures { Compares first.now second.now result }
@@ -96,7 +96,7 @@ pub extern "C" fn itchsnap_compare(alloc: Global, first: &[u8], second: &[u8]) -
     }
 }
 
-// The market of the messages of a day file, or of a part of it, and how many there are. It is settled.
+// Returns the settled market after a day file, or a part of it, and the number of messages.
 fn read_day(alloc: Global, day: &[u8], limit: Limit) -> Result<(DayMarket, u64), Outcome>
     ensures read { IfOk result (λ done. ReadsDay day.now limit done.0 done.1) }
     ensures refused { IfErr result (λ outcome. RefusesDay day.now limit outcome) }
@@ -106,7 +106,7 @@ fn read_day(alloc: Global, day: &[u8], limit: Limit) -> Result<(DayMarket, u64),
     Ok((market, count))
 }
 
-// The same, not settled.
+// Returns the same without settling the market.
 fn read_messages(alloc: Global, day: &[u8], limit: Limit) -> Result<(DayMarket, u64), Outcome>
     ensures read { IfOk result (λ done. ReadsDay day.now limit done.0 done.1) }
     ensures refused { IfErr result (λ outcome. RefusesDay day.now limit outcome) }
@@ -126,7 +126,7 @@ fn read_messages(alloc: Global, day: &[u8], limit: Limit) -> Result<(DayMarket, 
     }
 }
 
-// How a call over a day file ends that this stopped, after so many messages.
+// Returns the result of a call over a day file with this stop, after that many messages.
 fn stopped(count: u64, stop: &Stop) -> Outcome
     ensures { result ≡ outcome count 0 (stop_answer stop.now).detail (stop_answer stop.now).code }
 {
@@ -134,7 +134,7 @@ fn stopped(count: u64, stop: &Stop) -> Outcome
     outcome(count, 0, answer.detail, answer.code)
 }
 
-// The part of a file that is wanted.
+// Returns the requested part of a file.
 fn part_of(after: u64, until: u64) -> Limit
     ensures { result ≡ part_of after until }
 {

@@ -1,4 +1,4 @@
-//! What C holds of an object.
+//! Handles of objects for C.
 ghost use Rattle.std.specs.Prelude.{◌≡◌, IsNone, IsSome, Some, None, true, false, MatchOption};
 ghost use Rattle.itchsnap_c.specs.Objects.{Fills};
 
@@ -13,7 +13,7 @@ use itch_soup::{ClientSession, ServerSession};
 use std::alloc::Global;
 use std::mem::replace;
 
-/// An object that C holds, or none: all zeros mean none.
+/// A handle of an object, or an empty one: all zeros mean empty.
 #[repr(C)]
 #[derive(Drop)]
 pub struct Handle {
@@ -28,7 +28,7 @@ impl Handle {
     ghost use Rattle.std.specs.Fn.{FnOnceReturnsAt, FnOnceReturnsAtMut};
     ghost use Rattle.itchsnap_c.specs.Objects.{Fills, OnHandle, AtJoiner, AtClient, AtServer, held_market};
 
-    /// Whether there is an object.
+    /// Returns whether there is an object.
     pub(crate) fn is_live(&self) -> bool
         ensures held { result ≡ true → IsSome self.now.kept.object }
         ensures none { result ≡ false → self.now.kept.object ≡ None }
@@ -48,7 +48,7 @@ impl Handle {
         Some(unseal(alloc, replace(&mut self.kept, empty())).into_box())
     }
 
-    /// Puts an object in. What was there is forgotten.
+    /// Puts an object in, without freeing an earlier one.
     pub(crate) fn put(&mut self, object: Box<Object>)
         ensures { self.new.kept.object ≡ Some object.value }
     {
@@ -70,7 +70,7 @@ impl Handle {
         DONE
     }
 
-    /// Makes a call on the object; where there is none, the answer is `wrong`.
+    /// Calls a function with the object; if there is none, the answer is `wrong`.
     pub(crate) fn with<R: Copy, F: FnOnce(&mut Object) -> R>(
         &mut self,
         alloc: Global,
@@ -88,7 +88,7 @@ impl Handle {
         answer
     }
 
-    /// Makes a call on the joiner; where there is none, the answer is `wrong`.
+    /// Calls a function with the joiner; if there is none, the answer is `wrong`.
     pub(crate) fn with_joiner<R: Copy, F: FnOnce(&mut Joiner<Book>) -> R>(
         &mut self,
         alloc: Global,
@@ -101,7 +101,7 @@ impl Handle {
         self.with(alloc, wrong, |object| object.at_joiner(wrong, call))
     }
 
-    /// The same of a client's session.
+    /// Does the same with a client's session.
     pub(crate) fn with_client<R: Copy, F: FnOnce(&mut ClientSession) -> R>(
         &mut self,
         alloc: Global,
@@ -114,7 +114,7 @@ impl Handle {
         self.with(alloc, wrong, |object| object.at_client(wrong, call))
     }
 
-    /// The same of a server's session.
+    /// Does the same with a server's session.
     pub(crate) fn with_server<R: Copy, F: FnOnce(&mut ServerSession) -> R>(
         &mut self,
         alloc: Global,
@@ -127,7 +127,7 @@ impl Handle {
         self.with(alloc, wrong, |object| object.at_server(wrong, call))
     }
 
-    /// Looks something up in the market; where there is none, the answer is `wrong`.
+    /// Calls a function with the market; if there is none, the answer is `wrong`.
     pub(crate) fn look_up<R: Drop, F: FnOnce(&Market<Book>) -> R>(
         &mut self,
         alloc: Global,
@@ -147,7 +147,7 @@ impl Handle {
     }
 }
 
-/// Frees what a handle holds, if it holds anything. The handle is then empty.
+/// Frees the object in a handle, if there is one. The handle is then empty.
 #[unsafe(no_mangle)]
 pub extern "C" fn itchsnap_free(alloc: Global, handle: &mut Handle)
     ensures { handle.new.kept.object ≡ None }

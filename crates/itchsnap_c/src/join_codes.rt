@@ -1,4 +1,4 @@
-//! The numbers of what a joiner returns.
+//! The numbers of a joiner's results.
 ghost use Rattle.std.specs.Prelude.{◌≡◌};
 ghost use Rattle.itchsnap_c.specs.JoinCodes.{coded_number, cause_answer, caused, join_fault_answer, live_answer, snap_answer, resumed_answer};
 
@@ -19,7 +19,7 @@ pub(crate) const WRONG_JOINED: Joined = Joined {
     cause: 0,
 };
 
-/// What is returned for a message of the live feed.
+/// Returns the result for a message of the live feed.
 pub(crate) fn live_answer(taken: &Result<Live, JoinFault>) -> Joined
     ensures { result ≡ live_answer taken.now }
 {
@@ -31,7 +31,7 @@ pub(crate) fn live_answer(taken: &Result<Live, JoinFault>) -> Joined
     }
 }
 
-/// What is returned for a message of the snapshot.
+/// Returns the result for a message of the snapshot.
 pub(crate) fn snap_answer(taken: &Result<Snap, JoinFault>) -> Joined
     ensures { result ≡ snap_answer taken.now }
 {
@@ -42,7 +42,7 @@ pub(crate) fn snap_answer(taken: &Result<Snap, JoinFault>) -> Joined
     }
 }
 
-/// What is returned after a resume.
+/// Returns the result after a resume.
 pub(crate) fn resumed_answer(taken: &Result<Option<u64>, JoinFault>) -> Joined
     ensures { result ≡ resumed_answer taken.now }
 {

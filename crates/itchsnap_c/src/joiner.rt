@@ -1,4 +1,4 @@
-//! Joiners that C keeps: a snapshot and the live feed, joined into one market.
+//! Joiners in C's handles: they join a snapshot and the live feed into one market.
 ghost use Rattle.std.specs.Prelude.{◌≡◌};
 ghost use Rattle.itchsnap_c.specs.Codes.{wrong};
 ghost use Rattle.itchsnap_c.specs.Objects.{OnHandle, AtJoiner};
@@ -14,7 +14,7 @@ use itch_join::Joiner;
 use itch_market::LocateSet;
 use std::alloc::Global;
 
-/// Puts a new joiner, in which at most `cap` messages will wait, into an empty handle.
+/// Puts a new joiner, with room for `cap` waiting messages, into an empty handle.
 #[unsafe(no_mangle)]
 pub extern "C" fn itchsnap_joiner_new(alloc: Global, handle: &mut Handle, cap: usize) -> Answer
     ensures { FillsAll cap handle.old.kept.object result handle.new.kept.object }
@@ -23,7 +23,7 @@ pub extern "C" fn itchsnap_joiner_new(alloc: Global, handle: &mut Handle, cap: u
     handle.fill(alloc, Object::Joiner(joiner))
 }
 
-/// The same for the locates of a list: messages at other locates are decoded and counted, and change nothing else.
+/// Does the same for the locates of a list: messages at other locates are decoded and counted, and change nothing else.
 #[unsafe(no_mangle)]
 pub extern "C" fn itchsnap_joiner_new_only(
     alloc: Global,
@@ -57,7 +57,7 @@ pub extern "C" fn itchsnap_joiner_live(
     })
 }
 
-/// Takes a message of the snapshot; messages come in their order, End of Snapshot last.
+/// Takes a message of the snapshot. Messages must come in order, End of Snapshot last.
 #[unsafe(no_mangle)]
 pub extern "C" fn itchsnap_joiner_snapshot(
     alloc: Global,
@@ -71,7 +71,7 @@ pub extern "C" fn itchsnap_joiner_snapshot(
     })
 }
 
-/// Drops an unfinished or broken snapshot, and keeps what waits. Once joined it changes nothing.
+/// Drops an unfinished or broken snapshot, and keeps waiting messages. Once joined it changes nothing.
 #[unsafe(no_mangle)]
 pub extern "C" fn itchsnap_joiner_restart(alloc: Global, handle: &mut Handle) -> Answer
     ensures { OnHandle wrong (AtJoiner wrong Restarts) handle.old.kept.object result handle.new.kept.object }
@@ -82,7 +82,7 @@ pub extern "C" fn itchsnap_joiner_restart(alloc: Global, handle: &mut Handle) ->
     })
 }
 
-/// Applies what waits, up to the first missing number, for use after memory was refused.
+/// Applies waiting messages, up to the first missing number. Use it after memory ran out.
 #[unsafe(no_mangle)]
 pub extern "C" fn itchsnap_joiner_resume(alloc: Global, handle: &mut Handle) -> Joined
     ensures { OnHandle wrong_joined (AtJoiner wrong_joined Resumes) handle.old.kept.object result handle.new.kept.object }
@@ -92,7 +92,7 @@ pub extern "C" fn itchsnap_joiner_resume(alloc: Global, handle: &mut Handle) -> 
     })
 }
 
-/// The number of the next message of the feed, once joined.
+/// Returns the number of the next message of the feed, once joined.
 #[unsafe(no_mangle)]
 pub extern "C" fn itchsnap_joiner_next(alloc: Global, handle: &mut Handle) -> Count
     ensures next { result ≡ next_in (held_joiner handle.old.kept.object) }
@@ -108,7 +108,7 @@ pub extern "C" fn itchsnap_joiner_next(alloc: Global, handle: &mut Handle) -> Co
     )
 }
 
-/// The number of messages that wait.
+/// Returns the number of waiting messages.
 #[unsafe(no_mangle)]
 pub extern "C" fn itchsnap_joiner_waiting(alloc: Global, handle: &mut Handle) -> Count
     ensures waiting { result ≡ waiting_in (held_joiner handle.old.kept.object) }

@@ -1,4 +1,4 @@
-//! An object to which C keeps a pointer.
+//! An object to which C has a pointer.
 ghost use Rattle.std.specs.Prelude.{◌≡◌, IsSome, Some, None, Option};
 ghost use Rattle.std.specs.Coded.{codes};
 ghost use Rattle.std.specs.FinMap as map;
@@ -22,7 +22,7 @@ impl Model for Kept {
     ghost also_owns = { λ k. kept_owns k.at k.object };
 }
 
-/// No object.
+/// Returns no object.
 pub(crate) fn empty() -> Kept
     ensures { result.object ≡ None }
 {
@@ -31,7 +31,7 @@ pub(crate) fn empty() -> Kept
     }
 }
 
-/// The block of an object, as a pointer whose type C does not see.
+/// Returns the block of an object, as a pointer whose type C does not see.
 pub(crate) fn seal(loose: Loose<Object, Global>) -> Kept
     ensures { result.object ≡ Some loose.value }
 {
@@ -39,7 +39,7 @@ pub(crate) fn seal(loose: Loose<Object, Global>) -> Kept
     Kept { at: at as *mut u8 }
 }
 
-/// The block of an object, as a typed pointer again.
+/// Returns the block of an object, as a typed pointer again.
 pub(crate) fn unseal(alloc: Global, kept: Kept) -> Loose<Object, Global>
     requires { IsSome kept.object }
     ensures { kept.object ≡ Some result.value }

@@ -1,8 +1,8 @@
 //! The toolkit for programs in C, C++, Python and Rust: each export calls one function of the libraries.
 //!
-//! C keeps each object in a [`Handle`](handle::Handle): all zero at first, filled by a call with `new` or `load` in its name,
-//! and emptied by [`itchsnap_free`](handle::itchsnap_free). Every export returns for every handle: one that does not hold what
-//! the call is about is refused with a code, and is left as it was.
+//! C keeps each object in a [`Handle`](handle::Handle): all zero at first, filled by a call with `new` or `load` in its name, and emptied
+//! by [`itchsnap_free`](handle::itchsnap_free). Every export accepts every handle: if the handle does not hold an object of the right kind,
+//! the call is refused with a code, and the handle is unchanged.
 //!
 //! ```c
 //! itchsnap_handle market = ITCHSNAP_NONE;
@@ -21,6 +21,7 @@ pub mod answers;
 pub mod blocks;
 pub mod client;
 mod codes;
+pub mod fields;
 pub mod files;
 pub mod handle;
 mod join_codes;
@@ -32,6 +33,8 @@ mod loose;
 pub mod market;
 pub mod message;
 mod object;
+pub mod reasons;
+pub mod rows;
 pub mod server;
 pub mod session;
 mod slice;
@@ -41,7 +44,7 @@ pub mod times;
 
 const VERSION: u32 = 1;
 
-/// The version of this interface, as the header has it in `ITCHSNAP_VERSION`.
+/// Returns the version of this interface, which is `ITCHSNAP_VERSION` in the header.
 #[unsafe(no_mangle)]
 pub extern "C" fn itchsnap_version() -> u32
     ensures { result ≡ 1 }

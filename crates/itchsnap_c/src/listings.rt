@@ -1,4 +1,4 @@
-//! What the market of a handle lists: the locates and the stocks of its directory, the orders of a locate, the price levels of a side.
+//! Lists of the market of a handle: the locates and the stocks of its directory, the orders of a locate, the price levels of a side.
 ghost use Rattle.std.specs.Prelude.{◌≡◌};
 ghost use Rattle.std.specs.Option.{option_copied};
 ghost use Rattle.itchsnap_c.specs.Objects.{held_market};
@@ -16,7 +16,7 @@ use itch_codec::Side;
 use itch_market::{Market, Security};
 use std::alloc::Global;
 
-/// Writes the locates of the directory to the front of `out`, rising. If there is no room for them, `out` stays as it was.
+/// Writes the locates of the directory to the front of `out`, in ascending order. If there is no room for them, `out` is unchanged.
 #[unsafe(no_mangle)]
 pub extern "C" fn itchsnap_locates(alloc: Global, handle: &mut Handle, out: &mut [u16]) -> Written
     ensures listed { Lists locates_of (held_market handle.old.kept.object) out.old result out.new }
@@ -26,7 +26,7 @@ pub extern "C" fn itchsnap_locates(alloc: Global, handle: &mut Handle, out: &mut
     put(&items, out)
 }
 
-/// The stock that a locate has in the directory.
+/// Returns the stock of a locate in the directory.
 #[unsafe(no_mangle)]
 pub extern "C" fn itchsnap_stock(alloc: Global, handle: &mut Handle, locate: u16) -> Stock
     ensures stock { result ≡ stock_in (held_market handle.old.kept.object) locate }

@@ -11,7 +11,7 @@ use itch_book::{Order, OrderBook};
 use itch_codec::Side;
 use std::alloc::Global;
 
-/// The order that has priority at a locate and side.
+/// Returns the order that has priority at a locate and side.
 #[unsafe(no_mangle)]
 pub extern "C" fn itchsnap_best(
     alloc: Global,
@@ -27,7 +27,7 @@ pub extern "C" fn itchsnap_best(
     })
 }
 
-/// The live order with this reference.
+/// Returns the live order with this reference.
 #[unsafe(no_mangle)]
 pub extern "C" fn itchsnap_order_by(alloc: Global, handle: &mut Handle, reference: u64) -> BookOrder
     ensures order { result ≡ order_in (held_market handle.old.kept.object) reference }
@@ -38,7 +38,7 @@ pub extern "C" fn itchsnap_order_by(alloc: Global, handle: &mut Handle, referenc
     })
 }
 
-/// The shares and the orders at a price of a locate and side: 0 if no order has the price.
+/// Returns the shares and the number of orders at a price of a locate and side: 0 if no order has the price.
 #[unsafe(no_mangle)]
 pub extern "C" fn itchsnap_level(
     alloc: Global,
@@ -55,7 +55,7 @@ pub extern "C" fn itchsnap_level(
     })
 }
 
-/// The best price of a locate and side, or with `after` the best one that is worse than `last`.
+/// Returns the best price of a locate and side, or with `after` the best one that is worse than `last`.
 #[unsafe(no_mangle)]
 pub extern "C" fn itchsnap_next_price(
     alloc: Global,
@@ -74,7 +74,7 @@ pub extern "C" fn itchsnap_next_price(
     })
 }
 
-/// The number of live orders.
+/// Returns the number of live orders.
 #[unsafe(no_mangle)]
 pub extern "C" fn itchsnap_order_count(alloc: Global, handle: &mut Handle) -> Count
     ensures count { result ≡ count_in (held_market handle.old.kept.object) }
@@ -154,7 +154,7 @@ fn level_answer(total: (u128, u64)) -> Level
     }
 }
 
-// The level where a handle holds no market.
+// The result if a handle holds no market.
 const NO_LEVEL: Level = Level {
     shares_low: 0,
     shares_high: 0,

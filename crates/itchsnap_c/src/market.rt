@@ -1,4 +1,4 @@
-//! Markets that C keeps.
+//! Markets in C's handles.
 ghost use Rattle.std.specs.Prelude.{◌≡◌, None, IfOk, IfErr};
 ghost use Rattle.itch_market.specs.Content as content;
 ghost use Rattle.itch_market.specs.Replays.{TakesOne};
@@ -25,8 +25,7 @@ pub extern "C" fn itchsnap_market_new(alloc: Global, handle: &mut Handle) -> Ans
     handle.fill(alloc, Object::Market(Market::new(alloc)))
 }
 
-/// Puts the market of a snapshot file into an empty handle. The messages of the file may be in any order that follows the order
-/// rules.
+/// Puts the market of a snapshot file into an empty handle. The messages of the file may be in any sequence that follows the order rules.
 #[unsafe(no_mangle)]
 pub extern "C" fn itchsnap_market_load(
     alloc: Global,
@@ -41,7 +40,7 @@ pub extern "C" fn itchsnap_market_load(
     load(alloc, handle, snapshot)
 }
 
-/// Applies the message of a payload to a market, or returns why not; then the market is as it was.
+/// Applies the message of a payload to a market, or returns the reason why it is not applied; then the market is unchanged.
 #[unsafe(no_mangle)]
 pub extern "C" fn itchsnap_market_apply(
     alloc: Global,
@@ -89,7 +88,7 @@ fn load(alloc: Global, handle: &mut Handle, snapshot: &[u8]) -> Loaded
     }
 }
 
-// The market of a snapshot file, boxed, and the number of the next message.
+// Returns the market of a snapshot file, boxed, and the number of the next message.
 fn read(alloc: Global, snapshot: &[u8]) -> Result<(Box<Object>, Seq), SnapFault>
     ensures market { IfOk result (λ done. HasMarketOf snapshot.now done.0.value done.1) }
     ensures fault { IfErr result (λ fault. IsRefusedFor snapshot.now fault) }
@@ -104,7 +103,7 @@ fn read(alloc: Global, snapshot: &[u8]) -> Result<(Box<Object>, Seq), SnapFault>
     }
 }
 
-// The fault where memory is refused before the first message, or after the last.
+// The fault if memory runs out before the first message, or after the last.
 const MEMORY_REFUSED: SnapFault = SnapFault::Rule {
     place: 0,
     reason: Refusal::OutOfMemory,

@@ -1,4 +1,4 @@
-//! What a handle holds.
+//! The objects in handles.
 ghost use Rattle.std.specs.Prelude.{◌≡◌};
 ghost use Rattle.std.specs.Fn.{FnOnceReturnsAtMut};
 ghost use Rattle.std.specs.Option.{option_copied};
@@ -13,7 +13,7 @@ use std::alloc::Global;
 /// The type of book in which every market of a handle keeps its orders.
 pub(crate) type Book = IndexedBook<Global>;
 
-/// What a handle holds.
+/// The object in a handle.
 #[derive(Drop)]
 pub(crate) enum Object {
     Market(Market<Book>),
@@ -23,7 +23,7 @@ pub(crate) enum Object {
 }
 
 impl Object {
-    /// The market in which look-ups are made: for a joiner the one that it keeps once it has joined.
+    /// Returns the market in which look-ups are made: for a joiner the one that it keeps once it has joined.
     pub(crate) fn market(&self) -> Option<&Market<Book>>
         ensures { option_copied result ≡ market_of self.now }
     {
@@ -34,7 +34,7 @@ impl Object {
         }
     }
 
-    /// Makes a call on a joiner; of any other object the answer is `wrong`.
+    /// Calls a function with a joiner; for any other object the answer is `wrong`.
     pub(crate) fn at_joiner<R: Copy, F: FnOnce(&mut Joiner<Book>) -> R>(
         &mut self,
         wrong: R,
@@ -49,7 +49,7 @@ impl Object {
         }
     }
 
-    /// The same of a client's session.
+    /// Does the same with a client's session.
     pub(crate) fn at_client<R: Copy, F: FnOnce(&mut ClientSession) -> R>(
         &mut self,
         wrong: R,
@@ -64,7 +64,7 @@ impl Object {
         }
     }
 
-    /// The same of a server's session.
+    /// Does the same with a server's session.
     pub(crate) fn at_server<R: Copy, F: FnOnce(&mut ServerSession) -> R>(
         &mut self,
         wrong: R,

@@ -1,4 +1,4 @@
-//! The sessions of servers that C keeps.
+//! The sessions of servers in C's handles.
 ghost use Rattle.std.specs.Prelude.{◌≡◌, Some};
 ghost use Rattle.itchsnap_c.specs.Objects.{OnHandle, AtServer};
 ghost use Rattle.itchsnap_c.specs.Sessions.{FillsServer, ServerHears, held_server, Accepts, no_acceptance, wrong_act};
@@ -13,7 +13,7 @@ use itch_codec::{MOST_MESSAGES, Seq};
 use itch_soup::{Origin, ServerConfig, ServerSession, parse_packet};
 use std::alloc::Global;
 
-/// Puts a server's session of `total` messages, which begins at this moment, in milliseconds, into an empty handle.
+/// Puts a server's session of `total` messages, which begins at `now_ms`, in milliseconds, into an empty handle.
 #[unsafe(no_mangle)]
 pub extern "C" fn itchsnap_server_new(
     alloc: Global,
@@ -41,7 +41,7 @@ pub extern "C" fn itchsnap_server_new(
     )
 }
 
-/// The packet to send once a login is accepted from this number on.
+/// Returns the packet to send once a login is accepted from this number on.
 #[unsafe(no_mangle)]
 pub extern "C" fn itchsnap_server_accepted(
     alloc: Global,
@@ -56,8 +56,8 @@ pub extern "C" fn itchsnap_server_accepted(
     })
 }
 
-/// What to do after a packet that was heard at this moment, in milliseconds. A block that is no packet of a client is refused,
-/// and leaves the session as it was.
+/// Returns the action after a packet received at `now_ms`, in milliseconds. A block that is not a packet of a client is refused, and the
+/// session is unchanged.
 #[unsafe(no_mangle)]
 pub extern "C" fn itchsnap_server_packet(
     alloc: Global,

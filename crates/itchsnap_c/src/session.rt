@@ -1,4 +1,4 @@
-//! What both ends of a session share.
+//! Calls for both ends of a session.
 ghost use Rattle.std.specs.Prelude.{◌≡◌, IfOk, IfErr};
 ghost use Rattle.itchsnap_c.specs.Codes.{wrong};
 ghost use Rattle.itchsnap_c.specs.Objects.{OnHandle};
@@ -13,7 +13,7 @@ use itch_codec::{Alpha, AlphaFault};
 use itch_soup::Credentials;
 use std::alloc::Global;
 
-/// What is due in a session at this moment, in milliseconds, without a packet. A heartbeat counts as sent.
+/// Returns the action due in a session at `now_ms`, in milliseconds, without a packet. A heartbeat counts as sent.
 #[unsafe(no_mangle)]
 pub extern "C" fn itchsnap_session_tick(alloc: Global, handle: &mut Handle, now_ms: u64) -> Answer
     ensures { OnHandle wrong (Ticks now_ms) handle.old.kept.object result handle.new.kept.object }
@@ -21,7 +21,7 @@ pub extern "C" fn itchsnap_session_tick(alloc: Global, handle: &mut Handle, now_
     handle.with(alloc, WRONG, |object| tick(object, now_ms))
 }
 
-/// Records that a session sent something at this moment, in milliseconds.
+/// Records that a session sent a packet at `now_ms`, in milliseconds.
 #[unsafe(no_mangle)]
 pub extern "C" fn itchsnap_session_sent(alloc: Global, handle: &mut Handle, now_ms: u64) -> Answer
     ensures { OnHandle wrong (Notes now_ms) handle.old.kept.object result handle.new.kept.object }
@@ -55,7 +55,7 @@ fn note(object: &mut Object, now_ms: u64) -> Answer
     }
 }
 
-/// The texts of a login.
+/// Returns the texts of a login.
 pub(crate) fn credentials(login: &Login) -> Result<Credentials, AlphaFault>
     ensures taken { IfOk result (λ made. AreTexts login.now × (made ≡ credentials_of login.now)) }
     ensures refused { IfErr result (λ fault. ¬ AreTexts login.now) }

@@ -17,8 +17,8 @@ use itch_market::{LocateSet, Market};
 use itch_snapshot::{snapshot_len, write_partial, write_snapshot};
 use std::alloc::Global;
 
-/// Writes the canonical snapshot of a market to the front of `out`, closed with this number of the next message. If there is no
-/// room for it, `out` stays as it was.
+/// Writes the canonical snapshot of a market to the front of `out`, closed with this number of the next message. If there is no room for
+/// it, `out` is unchanged.
 #[unsafe(no_mangle)]
 pub extern "C" fn itchsnap_snapshot(
     alloc: Global,
@@ -35,7 +35,7 @@ pub extern "C" fn itchsnap_snapshot(
     put(&bytes, out)
 }
 
-/// The same for the market cut down to the locates of a list.
+/// Does the same for the market restricted to the locates of a list.
 #[unsafe(no_mangle)]
 pub extern "C" fn itchsnap_snapshot_only(
     alloc: Global,
@@ -65,7 +65,7 @@ pub(crate) fn put_whole<B: OrderBook>(
     put(&whole_bytes(alloc, market, next), out)
 }
 
-/// Writes the snapshot of a market cut down to the locates of a list.
+/// Writes the snapshot of a market restricted to the locates of a list.
 pub(crate) fn put_partial<B: OrderBook<Alloc = Global>>(
     alloc: Global,
     market: &Market<B>,
@@ -78,7 +78,7 @@ pub(crate) fn put_partial<B: OrderBook<Alloc = Global>>(
     put(&partial_bytes(alloc, market, next, locates), out)
 }
 
-// The snapshot of a market, closed with this number, or the code of why there is none.
+// Returns the snapshot of a market, closed with this number, or the code for why there is none.
 fn whole_bytes<B: OrderBook>(alloc: Global, market: &Market<B>, next: u64) -> Result<Vec<u8>, u32>
     ensures { Spells market.now market.now next result }
 {
@@ -88,7 +88,7 @@ fn whole_bytes<B: OrderBook>(alloc: Global, market: &Market<B>, next: u64) -> Re
     Ok(writer.into_inner())
 }
 
-// The same of the market cut down to the locates of a list.
+// Returns the same for the market restricted to the locates of a list.
 fn partial_bytes<B: OrderBook<Alloc = Global>>(
     alloc: Global,
     market: &Market<B>,
@@ -104,7 +104,7 @@ fn partial_bytes<B: OrderBook<Alloc = Global>>(
     cut_bytes(alloc, market, &set, next)
 }
 
-// The same of the market cut down to a set.
+// Returns the same for the market restricted to a set.
 fn cut_bytes<B: OrderBook<Alloc = Global>>(
     alloc: Global,
     market: &Market<B>,
@@ -120,7 +120,7 @@ fn cut_bytes<B: OrderBook<Alloc = Global>>(
     Ok(writer.into_inner())
 }
 
-// The number that closes the snapshot of a market, or the code of why there is none.
+// Returns the number that closes the snapshot of a market, or the code for why there is none.
 fn closing_number<B: OrderBook>(market: &Market<B>, next: u64) -> Result<Seq, u32>
     ensures { Closes market.now next result }
 {
@@ -131,7 +131,7 @@ fn closing_number<B: OrderBook>(market: &Market<B>, next: u64) -> Result<Seq, u3
     Ok(next)
 }
 
-/// The set of the locates of a list.
+/// Returns the set of the locates of a list.
 pub(crate) fn set_of(alloc: Global, locates: &[u16]) -> Option<LocateSet<Global>>
     ensures { IfSome result (λ set. (locate : ℕ) → has set locate ≡ is_listed locates.now locate) }
 {
@@ -155,7 +155,8 @@ pub(crate) fn put<T: Copy>(items: &Result<Vec<T>, u32>, out: &mut [T]) -> Writte
     }
 }
 
-fn copy<T: Copy>(items: &[T], out: &mut [T]) -> Written
+/// The same of items that are there.
+pub(crate) fn copy<T: Copy>(items: &[T], out: &mut [T]) -> Written
     ensures { Copies items.now out.old result out.new }
 {
     let len = items.len();

@@ -1,4 +1,4 @@
-//! The numbers of what a session does.
+//! The numbers of a session's actions.
 ghost use Rattle.std.specs.Prelude.{◌≡◌};
 ghost use Rattle.itchsnap_c.specs.SoupCodes.{act, client_act, server_act, soup_fault_act, tick_answer};
 
@@ -21,7 +21,7 @@ pub(crate) const WRONG_ACT: Act = Act {
     code: WRONG_HANDLE,
 };
 
-/// What a client learns.
+/// Returns the action for the meaning of a packet for a client.
 pub(crate) fn client_act(learned: &ClientAct<'_>) -> Act
     ensures { result ≡ client_act learned.now }
 {
@@ -35,7 +35,7 @@ pub(crate) fn client_act(learned: &ClientAct<'_>) -> Act
     }
 }
 
-/// What a server does.
+/// Returns the action of a server.
 pub(crate) fn server_act(done: &ServerAct) -> Act
     ensures { result ≡ server_act done.now }
 {
@@ -48,7 +48,7 @@ pub(crate) fn server_act(done: &ServerAct) -> Act
     }
 }
 
-/// What is returned for a packet that breaks the protocol.
+/// Returns the action for a packet that breaks the protocol.
 pub(crate) fn soup_fault_act(fault: &SoupFault) -> Act
     ensures { result ≡ soup_fault_act fault.now }
 {
@@ -71,7 +71,7 @@ pub(crate) fn soup_fault_act(fault: &SoupFault) -> Act
     }
 }
 
-/// What is due.
+/// Returns the answer for the action due.
 pub(crate) fn tick_answer(tick: Tick) -> Answer
     ensures { result ≡ tick_answer tick }
 {

@@ -1,4 +1,4 @@
-//! Where a time of the day begins in the blocks of a day file.
+//! Finds the place where a time of the day begins in the blocks of a day file.
 ghost use Rattle.std.specs.Prelude.{IfOk};
 ghost use Rattle.itchsnap_c.specs.Times.{FindsTime, Finds, before};
 
@@ -10,11 +10,11 @@ use itch_day::{Limit, Mark, Marked, Sink, Stop, read_part};
 use itch_frame::BlockReader;
 use std::alloc::{AllocError, Global};
 
-/// How many bytes come before the block of the first message whose timestamp is `time` or later, in nanoseconds since midnight; or
+/// Returns the number of bytes before the block of the first message whose timestamp is `time` or later, in nanoseconds since midnight; or
 /// that there is none before the blocks end.
 ///
-/// Timestamps need not rise, so each message up to that one is decoded. A block that spells no message, or one without a timestamp, is
-/// passed over. An empty block ends the blocks, and so does an unfinished one.
+/// Timestamps need not be in order, so each message up to that one is decoded. A block that is not a valid message, or a message without a
+/// timestamp, is skipped. An empty block ends the blocks, and so does an unfinished one.
 #[unsafe(no_mangle)]
 pub extern "C" fn itchsnap_first_at(alloc: Global, blocks: &[u8], time: u64) -> Count
     ensures { FindsTime blocks.now time result }
@@ -26,7 +26,7 @@ pub extern "C" fn itchsnap_first_at(alloc: Global, blocks: &[u8], time: u64) -> 
     }
 }
 
-// How many bytes come before the block of the first message at a time or later, if there is one.
+// Returns the number of bytes before the block of the first message at a time or later, if there is one.
 fn bytes_before(alloc: Global, blocks: &[u8], time: u64) -> Result<Option<u64>, AllocError>
     ensures { IfOk result (λ count. Finds (before time) blocks.now count) }
 {
@@ -46,7 +46,7 @@ fn bytes_before(alloc: Global, blocks: &[u8], time: u64) -> Result<Option<u64>, 
     }
 }
 
-// Takes every payload, also one that spells no message.
+// Takes every payload, including one that is not a valid message.
 #[derive(Drop)]
 struct Anything;
 

@@ -10,7 +10,7 @@ use Rattle.itchsnap_cli.specs.declared.input.messages.Place.TheVariants.{Border,
 use Rattle.itchsnap_cli.specs.declared.input.messages.Tally.{Tally}
 use Rattle.itchsnap_cli.specs.Tallies.{IsWholeAfter, IsAt, Reaches, Counts, CountsOn}
 
--- bytes that are whole after one more or several begin with no block
+-- bytes that one or more further bytes complete do not begin with a block
 unfinished_open : (count : ℕ) (bytes : List ℕ) → 0 < count → IsWholeAfter count bytes → HasNoBlock bytes
 unfinished_open count bytes some whole payload more fits is = by_filler (whole (replicate count 0) (length-replicate {A = ℕ} count 0)) where
   by_filler : IsBlock (bytes ++ replicate count 0) → ⊥
@@ -20,11 +20,11 @@ unfinished_open count bytes some whole payload more fits is = by_filler (whole (
       let nothing : more ++ replicate count 0 ≡ [] = (same_block payload other (more ++ replicate count 0) [] fits of.0 same).1 in
       omega (arith, ap length nothing, length-append more (replicate count 0), length-replicate {A = ℕ} count 0)
 
--- one byte begins with no block
+-- one byte does not begin with a block
 byte_open : (byte : ℕ) → HasNoBlock (byte ∷ [])
 byte_open byte payload more fits is = omega (arith, ap length is, length-append (block payload) more)
 
--- bytes at a place begin with no block
+-- bytes at a place do not begin with a block
 at_open : (place : Place) (bytes : List ℕ) → IsAt place bytes → HasNoBlock bytes
 at_open Border bytes is = subst HasNoBlock (sym is) (nothing_left IsPayload)
 at_open (Length high) bytes is = subst HasNoBlock (sym is.0) (byte_open high)
@@ -39,7 +39,7 @@ payload_byte bytes byte count some whole more long =
 pub lacks_nothing : (bytes : List ℕ) → IsWholeAfter 0 bytes → IsBlock bytes
 lacks_nothing bytes whole = subst IsBlock (append-nil bytes) (whole [] refl)
 
--- no piece, and two pieces that stand side by side
+-- an empty piece, and two adjacent pieces
 pub on_nothing : (tally : Tally) → CountsOn tally [] tally
 on_nothing tally bytes counts = subst (Counts tally) (sym (append-nil bytes)) counts
 
@@ -53,7 +53,7 @@ on_next old mid new piece i inside so_far one =
     rw (add-one i) (subst (λ taken. CountsOn old taken new) (sym (take-suc piece i 0 inside))
     (on_both old mid new (take i piece) (get_or piece i 0 ∷ []) so_far one))
 
--- one byte more, and the next block is not whole
+-- one more byte, and the next block is not complete
 within_block : (old new : Tally) (bytes : List ℕ) (byte : ℕ) (so_far : Counts old bytes)
     → IsAt new.place (so_far.rest ++ byte ∷ []) → new.messages ≡ old.messages → Counts new (bytes ++ byte ∷ [])
 within_block old new bytes byte so_far at same = record {
@@ -68,7 +68,7 @@ within_block old new bytes byte so_far at same = record {
   place = at;
 }
 
--- one byte more, and the next block is whole
+-- one more byte, and the next block is complete
 after_block : (old new : Tally) (bytes : List ℕ) (byte : ℕ) (so_far : Counts old bytes)
     → IsBlock (so_far.rest ++ byte ∷ []) → new.place ≡ Border → new.messages ≡ min (old.messages + 1) (2 ^ 64 - 1) → Counts new (bytes ++ byte ∷ [])
 after_block old new bytes byte so_far (payload, is) at more = record {
@@ -84,7 +84,7 @@ after_block old new bytes byte so_far (payload, is) at more = record {
   place = subst (λ place. IsAt place []) (sym at) refl;
 }
 
--- one byte more
+-- one more byte
 pub one_on : (old new : Tally) (byte : ℕ) → ((bytes : List ℕ) → IsAt old.place bytes → Reaches new.place (bytes ++ byte ∷ []))
     → (new.place ≡ Border → new.messages ≡ min (old.messages + 1) (2 ^ 64 - 1)) → ((new.place ≡ Border → ⊥) → new.messages ≡ old.messages)
     → CountsOn old (byte ∷ []) new

@@ -1,25 +1,25 @@
--- What the program is asked to do.
+-- The jobs of the program.
 use Rattle.std.specs.Prelude.{ℕ, Bool, true, false, List, Option, Some, None, option_map}
 use Rattle.itchsnap_cli.specs.declared.words.job.Job.{Job}
-use Rattle.itchsnap_cli.specs.declared.words.job.Job.TheVariants.{Files, Points, Serve, Fetch, Live, Follow, Feed, Completions}
-use Rattle.itchsnap_live.specs.declared.follow_form.FollowForm.{FollowForm}
-use Rattle.itchsnap_live.specs.declared.follow_form.FollowForm.TheVariants as form
+use Rattle.itchsnap_cli.specs.declared.words.job.Job.TheVariants.{Files, Points, Serve, Fetch, Live, Follow, Feed, Status, Completions}
+use Rattle.itch_sessions.specs.declared.follow_form.FollowForm.{FollowForm}
+use Rattle.itch_sessions.specs.declared.follow_form.FollowForm.TheVariants as form
 use Rattle.itch_commands.specs.Requests.{is_binary}
 
--- the path of the file that a snapshot is written to, or of the folder for several, if one is named
+-- the path of the output file for a snapshot, or of the folder for several, if one is named
 abbrev pub output_of : Job → Option (List ℕ)
 output_of (Files request progress output) = option_map (λ path. path.now) output
 output_of (Points words) = Some words.folder.now
 output_of (Fetch server login from output) = option_map (λ path. path.now) output
 output_of job = None
 
--- a form that is no text
+-- a form that is not text
 abbrev pub is_blocks : FollowForm → Bool
 is_blocks form.Json = false
 is_blocks form.Blocks = true
 is_blocks form.Whole = true
 
--- the jobs whose output is a snapshot or a day file, which are no text
+-- the jobs whose output is a snapshot or a day file, which are not text
 abbrev pub writes_snapshot : Job → Bool
 writes_snapshot (Files request progress output) = is_binary request
 writes_snapshot (Points words) = false
@@ -28,4 +28,5 @@ writes_snapshot (Fetch server login from output) = true
 writes_snapshot (Live live) = false
 writes_snapshot (Follow follow) = is_blocks follow.form
 writes_snapshot (Feed feed) = false
+writes_snapshot (Status status) = false
 writes_snapshot (Completions shell) = false

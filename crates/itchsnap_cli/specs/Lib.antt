@@ -4,3 +4,4 @@ pub mod Tallies
 pub mod Watches
 pub mod Packings
 pub mod Types
+pub mod Times

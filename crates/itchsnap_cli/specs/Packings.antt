@@ -14,7 +14,7 @@ is_capture bytes =
     begins (161 ∷ 178 ∷ 195 ∷ 212 ∷ []) bytes || (begins (212 ∷ 195 ∷ 178 ∷ 161 ∷ []) bytes
     || (begins (161 ∷ 178 ∷ 60 ∷ 77 ∷ []) bytes || (begins (77 ∷ 60 ∷ 178 ∷ 161 ∷ []) bytes || begins (10 ∷ 13 ∷ 13 ∷ 10 ∷ []) bytes)))
 
--- the form of a file that begins so: gzip (RFC 1952), bzip2, zstd (RFC 8878), xz, a frame of lz4, zip, or captured packets
+-- the form of a file with these first bytes: gzip (RFC 1952), bzip2, zstd (RFC 8878), xz, a frame of lz4, zip, or captured packets
 abbrev pub packing_of : List ℕ → Option Packing
 packing_of bytes =
     cond (begins (31 ∷ 139 ∷ []) bytes) (Some Gzip)

@@ -1,4 +1,4 @@
--- The messages in a stream of blocks, counted as far as the stream has come.
+-- The tally of messages in a stream of blocks, as far as the stream has arrived.
 use Rattle.std.specs.Prelude.{◌≡◌, ℕ, ◌-◌, ◌^◌, ◌<◌, min, List, [], ◌∷◌, ◌++◌, length}
 use Rattle.itch_frame.specs.Blocks.{IsBlock, Blocks}
 use Rattle.itchsnap_cli.specs.declared.input.messages.Place.{Place}
@@ -9,18 +9,18 @@ use Rattle.itchsnap_cli.specs.declared.input.messages.Tally.{Tally}
 abbrev pub IsWholeAfter : ℕ → List ℕ → Type 0
 IsWholeAfter count bytes = (more : List ℕ) → length more ≡ count → IsBlock (bytes ++ more)
 
--- the place after these bytes of a block that is not whole
+-- the place after these bytes of an incomplete block
 abbrev pub IsAt : Place → List ℕ → Type 0
 IsAt Border bytes = bytes ≡ []
 IsAt (Length high) bytes = (bytes ≡ high ∷ []) × (high < 256)
 IsAt (Payload count) bytes = (0 < count) × IsWholeAfter count bytes
 
--- the place after these bytes, the last of which may have made them a block
+-- the place after these bytes, the last of which may have completed a block
 abbrev pub Reaches : Place → List ℕ → Type 0
 Reaches Border bytes = IsBlock bytes
 Reaches place bytes = IsAt place bytes
 
--- the tally of the bytes so far: how many blocks they are, up to the greatest number, and where in the next one they end
+-- the tally of the bytes so far: the number of blocks, up to the greatest number, and the place in the next one
 pub record Counts (tally : Tally) (bytes : List ℕ) : Type 0 where
   pub payloads : List (List ℕ)
   pub rest : List ℕ
@@ -28,6 +28,6 @@ pub record Counts (tally : Tally) (bytes : List ℕ) : Type 0 where
   pub counted : tally.messages ≡ min (length payloads) (2 ^ 64 - 1)
   pub place : IsAt tally.place rest
 
--- the tally of some bytes becomes that of these bytes and a piece after them
+-- the tally of some bytes becomes that of these bytes followed by a piece
 abbrev pub CountsOn : Tally → List ℕ → Tally → Type 0
 CountsOn old piece new = (bytes : List ℕ) → Counts old bytes → Counts new (bytes ++ piece)

@@ -1,4 +1,4 @@
--- The types that messages have.
+-- The types of messages.
 use Rattle.std.specs.Prelude.{ℕ, ◌==◌, Bool, List, codes}
 use Rattle.std.specs.List.{list_any}
 

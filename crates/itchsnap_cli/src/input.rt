@@ -1,8 +1,8 @@
-//! What a command reads, a file or standard input, and how far it has read its files, shown on standard error.
+//! The input of a command, a file or standard input, and the progress of reading, shown on standard error.
 //!
-//! [`Opened`] is either. A [`Watched`] reader reads as the one inside it does. A [`Tally`] counts what passes through it: the
-//! bytes, and the whole messages in them. [`Progress`] sums up all files of a command, and updates its line every 64 MiB. The
-//! [`Packing`] of a file that is compressed, or of captured packets, is told by its first bytes.
+//! [`Opened`] is either kind of input. A [`Watched`] reader reads as its inner reader does. A [`Tally`] counts the bytes that pass through
+//! it: the bytes, and the complete messages in them. [`Progress`] sums up all files of a command, and updates its line every 64 MiB.
+//! [`Packing`] recognises a compressed file, or one of captured packets, by its first bytes.
 //!
 //! ```
 //! let mut tally = Tally::new();

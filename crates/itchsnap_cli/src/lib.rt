@@ -1,6 +1,6 @@
-//! What stands between the program's commands and the user: the command line, and the files that a command reads.
+//! The program's command line, and the input of its commands.
 //!
-//! [`words`] makes a job of the command line. [`input`] is a file or standard input, and shows how much of it was read.
+//! [`words`] parses the command line into a job. [`input`] is a file or standard input, and shows the progress of reading it.
 #![tactic(auto)]
 
 pub mod input;

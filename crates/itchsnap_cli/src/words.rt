@@ -1,7 +1,7 @@
-//! The words of the command line of `itchsnap`, and what they ask for.
+//! Parses the command line of `itchsnap`.
 //!
-//! [`read_job`] makes a [`Job`] of them: a request over files, [`PointWords`], a session, of which [`LoginWords`] are the login, a live server, a feed
-//! to follow or to play, or the [`Completions`] of a shell. Otherwise it returns a usage fault, or a request for help or the version.
+//! [`read_job`] parses it into a [`Job`]: a request over files, [`PointWords`], a session with its [`LoginWords`], a live server, a feed to
+//! follow or to play, or the [`Completions`] of a shell. Otherwise it returns a usage fault, or a request for help or the version.
 //!
 //! ```
 //! // of `itchsnap check day.itch`
@@ -23,6 +23,7 @@ mod points;
 mod request;
 mod session;
 mod size;
+mod status;
 mod time;
 
 pub use commands::usage_fault;
@@ -31,3 +32,4 @@ pub use job::{Job, read_job};
 pub use live::{FeedWords, FollowWords, LiveWords};
 pub use points::{PointWords, Points};
 pub use session::{LoginWords, Password, Server, UserWords, session_of_file};
+pub use status::StatusWords;

@@ -1,6 +1,12 @@
 //! What has become of the feed, in a line.
+ghost use Rattle.std.specs.Prelude.{◌≡◌};
+ghost use Rattle.itchsnap_live.specs.Losses.{trouble_cause};
 
+use crate::cause::cause_of_code;
 use itch_codec::Alpha;
+use itch_sessions::log::entry::{Event, Level, write_letter, write_number, write_text};
+use itch_sessions::log::form::LogForm;
+use itch_status::Cause;
 use std::fmt::{self, Display, Formatter};
 
 /// What has become of the connection to the feed, or to the server of a snapshot.
@@ -55,6 +61,96 @@ impl<L: Display> Display for Named<'_, L> {
     }
 }
 
+impl Event for FeedLine {
+    fn level(&self) -> Level {
+        match self {
+            FeedLine::GlimpseLost | FeedLine::Lost(_) => Level::Warn,
+            _ => Level::Info,
+        }
+    }
+
+    fn name(&self) -> &'static str {
+        match self {
+            FeedLine::GlimpseAccepted => "glimpse_accepted",
+            FeedLine::GlimpseLost => "glimpse_lost",
+            FeedLine::Accepted(_) => "feed_accepted",
+            FeedLine::Joined(_) => "feed_joined",
+            FeedLine::Lost(_) => "feed_lost",
+            FeedLine::Ended(_) => "feed_ended",
+        }
+    }
+
+    fn write_fields<W: fmt::Write>(&self, f: &mut Formatter<W>, form: LogForm) -> fmt::Result {
+        match self {
+            FeedLine::GlimpseAccepted | FeedLine::GlimpseLost => Ok(()),
+            FeedLine::Accepted(next)
+            | FeedLine::Joined(next)
+            | FeedLine::Lost(next)
+            | FeedLine::Ended(next) => write_number(f, form, "next", *next),
+        }
+    }
+}
+
+// Writes the name of a server, if there is one.
+fn write_server<W: fmt::Write>(
+    f: &mut Formatter<W>,
+    form: LogForm,
+    name: Option<&str>,
+) -> fmt::Result {
+    match name {
+        Some(name) => write_text(f, form, "server", name),
+        None => Ok(()),
+    }
+}
+
+impl<L: Event> Event for Named<'_, L> {
+    fn level(&self) -> Level {
+        self.line.level()
+    }
+
+    fn name(&self) -> &'static str {
+        self.line.name()
+    }
+
+    fn write_fields<W: fmt::Write>(&self, f: &mut Formatter<W>, form: LogForm) -> fmt::Result {
+        self.line.write_fields(f, form)?;
+        write_server(f, form, self.name)
+    }
+}
+
+/// A server is lost, for a reason that only an entry has, as its name.
+#[derive(Clone, Copy)]
+pub(crate) struct Loss<'a> {
+    pub line: FeedLine,
+    pub cause: Option<Cause>,
+    pub name: Option<&'a str>,
+}
+
+impl Display for Loss<'_> {
+    fn fmt<W: fmt::Write>(&self, f: &mut Formatter<W>) -> fmt::Result {
+        let line = &self.line;
+        write!(f, "{line}")
+    }
+}
+
+impl Event for Loss<'_> {
+    fn level(&self) -> Level {
+        self.line.level()
+    }
+
+    fn name(&self) -> &'static str {
+        self.line.name()
+    }
+
+    fn write_fields<W: fmt::Write>(&self, f: &mut Formatter<W>, form: LogForm) -> fmt::Result {
+        self.line.write_fields(f, form)?;
+        if let Some(cause) = self.cause {
+            write_text(f, form, "cause", cause.words())?;
+        }
+        write_server(f, form, self.name)
+    }
+}
+
 /// Why a server is asked again, where more is known than that it is lost.
 #[derive(Clone, Copy, Debug, PartialEq, Eq)]
 pub(crate) enum Trouble {
@@ -72,12 +168,65 @@ pub(crate) enum Trouble {
     Gap { next: u64, begins: u64 },
     /// Memory was refused for the message of this number.
     NoMemory(u64),
+    /// The connection ended, or was not made, for this cause, which entries of a log have.
+    Cut(Cause),
 }
 
 impl Trouble {
+    /// The same as a cause of the status.
+    pub(crate) fn cause(&self) -> Cause
+        ensures { result ≡ trouble_cause self.now }
+    {
+        match self {
+            Trouble::GlimpseUnknown | Trouble::Unknown => Cause::NotFound,
+            Trouble::GlimpseRejected(code) | Trouble::Rejected(code) => cause_of_code(*code),
+            Trouble::OtherSession(..) => Cause::OtherSession,
+            Trouble::Gap { .. } => Cause::Gap,
+            Trouble::NoMemory(_) => Cause::NoMemory,
+            Trouble::Cut(cause) => *cause,
+        }
+    }
+
+    /// Whether no more is known than how the connection ended.
+    pub(crate) fn is_a_cut(&self) -> bool {
+        matches!(self, Trouble::Cut(_))
+    }
+
     /// Whether a line about it names the server, also where there is only one.
     pub(crate) fn is_of_a_name(&self) -> bool {
         matches!(self, Trouble::GlimpseUnknown | Trouble::Unknown)
+    }
+}
+
+impl Event for Trouble {
+    fn level(&self) -> Level {
+        Level::Warn
+    }
+
+    fn name(&self) -> &'static str {
+        match self {
+            Trouble::GlimpseUnknown | Trouble::GlimpseRejected(_) => "glimpse_lost",
+            _ => "feed_lost",
+        }
+    }
+
+    fn write_fields<W: fmt::Write>(&self, f: &mut Formatter<W>, form: LogForm) -> fmt::Result {
+        write_text(f, form, "cause", self.cause().words())?;
+        match self {
+            Trouble::GlimpseUnknown | Trouble::Unknown | Trouble::Cut(_) => Ok(()),
+            Trouble::GlimpseRejected(code) | Trouble::Rejected(code) => {
+                write_letter(f, form, "code", *code)
+            }
+            Trouble::OtherSession(named, wanted) => {
+                write_text(f, form, "session", named.text().trim())?;
+                write_text(f, form, "wanted", wanted.text().trim())
+            }
+            Trouble::Gap { next, begins } => {
+                write_number(f, form, "next", *next)?;
+                write_number(f, form, "begins", *begins)
+            }
+            Trouble::NoMemory(next) => write_number(f, form, "next", *next),
+        }
     }
 }
 
@@ -105,6 +254,10 @@ impl Display for Trouble {
                 )
             }
             Trouble::NoMemory(next) => write!(f, "feed: out of memory at {next}"),
+            Trouble::Cut(cause) => {
+                let words = cause.words();
+                write!(f, "feed: {words}")
+            }
         }
     }
 }

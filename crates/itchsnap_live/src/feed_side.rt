@@ -1,22 +1,21 @@
 //! The connection to a feed, or to the server of a snapshot.
 
-use crate::fault::LiveFault;
-use crate::feed_line::{FeedLine, Named, Trouble};
-use crate::log::Log;
-use crate::logins::Logins;
-use crate::piece::Piece;
-use crate::places::MOST_FEEDS;
-use crate::route::{Route, Servers};
-use crate::session_fault::SessionFault;
-use crate::sessions::{Login, current_session};
-use crate::socket::{Got, Socket};
-use crate::step::{Step, rejection_ends, step_of};
-use crate::turns::Turns;
+mod acting;
+mod health;
+
+use crate::cause::cause_of;
+use crate::feed_line::{Named, Trouble};
+use crate::glance::Glance;
 use itch_book::OrderBook;
 use itch_codec::Alpha;
 use itch_frame::CountedWrite;
-use itch_live::{Follower, PendingPacket, Source};
-use itch_soup::{ClientSession, SoupFault, Tick};
+use itch_live::{Follower, PendingPacket};
+use itch_records::{LiveFault, Step, step_of};
+use itch_sessions::log::Log;
+use itch_sessions::sessions::{Login, current_session};
+use itch_sessions::{Got, Logins, MOST_FEEDS, Piece, Route, Servers, Socket, Turns};
+use itch_soup::{ClientSession, Tick};
+use itch_status::Cause;
 use mio::Registry;
 use mio::event::Event;
 use mio::net::TcpStream;
@@ -61,12 +60,19 @@ pub(crate) struct FeedSide<'a> {
     glimpse_session: Option<Alpha<10>>,
     connection: Option<Connection>,
     again_at: u64,
-    // Whether a login was accepted in this connection, and in any.
+    // Whether a login was accepted in this connection, when one was, and whether one was in any.
     is_accepted: bool,
+    accepted_ms: u64,
     was_accepted: bool,
     // Whether it was said that the server is lost, and what more was said since of each server.
     is_down: bool,
     troubles: [Option<Trouble>; MOST_FEEDS],
+    // Why it was lost last, since a login was accepted, and how often it was lost.
+    cause: Option<Cause>,
+    losses: u64,
+    glance: Glance,
+    // The timestamp of the last message.
+    market_ns: Option<u64>,
     piece: Piece,
     // How much may still be read in this turn.
     share: usize,
@@ -91,9 +97,14 @@ impl<'a> FeedSide<'a> {
             connection: None,
             again_at: 0,
             is_accepted: false,
+            accepted_ms: 0,
             was_accepted: false,
             is_down: false,
             troubles: [None; MOST_FEEDS],
+            cause: None,
+            losses: 0,
+            glance: Glance::new(),
+            market_ns: None,
             piece,
             share: 0,
         })
@@ -149,7 +160,7 @@ impl<'a> FeedSide<'a> {
         };
         match self.connect(log.runtime(), turns.registry(), address, follower, now_ms) {
             Ok(connection) => self.connection = Some(connection),
-            Err(_) => self.lose(log, follower, None, now_ms),
+            Err(error) => self.break_off(log, follower, cause_of(error), now_ms),
         }
     }
 
@@ -185,13 +196,34 @@ impl<'a> FeedSide<'a> {
         };
         let tick = follower.tick(now_ms);
         let sent = connection.send(matches!(tick, Tick::Heartbeat));
-        if matches!(tick, Tick::Lost) || sent.is_err() {
-            self.lose(log, follower, None, now_ms);
+        match sent {
+            Err(error) => self.break_off(log, follower, cause_of(error), now_ms),
+            Ok(()) if matches!(tick, Tick::Lost) => {
+                self.break_off(log, follower, Cause::Silent, now_ms);
+            }
+            Ok(()) => {}
         }
     }
 
-    // Drops the connection, to make another one. It is said once that the server is lost, until it accepts a login; what more is known is
-    // said where it changes.
+    // Drops the connection for a cause that the status has, and an entry of the log.
+    fn break_off<R: Eprint, B: OrderBook>(
+        &mut self,
+        log: &mut Log<'_, R>,
+        follower: &Follower<B>,
+        cause: Cause,
+        now_ms: u64,
+    ) {
+        self.cause = Some(cause);
+        let why = if log.has_causes() {
+            Some(Trouble::Cut(cause))
+        } else {
+            None
+        };
+        self.lose(log, follower, why, now_ms);
+    }
+
+    // Drops the connection, to make another one. It is said once that the server is lost, until it accepts a login; what more is known of a
+    // server is said where it changes.
     fn lose<R: Eprint, B: OrderBook>(
         &mut self,
         log: &mut Log<'_, R>,
@@ -199,9 +231,16 @@ impl<'a> FeedSide<'a> {
         why: Option<Trouble>,
         now_ms: u64,
     ) {
+        self.losses = self.losses.saturating_add(1);
         let next = follower.next();
         let server = self.route.server();
-        let name = self.name(next.is_some(), why.is_some_and(|it| it.is_of_a_name()));
+        let mut is_of_a_name = false;
+        if let Some(why) = &why {
+            self.cause = Some(why.cause());
+            is_of_a_name = why.is_of_a_name();
+        }
+        let name = self.name(next.is_some(), is_of_a_name);
+        let lost = self.route.name(next.is_some());
         let wait = self.route.lose(next.is_some(), now_ms);
         self.drop_connection(now_ms.saturating_add(wait));
         let is_known = self.is_down && (why.is_none() || self.trouble_of(server) == why);
@@ -209,10 +248,9 @@ impl<'a> FeedSide<'a> {
         if is_known {
             return;
         }
-        match (why, next) {
-            (Some(line), _) => log.say(&Named { line, name }),
-            (None, Some(next)) => log.say(&FeedLine::Lost(next)),
-            (None, None) => log.say(&FeedLine::GlimpseLost),
+        match &why {
+            Some(line) if !line.is_a_cut() => log.say(&Named { line: *line, name }),
+            _ => log.say(&self.loss(next, lost)),
         }
         if let Some(trouble) = self.troubles.get_mut(server) {
             *trouble = why;
@@ -239,6 +277,7 @@ impl<'a> FeedSide<'a> {
         self.connection = None;
         self.is_accepted = false;
         self.piece.clear();
+        self.glance.clear();
         self.again_at = again_at;
     }
 
@@ -256,17 +295,41 @@ impl<'a> FeedSide<'a> {
             match self.fill() {
                 Ok(Got::Bytes(_)) => {}
                 Ok(Got::Nothing) => return Ok(None),
-                Ok(Got::Ended) | Err(_) => {
-                    self.lose(log, follower, None, now_ms);
+                Ok(Got::Ended) => {
+                    self.break_off(log, follower, Cause::Closed, now_ms);
+                    return Ok(None);
+                }
+                Err(error) => {
+                    self.break_off(log, follower, cause_of(error), now_ms);
                     return Ok(None);
                 }
             }
         }
         let (count, news) = follower.hear(self.piece.bytes(), now_ms, record);
+        self.glance.read(&self.piece.bytes()[..count]);
         self.piece.passed(count);
         let step = step_of(news)?;
+        if matches!(step, Step::Taken(_)) {
+            self.market_ns = self.glance.stamp().or(self.market_ns);
+        }
         self.follow(log, follower, &step, now_ms)?;
         Ok(Some(step))
+    }
+
+    /// Closes the connection, and makes another one at this moment.
+    pub(crate) fn pause(&mut self, until_ms: u64) {
+        self.drop_connection(until_ms);
+    }
+
+    /// Begins another day: no login was accepted in its session yet.
+    pub(crate) fn begin_day(&mut self, now_ms: u64) {
+        self.drop_connection(now_ms);
+        self.route.begin();
+        self.was_accepted = false;
+        self.is_down = false;
+        self.forget_troubles();
+        self.cause = None;
+        self.market_ns = None;
     }
 
     /// Has so many bytes read once more in this turn.
@@ -327,126 +390,5 @@ impl<'a> FeedSide<'a> {
             self.share = self.share.saturating_sub(count);
         }
         Ok(got)
-    }
-
-    // What a step is for the connection.
-    fn follow<R: Eprint, B: OrderBook>(
-        &mut self,
-        log: &mut Log<'_, R>,
-        follower: &Follower<B>,
-        step: &Step,
-        now_ms: u64,
-    ) -> Result<(), LiveFault> {
-        match *step {
-            Step::On | Step::Taken(_) => {}
-            Step::Accepted(begins) => self.accept(log, follower, begins, now_ms),
-            Step::Joined(next) => {
-                self.drop_connection(now_ms);
-                self.route.begin();
-                self.was_accepted = false;
-                log.say(&FeedLine::Joined(next));
-            }
-            Step::Ended => self.end(log, follower, now_ms),
-            Step::Rejected(code) => self.reject(log, follower, code, now_ms)?,
-            Step::OtherSession(named) => self.refuse(log, follower, named, now_ms)?,
-            Step::NoMemory => {
-                let line = follower.next().map(Trouble::NoMemory);
-                self.lose(log, follower, line, now_ms);
-            }
-            Step::Lost => self.lose(log, follower, None, now_ms),
-        }
-        Ok(())
-    }
-
-    // The login was accepted from a number on. Where that is not the next one, messages are missing: the server is asked again.
-    fn accept<R: Eprint, B: OrderBook>(
-        &mut self,
-        log: &mut Log<'_, R>,
-        follower: &Follower<B>,
-        begins: u64,
-        now_ms: u64,
-    ) {
-        let line = match follower.next() {
-            Some(next) if begins > next => {
-                return self.lose(log, follower, Some(Trouble::Gap { next, begins }), now_ms);
-            }
-            Some(_) => FeedLine::Accepted(begins),
-            None => FeedLine::GlimpseAccepted,
-        };
-        self.is_accepted = true;
-        self.was_accepted = true;
-        self.is_down = false;
-        self.forget_troubles();
-        self.route.accept(now_ms);
-        let name = self.name(follower.next().is_some(), false);
-        log.say(&Named { line, name });
-    }
-
-    // What was said of each server is said again if it happens again.
-    fn forget_troubles(&mut self) {
-        for trouble in self.troubles.iter_mut() {
-            *trouble = None;
-        }
-    }
-
-    // The server has ended its session. One that has sent no message yet is asked again, and so is a server of snapshots that has not sent
-    // its End of Snapshot.
-    fn end<R: Eprint, B: OrderBook>(
-        &mut self,
-        log: &mut Log<'_, R>,
-        follower: &Follower<B>,
-        now_ms: u64,
-    ) {
-        match follower.next() {
-            Some(next) if self.is_accepted && next > 1 => {
-                self.drop_connection(u64::MAX);
-                log.say(&FeedLine::Ended(next));
-            }
-            _ => self.lose(log, follower, None, now_ms),
-        }
-    }
-
-    fn reject<R: Eprint, B: OrderBook>(
-        &mut self,
-        log: &mut Log<'_, R>,
-        follower: &Follower<B>,
-        code: u8,
-        now_ms: u64,
-    ) -> Result<(), LiveFault> {
-        if rejection_ends(code, self.was_accepted) {
-            return Err(LiveFault::Session(SessionFault::Soup(SoupFault::Rejected(code))));
-        }
-        let line = match follower.next() {
-            Some(_) => Trouble::Rejected(code),
-            None => Trouble::GlimpseRejected(code),
-        };
-        self.lose(log, follower, Some(line), now_ms);
-        Ok(())
-    }
-
-    // The server is in another session. One that was accepted before is asked again: its clients go on to have the market that they logged in to.
-    fn refuse<R: Eprint, B: OrderBook>(
-        &mut self,
-        log: &mut Log<'_, R>,
-        follower: &Follower<B>,
-        named: Alpha<10>,
-        now_ms: u64,
-    ) -> Result<(), LiveFault> {
-        let (server, wanted) = match follower.next() {
-            Some(_) => (Source::Live, follower.session()),
-            None => (Source::Glimpse, self.glimpse_session.or(follower.session())),
-        };
-        match wanted {
-            Some(wanted) if !self.was_accepted => Err(LiveFault::OtherSession {
-                server,
-                named,
-                wanted,
-            }),
-            _ => {
-                let line = wanted.map(|wanted| Trouble::OtherSession(named, wanted));
-                self.lose(log, follower, line, now_ms);
-                Ok(())
-            }
-        }
     }
 }

@@ -1,21 +1,17 @@
 //! `follow`: the messages of a feed from a snapshot on.
 
-use crate::fault::LiveFault;
 use crate::feed_side::{FeedSide, SHARE};
-use crate::follow_form::FollowForm;
-use crate::log::Log;
-use crate::logins::Logins;
-use crate::route::Servers;
-use crate::session_fault::SessionFault;
-use crate::sessions::{Sending, current_session, write_text};
-use crate::step::Step;
-use crate::turns::Turns;
 use itch_book::{IndexedBook, OrderBook};
 use itch_codec::{decode, encode, json};
 use itch_frame::{Counted, CountedWrite, FrameFault, write_block};
 use itch_join::Joiner;
 use itch_live::{Follower, Sessions};
 use itch_market::Market;
+use itch_records::{LiveFault, Step};
+use itch_sessions::log::Log;
+use itch_sessions::log::form::LogForm;
+use itch_sessions::sessions::{Sending, current_session, write_text};
+use itch_sessions::{FollowForm, Logins, Servers, SessionFault, Turns};
 use itch_snapshot::SnapshotIter;
 use std::alloc::{AllocError, Global};
 use std::fs::File;
@@ -92,7 +88,7 @@ where
         let sessions = following.sessions;
         let credentials = account.first().credentials(current_session());
         let follower = Follower::new(rt.alloc(), credentials, sessions, joiner, 0)?;
-        let log = Log::new(rt)?;
+        let log = Log::new(rt, LogForm::Plain)?;
         let turns = Turns::begin(rt, rt, EVENTS)?;
         let feed = FeedSide::new(rt.alloc(), servers, account, sessions.glimpse, FEED)?;
         Ok(Tail {

@@ -1,32 +1,34 @@
 //! `live`: a feed that is followed, and the snapshot of its present market for each client that asks.
 
-use crate::budget::Budget;
-use crate::callers::Callers;
-use crate::clients::Clients;
-use crate::fault::LiveFault;
+mod beginning;
+mod client_side;
+mod day;
+mod days;
+mod figures;
+mod keeping;
+
 use crate::feed_side::{FeedSide, SHARE};
-use crate::log::Log;
-use crate::logins::Logins;
-use crate::opened::{follower_of, listen, named_desk, open_folder, open_record};
 use crate::question::{agreed, ask_session, asks_session};
-use crate::reception::Reception;
-use crate::record::{Record, RecordLoss, RecordWords};
-use crate::room::SnapshotRoom;
-use crate::route::Servers;
-use crate::saving::{Saver, SnapshotWords};
-use crate::sessions::current_session;
-use crate::spare::{SPARED, Spare};
-use crate::start::Start;
-use crate::step::Step;
-use crate::turns::Turns;
+use crate::scout::Scout;
+use crate::status::{STATUS, StatusPort};
+use client_side::ClientSide;
+use day::Day;
 use itch_book::{IndexedBook, OrderBook};
-use itch_codec::{Alpha, Seq};
+use itch_codec::Alpha;
 use itch_frame::CountedWrite;
 use itch_join::Joiner;
-use itch_live::{Desk, Follower};
+use itch_live::Desk;
+use itch_records::{
+    DayFault, DayPaths, LiveFault, Ready, RecordLoss, RecordPlace, RecordWords, SnapshotWords,
+    Step, is_caught_up,
+};
+use itch_sessions::log::Log;
+use itch_sessions::log::form::LogForm;
+use itch_sessions::{Logins, Place, Servers, Spare, Turns, Visit};
 use mio::Token;
 use std::alloc::Global;
 use std::fs::File;
+use std::mem::swap;
 use std::net::{Net, SocketAddr};
 use std::rt::{Clock, Files};
 
@@ -35,7 +37,10 @@ const LISTENER: usize = 0;
 
 const FEED: usize = 1;
 
-const PLACES: usize = 2;
+const FIRST_CLIENT: usize = 2;
+
+/// That of the connection that looks for the session of the next day: the last number before those of the status port.
+const SCOUT: usize = STATUS - 1;
 
 /// The moment is looked at this often, where no socket is ready.
 const MOMENT_MS: u64 = 100;
@@ -61,9 +66,30 @@ pub struct Serving<'a> {
     /// Whether it begins with a snapshot, and not with the feed's first message.
     pub from_snapshot: bool,
     pub record: Option<RecordWords<'a>>,
+    /// Where snapshots are written: in the folder itself, or in one for each session there if the record has a file for each.
     pub snapshots: Option<SnapshotWords<'a>>,
     /// Whether it serves on once the feed has ended.
     pub stay: bool,
+    /// From when on it sends snapshots.
+    pub ready: Ready,
+    /// Where its status is asked for, if it is.
+    pub status: Option<Place<'a>>,
+    pub log: LogForm,
+}
+
+impl<'a> Serving<'a> {
+    /// Where it records, if it does.
+    pub(crate) fn place(&self) -> Option<RecordPlace<'a>> {
+        match self.record {
+            Some(words) => Some(words.place),
+            None => None,
+        }
+    }
+
+    /// Whether it has files for each session of its feed.
+    pub(crate) fn has_days(&self) -> bool {
+        matches!(self.place(), Some(RecordPlace::Folder(_)))
+    }
 }
 
 /// Who may log in to a live server, and whom it logs in as itself.
@@ -83,145 +109,76 @@ pub struct Accounts<'a> {
 /// A first login to the feed that is not authorised, or is accepted in another session than the one that is named or recorded; a message that
 /// is refused; a record that is another day's, in use, changed by another process or cannot be written; a folder of snapshots that is in use or
 /// not there; `Socket` if the port cannot be listened on.
-pub fn serve_live<R, W: CountedWrite>(
+pub fn serve_live<'a, R, W: CountedWrite>(
     rt: &R,
-    servers: Servers<'_>,
-    serving: &Serving<'_>,
-    accounts: Accounts<'_>,
-    out: &mut W,
-) -> Result<bool, LiveFault>
-where
-    R: Net + Clock + Files<File = File> + Eprint + AllocGlobal,
-{
-    let joiner: Joiner<IndexedBook<Global>> = Joiner::new(rt.alloc(), 0);
-    serve(rt, servers, serving, accounts, joiner, out)
-}
-
-// Serves until it is over, with any book.
-fn serve<R, B: OrderBook<Alloc = Global>, W: CountedWrite>(
-    rt: &R,
-    servers: Servers<'_>,
-    serving: &Serving<'_>,
-    accounts: Accounts<'_>,
-    joiner: Joiner<B>,
-    out: &mut W,
-) -> Result<bool, LiveFault>
-where
-    R: Net + Clock + Files<File = File> + Eprint + AllocGlobal,
-{
-    let mut server = opened(rt, servers, serving, accounts, joiner)?;
-    server.run(out)
-}
-
-// Opens what a server works on, and waits until the session of its feed is known.
-fn opened<'r, 'a, R, B: OrderBook<Alloc = Global>>(
-    rt: &'r R,
     servers: Servers<'a>,
     serving: &'a Serving<'a>,
     accounts: Accounts<'a>,
-    joiner: Joiner<B>,
-) -> Result<Server<'r, 'a, R, B>, LiveFault>
+    out: &mut W,
+) -> Result<bool, DayFault>
 where
     R: Net + Clock + Files<File = File> + Eprint + AllocGlobal,
 {
-    let saver = open_folder(rt, serving)?;
-    let (record, joiner) = open_record(rt, serving, joiner)?;
-    let follower = follower_of(rt.alloc(), serving, &accounts.own, &record, joiner)?;
-    Server::new(rt, servers, serving, accounts, follower, record, saver)
+    let mut paths = DayPaths::none();
+    match served::<R, IndexedBook<Global>, W>(rt, servers, serving, accounts, out, &mut paths) {
+        Ok(answer) => Ok(answer),
+        Err(fault) => Err(DayFault { fault, paths }),
+    }
 }
 
-// A desk, and its sockets.
+// Serves until it is over, or until a fault, which is about the day of these paths.
+fn served<'a, R, B: OrderBook<Alloc = Global>, W: CountedWrite>(
+    rt: &R,
+    servers: Servers<'a>,
+    serving: &'a Serving<'a>,
+    accounts: Accounts<'a>,
+    out: &mut W,
+    paths: &mut DayPaths,
+) -> Result<bool, LiveFault>
+where
+    R: Net + Clock + Files<File = File> + Eprint + AllocGlobal,
+{
+    let mut server: Server<'_, '_, R, B> = beginning::opened(
+        rt, servers, serving, accounts, paths,
+    )?;
+    let answer = server.run_from(out, paths);
+    // As a call, since code that drops so many fields takes long to prove.
+    drop(server);
+    answer
+}
+
+// A desk, its sockets and its files.
 #[derive(Drop)]
 struct Server<'r, 'a, R: Clock, B: OrderBook> {
     serving: &'a Serving<'a>,
-    users: Logins<'a>,
     log: Log<'r, R>,
     turns: Turns<'r, R>,
-    callers: Callers,
+    spare: Spare,
+    status: Option<StatusPort>,
     feed: FeedSide<'a>,
     desk: Desk<B>,
-    reception: Reception,
-    clients: Clients,
-    budget: Budget,
-    record: Record<'a>,
-    saver: Option<Saver<'a>>,
-    spare: Spare,
-    // Whether the feed has ended its session, and whether it was asked which one that is.
-    has_ended: bool,
-    has_asked: bool,
+    client_side: ClientSide<'a>,
+    // Where the record and the snapshots of the day are.
+    paths: DayPaths,
+    day: Day,
+    // What looks for the session of the next day.
+    scout: Option<Scout<'r, 'a, R, B>>,
 }
 
 impl<'r, 'a, R, B: OrderBook<Alloc = Global>> Server<'r, 'a, R, B>
 where
     R: Net + Clock + Files<File = File> + Eprint + AllocGlobal,
 {
-    // Listens on the port, says so, and waits until the session of the feed is known.
-    fn new(
-        rt: &'r R,
-        servers: Servers<'a>,
-        serving: &'a Serving<'a>,
-        accounts: Accounts<'a>,
-        follower: Follower<B>,
-        record: Record<'a>,
-        saver: Option<Saver<'a>>,
-    ) -> Result<Server<'r, 'a, R, B>, LiveFault> {
-        let Accounts { users, own } = accounts;
-        let mut start = Start::new(rt, servers, own, serving.glimpse_session, FEED)?;
-        let callers = listen(rt, &start, serving.address, LISTENER)?;
-        let desk = named_desk(rt.alloc(), serving, follower, &mut start)?;
-        Server::open(
-            rt.alloc(),
-            serving,
-            users,
-            start,
-            desk,
-            callers,
-            record,
-            saver,
-        )
-    }
-
-    // Opens the reception of a desk, and its places.
-    fn open(
-        alloc: Global,
-        serving: &'a Serving<'a>,
-        users: Logins<'a>,
-        start: Start<'r, 'a, R>,
-        desk: Desk<B>,
-        callers: Callers,
-        record: Record<'a>,
-        saver: Option<Saver<'a>>,
-    ) -> Result<Server<'r, 'a, R, B>, LiveFault> {
-        let places = serving.clients;
-        let session = desk.follower().session().unwrap_or(current_session());
-        let first_room = PLACES.saturating_add(places);
-        let reception = Reception::new(alloc, session, Seq::new(1).unwrap(), first_room)?;
-        let room = SnapshotRoom::new(serving.snapshot_memory);
-        let clients = Clients::new(alloc, places, serving.clients_per_address, room, PLACES)?;
-        let spare = Spare::new(alloc, SPARED)?;
-        let Start {
-            log,
-            turns,
-            feed,
-            token: _,
-        } = start;
-        Ok(Server {
-            serving,
-            users,
-            log,
-            turns,
-            callers,
-            feed,
-            desk,
-            reception,
-            clients,
-            budget: Budget::new(),
-            record,
-            saver,
-            spare,
-            has_ended: false,
-            has_asked: false,
-        })
+    // Serves from the day of these paths on, and returns in them those of the last day.
+    fn run_from<W: CountedWrite>(
+        &mut self,
+        out: &mut W,
+        paths: &mut DayPaths,
+    ) -> Result<bool, LiveFault> {
+        swap(&mut self.paths, paths);
+        let answer = self.run(out);
+        swap(&mut self.paths, paths);
+        answer
     }
 
     // Serves until it is over.
@@ -239,7 +196,7 @@ where
 
     // Those who called while the session was not known are accepted now. The record has the session, if the feed has confirmed it.
     fn begin(&mut self) -> Result<(), LiveFault> {
-        self.callers.note();
+        self.client_side.callers.note();
         if self.feed.was_accepted() {
             self.begin_record()?;
         }
@@ -247,32 +204,47 @@ where
     }
 
     fn is_over(&self) -> bool {
-        self.is_closed() && self.clients.is_empty() && self.reception.is_empty()
+        self.is_closed() && self.client_side.is_empty()
     }
 
     // Whether no client is accepted any more.
     fn is_closed(&self) -> bool {
-        self.has_ended && !self.serving.stay
+        self.day.has_ended && !self.serving.stay
     }
 
     // Waits until something is ready or due, and does it.
     fn turn<W: CountedWrite>(&mut self, out: &mut W) -> Result<(), LiveFault> {
+        self.begin_day_if_due()?;
         let most_ms = self.patience_ms();
         let now_ms = self.turns.wait(most_ms)?;
+        self.log.look_at_clock();
         self.note();
-        self.follow(now_ms)?;
+        if self.day.replay.is_some() {
+            self.replay(now_ms)?;
+        } else {
+            self.follow(now_ms)?;
+            let next = self.desk.follower().next();
+            self.day.tally.see(next, now_ms);
+            self.look_for_a_day(now_ms);
+        }
         self.serve(now_ms)?;
         self.watch(now_ms)?;
         self.write_lines(now_ms, out);
+        self.tell_status(now_ms);
         Ok(())
     }
 
     // How long there is nothing to do unless something is ready.
     fn patience_ms(&self) -> u64 {
-        if self.feed.is_busy() || self.clients.is_busy(&self.desk) || self.reception.is_busy() {
+        if self.day.replay.is_some()
+            || self.is_scouting()
+            || self.feed.is_busy()
+            || self.client_side.is_busy(&self.desk)
+            || self.is_asked()
+        {
             return 0;
         }
-        if self.clients.any_waits(&self.desk) {
+        if self.client_side.clients.any_waits(&self.desk) {
             return SOON_MS;
         }
         MOMENT_MS
@@ -280,14 +252,23 @@ where
 
     // Takes note of what is ready.
     fn note(&mut self) {
-        let first_room = PLACES.saturating_add(self.serving.clients);
+        let first_room = FIRST_CLIENT.saturating_add(self.serving.clients);
         for event in self.turns.events().iter() {
             let Token(token) = event.token();
             match token {
-                LISTENER => self.callers.note(),
+                LISTENER => self.client_side.callers.note(),
                 FEED => self.feed.note(event),
-                _ if token < first_room => self.clients.note(token, event),
-                _ => self.reception.note(token, event),
+                SCOUT => {
+                    if let Some(scout) = &mut self.scout {
+                        scout.note(event);
+                    }
+                }
+                _ if token >= STATUS => {
+                    if let Some(status) = &mut self.status {
+                        status.note(token, event);
+                    }
+                }
+                _ => self.client_side.note(token, token < first_room, event),
             }
         }
     }
@@ -301,12 +282,21 @@ where
         let done = self.read_feed(now_ms);
         self.feed
             .end_turn(&mut self.log, self.desk.follower_mut(), now_ms);
-        let flushed = match self.record.flush() {
+        let flushed = match self.day.record.flush() {
             Ok(()) => Ok(()),
             Err(error) => self.lose_record(RecordLoss::System(error)),
         };
         done?;
+        self.catch_up(now_ms);
         flushed
+    }
+
+    // Takes note of whether all that the feed had has come.
+    fn catch_up(&mut self, now_ms: u64) {
+        let (state, _cause) = self.feed.state();
+        let for_ms = self.feed.accepted_for_ms(now_ms);
+        let is_caught_up = is_caught_up(state, for_ms, self.feed.is_busy());
+        self.day.has_caught_up = self.day.has_caught_up || is_caught_up;
     }
 
     // Does what the feed has sent until nothing more has come, but for no longer than its share of the time.
@@ -338,7 +328,7 @@ where
 
     // The feed's next step. A message that could not be recorded is taken where the record is optional.
     fn step(&mut self, now_ms: u64) -> Result<Option<Step>, LiveFault> {
-        let recording = &mut self.record.recording;
+        let recording = &mut self.day.record.recording;
         match self
             .feed
             .step(&mut self.log, self.desk.follower_mut(), now_ms, recording)
@@ -351,20 +341,25 @@ where
         }
     }
 
-    // Goes on without the record where that is what failed, and is optional.
-    fn fail(&mut self, fault: LiveFault) -> Result<(), LiveFault> {
-        match fault.write_error() {
-            Some(error) => self.lose_record(RecordLoss::System(error)),
-            None => Err(self.explained(fault)),
-        }
-    }
-
     // Does what a step asks for, and says whether that may have taken long.
     fn act(&mut self, step: &Step, now_ms: u64) -> Result<bool, LiveFault> {
         match *step {
-            Step::Taken(next) => return self.save(next, now_ms),
-            Step::Accepted(_) => self.begin_record()?,
-            Step::Ended => self.has_ended = self.feed.is_over(),
+            Step::Taken(next) => {
+                self.day.see(self.feed.market_ns());
+                let length = self.day.record.length();
+                return self.save(next, length, now_ms);
+            }
+            Step::Accepted(_) => {
+                self.scout = None;
+                self.begin_record()?;
+            }
+            Step::Ended => {
+                self.day.has_ended = self.feed.is_over();
+                self.begin_scouting();
+            }
+            Step::Rejected(b'S') | Step::OtherSession(_) if self.serving.has_days() => {
+                self.begin_scouting();
+            }
             Step::Rejected(code) => self.question(code)?,
             _ => {}
         }
@@ -373,153 +368,68 @@ where
 
     // A feed that has not the session of the record is asked once which one it is in.
     fn question(&mut self, code: u8) -> Result<(), LiveFault> {
-        let (Some(session), Some(address)) = (self.record.session(), self.feed.address()) else {
+        let (Some(session), Some(address)) = (self.day.record.session(), self.feed.address()) else {
             return Ok(());
         };
-        if !asks_session(code, self.feed.was_accepted(), self.has_asked) {
+        if !asks_session(code, self.feed.was_accepted(), self.day.has_asked) {
             return Ok(());
         }
-        self.has_asked = true;
+        self.day.has_asked = true;
         self.spare.release();
         let joiner: Joiner<B> = Joiner::new(self.log.runtime().alloc(), 0);
         let asked = ask_session(&self.log, &self.feed, address, joiner);
         agreed(session, asked)
     }
 
-    // The record has the feed's session before it has a message.
-    fn begin_record(&mut self) -> Result<(), LiveFault> {
-        let Some(session) = self.desk.follower().session() else {
-            return Ok(());
-        };
-        match self.record.begin(self.log.runtime(), session) {
-            Ok(()) => Ok(()),
-            Err(LiveFault::SessionFile(error)) if self.record.is_optional() => {
-                self.lose_record(RecordLoss::System(error))
-            }
-            Err(fault) => Err(fault),
-        }
-    }
-
-    // Writes the snapshot after a message, where one is asked for, and says whether it is. The record has each message that the snapshot has.
-    fn save(&mut self, next: u64, now_ms: u64) -> Result<bool, LiveFault> {
-        if !self.saver.as_ref().is_some_and(|saver| saver.wants(next)) {
-            return Ok(false);
-        }
-        if let Err(error) = self.record.flush() {
-            self.lose_record(RecordLoss::System(error))?;
-        }
-        self.spare.release();
-        let saved = match (&mut self.saver, self.desk.follower().market()) {
-            (Some(saver), Some(market)) => {
-                let recording = &mut self.record.recording;
-                saver.save(&mut self.log, market, next, now_ms, recording)
-            }
-            _ => Ok(()),
-        };
-        if let Err(error) = saved {
-            self.lose_record(RecordLoss::System(error))?;
-        }
-        Ok(true)
-    }
-
-    // Goes on without the record where that is allowed.
-    fn lose_record(&mut self, loss: RecordLoss) -> Result<(), LiveFault> {
-        if self.record.is_optional() {
-            self.log.say(&loss);
-            self.record.give_up();
-            return Ok(());
-        }
-        Err(loss.fault(self.desk.follower().next()))
-    }
-
-    // The fault of a feed that refuses to go on: with its session, or with the one of the record or of the snapshot, which it is not in.
-    fn explained(&self, fault: LiveFault) -> LiveFault {
-        let fault = fault.of_message(self.desk.follower().session(), self.feed.server());
-        if self.record.session().is_some() {
-            return fault.of_record();
-        }
-        if self.serving.from_snapshot && self.serving.session.is_none() {
-            return fault.after_glimpse();
-        }
-        fault
-    }
-
     // Does what the clients have sent, and sends them what they are told. Once the feed has ended none is accepted, unless it stays.
     fn serve(&mut self, now_ms: u64) -> Result<(), LiveFault> {
-        if !self.is_closed() {
-            self.reception.accept(
+        if !self.is_closed() && self.day.tomorrow.is_none() {
+            self.client_side.accept(
                 self.log.runtime(),
-                &mut self.callers,
                 &mut self.spare,
                 self.turns.registry(),
                 now_ms,
             );
         }
-        self.reception
-            .turn(self.users.list(), now_ms, self.clients.buffer());
-        self.clients.seat(
-            &mut self.reception,
-            self.turns.registry(),
-            &mut self.desk,
-            now_ms,
-        );
-        self.clients.hear(&mut self.desk, now_ms);
+        self.client_side
+            .hear(self.turns.registry(), &mut self.desk, now_ms);
         self.answer(now_ms)?;
-        self.clients.tell(&mut self.desk, now_ms);
-        self.clients.close(
-            &mut self.reception,
-            self.turns.registry(),
-            &mut self.desk,
-            now_ms,
-        );
+        self.client_side
+            .tell(self.turns.registry(), &mut self.desk, now_ms);
         Ok(())
+    }
+
+    // Whether clients are sent snapshots yet.
+    fn is_ready(&self) -> bool {
+        let may_be_early = matches!(self.serving.ready, Ready::First);
+        (may_be_early || self.day.has_caught_up) && self.desk.follower().market().is_some()
     }
 
     // Answers all who wait, as often as the time allows.
     fn answer(&mut self, now_ms: u64) -> Result<(), LiveFault> {
-        if !self.clients.somebody_waits(&self.desk) || self.desk.follower().market().is_none() {
-            return Ok(());
-        }
-        let idle = !self.feed.is_busy() && !self.clients.is_telling(&self.desk);
-        if !self.budget.allows(now_ms, idle) {
+        if !self.is_ready()
+            || !self
+                .client_side
+                .may_answer(&self.desk, self.feed.is_busy(), now_ms)
+        {
             return Ok(());
         }
         let begun_ms = self.turns.now()?;
-        self.clients.answer(&mut self.desk, now_ms);
-        self.budget.spend(begun_ms, self.turns.now()?);
-        self.clients
-            .make_room(&mut self.reception, &mut self.desk, now_ms);
+        self.client_side.clients.answer(&mut self.desk, now_ms);
+        let ended_ms = self.turns.now()?;
+        self.client_side
+            .spend(&mut self.desk, begun_ms, ended_ms, now_ms);
         Ok(())
     }
 
-    // Looks at the files that others may change.
-    fn watch(&mut self, now_ms: u64) -> Result<(), LiveFault> {
-        if self.users.is_due(now_ms) {
-            self.spare.release();
-            self.users.look(&mut self.log, "users", now_ms);
-        }
-        match self.record.watch(self.log.runtime(), now_ms) {
-            Ok(()) => Ok(()),
-            Err(loss) => self.lose_record(loss),
-        }
-    }
-
-    // Writes the lines of the connections that have ended.
+    // Writes what has become of the connections.
     fn write_lines<W: CountedWrite>(&mut self, now_ms: u64, out: &mut W) {
         for _ in 0..u64::MAX {
-            let Some((number, departure)) = self.reception.next_ended() else {
+            let Some((who, happening)) = self.client_side.reception.next_happening() else {
                 break;
             };
-            self.log.departs(out, number, departure);
+            self.log.tell(out, &Visit::new(who, happening, now_ms));
         }
         self.log.report(now_ms);
-    }
-
-    // Has all of the record on disk.
-    fn finish(&mut self) -> Result<(), LiveFault> {
-        match self.record.finish() {
-            Ok(()) => Ok(()),
-            Err(error) => self.lose_record(RecordLoss::System(error)),
-        }
     }
 }

@@ -1,90 +1,183 @@
 //! What a live server opens before it serves.
 
-use crate::callers::Callers;
-use crate::fault::LiveFault;
 use crate::live::Serving;
-use crate::logins::Logins;
-use crate::record::Record;
-use crate::resuming::at_the_first;
-use crate::saving::Saver;
-use crate::session_fault::SessionFault;
-use crate::sessions::current_session;
 use crate::start::Start;
-use crate::turns::called;
+use crate::status::StatusPort;
 use itch_book::OrderBook;
+use itch_codec::Alpha;
+use itch_day::Mark;
 use itch_join::Joiner;
-use itch_live::{Desk, Follower, Sessions};
+use itch_live::{Follower, Sessions};
+use itch_records::{
+    DayPaths, LiveFault, Record, Replay, Replayed, Saver, at_the_first, make_folder, newest,
+};
+use itch_sessions::log::Log;
+use itch_sessions::sessions::{Listening, Login, current_session};
+use itch_sessions::{Callers, SessionFault, called};
 use std::alloc::{AllocError, Global};
 use std::fs::File;
 use std::net::{Net, SocketAddr};
 use std::rt::{Clock, Files};
 
-/// Opens the folder of snapshots, if there is to be one.
-pub(crate) fn open_folder<'a, R: Files<File = File>>(
+/// What a live server has of a day in files.
+#[derive(Drop)]
+pub(crate) struct OwnFiles {
+    pub record: Record,
+    /// What is still to be replayed of it.
+    pub replay: Option<Replay>,
+    pub saver: Option<Saver>,
+}
+
+/// The same, with the market that it begins with, and the session of the day, where that is known.
+#[derive(Drop)]
+pub(crate) struct Begun<B: OrderBook> {
+    pub files: OwnFiles,
+    pub joiner: Joiner<B>,
+    pub session: Option<Alpha<10>>,
+}
+
+/// Opens the files of a day. The record is replayed from the newest snapshot on that fits it; the folder lists no later ones. The record has to be of
+/// this session, if one is named.
+pub(crate) fn open_files<R, B>(
+    log: &mut Log<'_, R>,
+    serving: &Serving<'_>,
+    paths: &DayPaths,
+    session: Option<Alpha<10>>,
+) -> Result<Begun<B>, LiveFault>
+where
+    R: Files<File = File> + Clock + Eprint + AllocGlobal,
+    B: OrderBook<Alloc = Global>,
+{
+    let rt = log.runtime();
+    let saver = open_saver(rt, serving, paths)?;
+    let record = open_record(rt, serving, paths, session)?;
+    let resumed = match &paths.snapshots {
+        Some(folder) => newest_of(log, folder.as_str(), &record)?,
+        None => None,
+    };
+    let (joiner, mark) = match resumed {
+        Some(resumed) => resumed,
+        None => (first_joiner(rt.alloc(), serving)?, Mark::new()),
+    };
+    if let Some(saver) = &saver {
+        saver.forget_after(rt, mark.count)?;
+    }
+    let replay = record.replay(rt, mark)?;
+    let session = session.or(record.session());
+    let files = OwnFiles {
+        record,
+        replay,
+        saver,
+    };
+    Ok(Begun {
+        files,
+        joiner,
+        session,
+    })
+}
+
+fn open_saver<R: Files<File = File> + AllocGlobal>(
     rt: &R,
-    serving: &Serving<'a>,
-) -> Result<Option<Saver<'a>>, LiveFault> {
-    match serving.snapshots {
-        Some(words) => Ok(Some(Saver::open(rt, words)?)),
-        None => Ok(None),
+    serving: &Serving<'_>,
+    paths: &DayPaths,
+) -> Result<Option<Saver>, LiveFault> {
+    let (Some(words), Some(folder)) = (serving.snapshots, &paths.snapshots) else {
+        return Ok(None);
+    };
+    if serving.has_days()
+        && let Err(error) = make_folder(rt, folder.as_str())
+    {
+        return Err(LiveFault::Session(SessionFault::of_system(error, SessionFault::Folder(error))));
+    }
+    let folder = String::from_str(rt.alloc(), folder.as_str())?;
+    Ok(Some(Saver::open(rt, words, folder)?))
+}
+
+fn open_record<R: Files<File = File> + AllocGlobal>(
+    rt: &R,
+    serving: &Serving<'_>,
+    paths: &DayPaths,
+    session: Option<Alpha<10>>,
+) -> Result<Record, LiveFault> {
+    match (serving.record, &paths.record) {
+        (Some(words), Some(path)) => {
+            let path = String::from_str(rt.alloc(), path.as_str())?;
+            Record::open(rt, words, path, session)
+        }
+        _ => Ok(Record::none()),
     }
 }
 
-/// Opens the record, if there is to be one, and brings the joiner to its end.
-pub(crate) fn open_record<'a, R: Files<File = File> + Eprint + AllocGlobal, B: OrderBook>(
-    rt: &R,
-    serving: &Serving<'a>,
-    joiner: Joiner<B>,
-) -> Result<(Record<'a>, Joiner<B>), LiveFault> {
-    let mut joiner = joiner;
+// The market of the newest snapshot that fits the record.
+fn newest_of<R, B>(
+    log: &mut Log<'_, R>,
+    folder: &str,
+    record: &Record,
+) -> Result<Option<(Joiner<B>, Mark)>, LiveFault>
+where
+    R: Files<File = File> + Clock + Eprint + AllocGlobal,
+    B: OrderBook<Alloc = Global>,
+{
+    match record.path() {
+        Some(path) if record.length() > 0 => {
+            let replayed = Replayed {
+                path,
+                length: record.length(),
+            };
+            newest(log, folder, replayed)
+        }
+        _ => Ok(None),
+    }
+}
+
+// A joiner with the market before the first message, or with none where a snapshot comes first.
+fn first_joiner<B: OrderBook<Alloc = Global>>(
+    alloc: Global,
+    serving: &Serving<'_>,
+) -> Result<Joiner<B>, SessionFault> {
+    let mut joiner: Joiner<B> = Joiner::new(alloc, 0);
     if !serving.from_snapshot {
         at_the_first(&mut joiner)?;
     }
-    match serving.record {
-        Some(words) => Record::open(rt, words, serving.session, joiner),
-        None => Ok((Record::none(), joiner)),
-    }
+    Ok(joiner)
 }
 
 /// What follows the feed, in the session that is named or recorded.
 pub(crate) fn follower_of<B: OrderBook<Alloc = Global>>(
     alloc: Global,
     serving: &Serving<'_>,
-    account: &Logins<'_>,
-    record: &Record<'_>,
+    login: &Login,
+    session: Option<Alpha<10>>,
     joiner: Joiner<B>,
 ) -> Result<Follower<B>, AllocError> {
     let sessions = Sessions {
-        feed: serving.session.or(record.session()),
+        feed: session,
         glimpse: serving.glimpse_session,
     };
-    let credentials = account.first().credentials(current_session());
+    let credentials = login.credentials(current_session());
     Follower::new(alloc, credentials, sessions, joiner, 0)
 }
 
 /// Listens on the port of a server. Its socket will have this number.
 pub(crate) fn listen<R: Net + Clock + Eprint>(
     rt: &R,
-    start: &Start<'_, '_, R>,
+    start: &mut Start<'_, '_, R>,
     address: SocketAddr,
     token: usize,
 ) -> Result<Callers, SessionFault> {
-    called(Callers::listen(rt, start.turns.registry(), address, token))
+    let (callers, address) = called(Callers::open(rt, start.turns.registry(), address, token))?;
+    start.log.say(&Listening(address));
+    Ok(callers)
 }
 
-/// The desk under the name of the feed's session, once that is known.
-pub(crate) fn named_desk<R, B: OrderBook<Alloc = Global>>(
-    alloc: Global,
+/// Opens the status port, if there is to be one. Until the feed's session is known it shows no clients.
+pub(crate) fn open_status<R: Net + Clock + Eprint + AllocGlobal>(
     serving: &Serving<'_>,
-    follower: Follower<B>,
     start: &mut Start<'_, '_, R>,
-) -> Result<Desk<B>, LiveFault>
-where
-    R: Net + Clock + Files<File = File> + Eprint + AllocGlobal,
-{
-    let mut follower = follower;
-    if start.find_session(&mut follower)?.is_none() {
-        return Err(LiveFault::Session(SessionFault::TooMany));
+) -> Result<(), LiveFault> {
+    if let Some(place) = serving.status {
+        start.status = Some(StatusPort::open(&mut start.log, start.turns.registry(), place)?);
+        start.figures.slots = serving.clients as u64;
     }
-    Ok(Desk::new(alloc, follower, serving.clients)?)
+    Ok(())
 }

@@ -1,20 +1,18 @@
 //! Which session a feed is in that rejects the session of a record.
 ghost use Rattle.std.specs.Prelude.{◌≡◌};
-ghost use Rattle.itch_soup.specs.Names.{session_name};
-ghost use Rattle.itchsnap_live.specs.Questions.{asks_session, is_another};
+ghost use Rattle.itchsnap_live.specs.Questions.{asks_session};
 
-use crate::fault::{LiveFault, RecordFault};
 use crate::feed_side::FeedSide;
-use crate::log::Log;
-use crate::logins::Logins;
-use crate::resuming::at_the_first;
-use crate::sessions::current_session;
 use crate::start::Start;
 use itch_book::OrderBook;
 use itch_codec::Alpha;
-use itch_codec::spaces::after_spaces;
 use itch_join::Joiner;
 use itch_live::{Follower, Sessions};
+use itch_records::{LiveFault, RecordFault, at_the_first};
+use itch_sessions::log::Log;
+use itch_sessions::log::form::LogForm;
+use itch_sessions::sessions::current_session;
+use itch_sessions::{Logins, is_another};
 use itch_soup::Credentials;
 use std::alloc::Global;
 use std::fs::File;
@@ -33,20 +31,6 @@ pub fn asks_session(code: u8, was_accepted: bool, was_asked: bool) -> bool
     ensures { result ≡ asks_session code was_accepted was_asked }
 {
     code == b'S' && !was_accepted && !was_asked
-}
-
-/// Whether these are different sessions. A name may be padded at either end.
-pub fn is_another(session: &Alpha<10>, named: &Alpha<10>) -> bool
-    ensures { result ≡ is_another session.now named.now }
-{
-    name_of(session) != name_of(named)
-}
-
-// A session's name without the spaces at both ends.
-fn name_of(session: &Alpha<10>) -> &[u8]
-    ensures { result.now ≡ session_name session.entry.now }
-{
-    after_spaces(session.text().as_bytes())
 }
 
 /// The fault of a record of one session, where the feed says that it is in another.
@@ -75,7 +59,10 @@ where
     let Ok(account) = Logins::of(rt.alloc(), &feed.login()) else {
         return None;
     };
-    let Ok(mut start) = Start::new(rt, feed.servers(), account, None, FEED) else {
+    let Ok(log) = Log::new(rt, LogForm::Plain) else {
+        return None;
+    };
+    let Ok(mut start) = Start::new(rt, log, feed.servers(), account, None, FEED) else {
         return None;
     };
     let credentials = feed.login().credentials(current_session());
@@ -85,8 +72,8 @@ where
     start.ask(address, &mut follower, MOST_MS)
 }
 
-// A follower that has no session yet.
-fn nameless_follower<B: OrderBook<Alloc = Global>>(
+/// A follower that has no session yet.
+pub(crate) fn nameless_follower<B: OrderBook<Alloc = Global>>(
     alloc: Global,
     credentials: &Credentials,
     joiner: Joiner<B>,

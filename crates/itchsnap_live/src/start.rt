@@ -1,16 +1,15 @@
 //! A feed before its session is known.
 
-use crate::fault::LiveFault;
 use crate::feed_side::{FeedSide, SHARE};
-use crate::log::Log;
-use crate::logins::Logins;
-use crate::recording::Recording;
-use crate::route::Servers;
-use crate::turns::Turns;
+use crate::status::{STATUS, StatusPort};
 use itch_book::OrderBook;
 use itch_codec::Alpha;
 use itch_frame::tally::Failures;
 use itch_live::Follower;
+use itch_records::{LiveFault, Record, Recording};
+use itch_sessions::log::Log;
+use itch_sessions::{Logins, SPARED, Servers, Spare, Turns};
+use itch_status::Figures;
 use mio::Token;
 use std::alloc::Global;
 use std::fs::File;
@@ -31,6 +30,10 @@ pub(crate) struct Start<'r, 'a, R: Clock> {
     pub feed: FeedSide<'a>,
     /// The number of the feed's socket.
     pub token: usize,
+    /// Who asks for the status, and the figures besides those of the feed.
+    pub spare: Spare,
+    pub status: Option<StatusPort>,
+    pub figures: Figures,
 }
 
 impl<'r, 'a, R> Start<'r, 'a, R>
@@ -40,12 +43,12 @@ where
     /// No connection yet. The feed's socket will have this number.
     pub(crate) fn new(
         rt: &'r R,
+        log: Log<'r, R>,
         servers: Servers<'a>,
         account: Logins<'a>,
         glimpse_session: Option<Alpha<10>>,
         token: usize,
     ) -> Result<Start<'r, 'a, R>, LiveFault> {
-        let log = Log::new(rt)?;
         let turns = Turns::begin(rt, rt, EVENTS)?;
         let feed = FeedSide::new(rt.alloc(), servers, account, glimpse_session, token)?;
         Ok(Start {
@@ -53,7 +56,15 @@ where
             turns,
             feed,
             token,
+            spare: Spare::new(rt.alloc(), SPARED)?,
+            status: None,
+            figures: Figures::new(),
         })
+    }
+
+    /// Takes note of what is recorded already.
+    pub(crate) fn note_record(&mut self, record: &Record) {
+        self.figures.recorded = record.figures();
     }
 
     /// Follows the feed until its session is known.
@@ -95,14 +106,50 @@ where
         &mut self,
         follower: &mut Follower<B>,
     ) -> Result<(), LiveFault> {
-        let most_ms = if self.feed.is_busy() { 0 } else { MOMENT_MS };
+        let most_ms = if self.feed.is_busy() || self.is_asked() {
+            0
+        } else {
+            MOMENT_MS
+        };
         let now_ms = self.turns.wait(most_ms)?;
+        self.log.look_at_clock();
         self.note();
         self.feed
             .begin_turn(&mut self.log, &self.turns, follower, now_ms);
         let done = self.steps(follower, now_ms);
         self.feed.end_turn(&mut self.log, follower, now_ms);
+        self.tell_status(follower, now_ms);
         done
+    }
+
+    // Answers who asks for the status.
+    fn tell_status<B: OrderBook<Alloc = Global>>(&mut self, follower: &Follower<B>, now_ms: u64) {
+        let Some(status) = &mut self.status else {
+            return;
+        };
+        let rt = self.log.runtime();
+        status.hear(rt, self.turns.registry(), &mut self.spare, now_ms);
+        let (state, cause) = self.feed.state();
+        self.figures.state = state;
+        self.figures.cause = cause;
+        self.figures.server = self.feed.server_number();
+        self.figures.losses = self.feed.losses();
+        self.figures.session = follower.session();
+        self.figures.next = follower.next();
+        self.figures.lines_lost = self.log.lost();
+        self.figures.uptime_ms = now_ms;
+        if status.is_asked() {
+            status.answer(rt, &self.figures);
+        }
+        status.tell(now_ms);
+    }
+
+    // Whether something is to be done for the status port before anything else is ready.
+    fn is_asked(&self) -> bool {
+        match &self.status {
+            Some(status) => status.is_busy(),
+            None => false,
+        }
     }
 
     // Takes note of what is ready.
@@ -111,6 +158,11 @@ where
             let Token(token) = event.token();
             if token == self.token {
                 self.feed.note(event);
+            }
+            if token >= STATUS
+                && let Some(status) = &mut self.status
+            {
+                status.note(token, event);
             }
         }
     }

@@ -1,4 +1,4 @@
-//! The commands over files: the lines and statuses of faults that no run reaches, writes that fail without a buffer before them, and
+//! The commands over files: the lines and exit statuses of faults that no run reaches, writes that fail without a buffer before them, and
 //! sets of all locates.
 mod blocks;
 mod cases;

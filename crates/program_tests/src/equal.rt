@@ -1,5 +1,5 @@
-//! Comparisons that end a test. They have no contract, so that a proof of a test does not carry how a value is shown. A library may
-//! not end the process, so each of the two crates of tests has them.
+//! Comparisons that end a test. They have no contract, so that a proof of a test does not have to know how a value is shown. A library may
+//! not end the process, so each crate of tests has its own.
 use std::fmt::Debug;
 use std::process::Abort;
 use std::test::Fail;

@@ -1,11 +1,11 @@
-//! Tests of the program's parts: the commands over files, sessions over sockets, the core of a live server, and what the words of the
-//! command line ask for.
+//! Tests of the program's parts: the commands over files, sessions over sockets, the core of a live server, and the parsing of the command
+//! line.
 //!
-//! They see what a run of the program does not: the lines and statuses of faults that no run reaches, writes that fail without a
-//! buffer before them, sets of all locates, whole days of calls on a live server's core, and what the words ask for. What is seen from
-//! outside is in `tests/program`.
+//! They cover behaviour that a run of the program does not show: the lines and exit statuses of faults that no run reaches, writes that
+//! fail without a buffer before them, sets of all locates, complete days of calls on a live server's core, and the parsed command lines.
+//! Behaviour that can be seen from outside is tested in `tests/program`.
 //!
-//! The helpers take any book and most have no contract: the proof of a test then does not carry what each call leaves.
+//! The helpers take any book and most have no contract: the proof of a test then does not have to know the effect of each call.
 #![tactic(auto)]
 
 #[cfg(test)]

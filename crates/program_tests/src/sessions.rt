@@ -1,4 +1,4 @@
-//! How long a peer has, what a login is, and the faults of sessions.
+//! The time that a peer has, the parsing of credentials, and the faults of sessions.
 
 mod examples;
 mod failing_devices;
@@ -7,17 +7,17 @@ mod progress;
 use crate::equal::{Host, TestResult, holds_in, same, same_in};
 use itch_frame::FrameFault;
 use itch_market::Refusal;
+use itch_sessions::SessionFault;
+use itch_sessions::sessions::{Listening, Login, Patient, time_left};
 use itch_snapshot::SnapFault;
 use itch_soup::SoupFault;
-use itchsnap_live::SessionFault;
-use itchsnap_live::sessions::{Listening, Login, Patient, time_left};
 use std::cell::Cell;
 use std::io::{self, Read, Write};
 use std::net::{IpAddr, Ipv4Addr, Ipv6Addr, SocketAddr, TcpListener, TcpStream};
 use std::rt::Clock;
 use std::time::Duration;
 
-// A clock that goes on by 4 seconds whenever it is read.
+// A clock that advances by 4 seconds at each reading.
 #[derive(Drop)]
 struct Ticking(Cell<u64>);
 
@@ -41,7 +41,7 @@ fn patience_ends_for_all_reads_together(rt: HostRuntime) -> TestResult {
     client.write_all(b"12345")?;
     let clock = Ticking(Cell::new(0));
     let mut patient = Patient::new(stream, &clock);
-    // The reads come at once and after 4, 8, 12 and 16 seconds, and a byte is there for each.
+    // The reads come at once and after 4, 8, 12 and 16 seconds, and each finds a byte.
     for _ in 0..4 {
         let mut byte = [0];
         same(&rt, patient.read(&mut byte)?, 1);
@@ -59,7 +59,7 @@ fn patience_grows_with_what_was_taken(rt: HostRuntime) -> TestResult {
     let (stream, _) = listener.accept()?;
     let clock = Ticking(Cell::new(0));
     let mut patient = Patient::new(stream, &clock);
-    // The writes come as the reads above. What the first takes is two seconds' worth, which the fifth write needs.
+    // The writes come like the reads above. The first takes two seconds' worth of bytes, which the fifth write needs.
     patient.write_all(&[0; 1 << 17])?;
     for _ in 0..4 {
         patient.write_all(&[0])?;
@@ -178,7 +178,7 @@ fn faults_of_sessions_have_their_line_and_status(rt: HostRuntime) -> TestResult 
     Ok(())
 }
 
-// A fault has this status and, after it, this line.
+// A fault has this exit status and, after it, this line.
 fn is_told(rt: &impl Host, fault: &SessionFault, wanted: &str) -> TestResult {
     let told = format!(in rt.alloc(); "{} {fault}", fault.status())?;
     same(rt, told.as_str(), wanted);

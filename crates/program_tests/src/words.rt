@@ -1,4 +1,4 @@
-//! What the words of the command line ask for.
+//! The parsing of the command line.
 mod live;
 mod sessions;
 
@@ -7,7 +7,7 @@ use itchsnap_cli::words::{Job, read_job};
 use std::alloc::{AllocError, Global};
 use std::test::Fail;
 
-// The program's name, and these words after it.
+// Returns the program's name, followed by these words.
 pub(crate) fn words(alloc: Global, line: &str) -> Result<Vec<String>, AllocError> {
     let mut words: Vec<String> = vec![in alloc; String::from_str(alloc, "itchsnap")?]?;
     for word in line.split_whitespace() {
@@ -16,7 +16,8 @@ pub(crate) fn words(alloc: Global, line: &str) -> Result<Vec<String>, AllocError
     Ok(words)
 }
 
-// What these words ask for, as `{:?}` shows it, or why not: a job with all its types is no value of a test.
+// Returns the request of a command line, as `{:?}` shows it, or the reason why there is none: a job with all its types cannot be a value of
+// a test.
 pub(crate) fn asked(alloc: Global, words: &[String]) -> Result<String, Fail> {
     let job = read_job(alloc, words, false, None);
     match &job {
@@ -29,7 +30,7 @@ fn shown(alloc: Global, job: &Job<'_>) -> Result<String, Fail> {
     Ok(format!(in alloc; "{job:?}")?)
 }
 
-// These words ask for this.
+// A command line has this request.
 pub(crate) fn ask_for(rt: &impl Host, line: &str, wanted: &str) -> TestResult {
     let words = words(rt.alloc(), line)?;
     let found = asked(rt.alloc(), words.as_slice())?;
@@ -37,13 +38,13 @@ pub(crate) fn ask_for(rt: &impl Host, line: &str, wanted: &str) -> TestResult {
     Ok(())
 }
 
-// A row of a table: the words, and what they ask for, after an arrow.
+// Splits a row of a table: the command line and, after an arrow, its request.
 pub(crate) fn columns(row: &str) -> Result<(&str, &str), Fail> {
     Ok(row.split_once(" => ").ok_or("two columns")?)
 }
 
-// Words after the program's name, and the request that they are.
-const REQUESTS: [&str; 45] = [
+// Command lines without the program's name, and their requests.
+const REQUESTS: [&str; 50] = [
     "snap => One { file: None, command: Snap { limit: Limit { after: None, until: None }, selection: All } }",
     "snap day.itch => One { file: Some(\"day.itch\"), command: Snap { limit: Limit { after: None, until: None }, selection: All } }",
     "snap day.itch --after 0 => One { file: Some(\"day.itch\"), command: Snap { limit: Limit { after: Some(0), until: None }, selection: All } }",
@@ -55,13 +56,18 @@ const REQUESTS: [&str; 45] = [
     "check --expect 007 --ended --after 5 => One { file: None, command: Check { limit: Limit { after: Some(5), until: None }, expected: Expected { count: Some(7), end: true }, form: Text } }",
     "info day.itch => One { file: Some(\"day.itch\"), command: Info { limit: Limit { after: None, until: None }, form: Text } }",
     "info - --json --after 3 --until 9:30 => One { file: None, command: Info { limit: Limit { after: Some(3), until: Some(34200000000000) }, form: Json } }",
-    "show day.itch => One { file: Some(\"day.itch\"), command: Show { kind: Day(Limit { after: None, until: None }), form: Text, filters: Filters { only: None, stocks: None, types: None, reference: None } } }",
-    "show --names --reference 18446744073709551615 => One { file: None, command: Show { kind: Day(Limit { after: None, until: None }), form: Named, filters: Filters { only: None, stocks: None, types: None, reference: Some(18446744073709551615) } } }",
-    "show - --json --snapshot => One { file: None, command: Show { kind: Snapshot, form: Json, filters: Filters { only: None, stocks: None, types: None, reference: None } } }",
-    "show --only 1-3 --stock MSFT,AAPL --types AEX --reference 007 => One { file: None, command: Show { kind: Day(Limit { after: None, until: None }), form: Text, filters: Filters { only: Some(\"1-3\"), stocks: Some(\"MSFT,AAPL\"), types: Some(\"AEX\"), reference: Some(7) } } }",
-    "show --orders day.itch => One { file: Some(\"day.itch\"), command: ShowOrders { limit: Limit { after: None, until: None }, form: Text, filters: Filters { only: None, stocks: None, types: None, reference: None } } }",
-    "show --orders --csv --after 2 --until 7 --stock AAPL => One { file: None, command: ShowOrders { limit: Limit { after: Some(2), until: Some(7) }, form: Csv, filters: Filters { only: None, stocks: Some(\"AAPL\"), types: None, reference: None } } }",
-    "show --json --orders --reference 7 => One { file: None, command: ShowOrders { limit: Limit { after: None, until: None }, form: Json, filters: Filters { only: None, stocks: None, types: None, reference: Some(7) } } }",
+    "show day.itch => One { file: Some(\"day.itch\"), command: Show { kind: Day(Limit { after: None, until: None }), form: Text, filters: Filters { start: Start { before: 0, since: None }, only: None, stocks: None, types: None, reference: None } } }",
+    "show --names --reference 18446744073709551615 => One { file: None, command: Show { kind: Day(Limit { after: None, until: None }), form: Named, filters: Filters { start: Start { before: 0, since: None }, only: None, stocks: None, types: None, reference: Some(18446744073709551615) } } }",
+    "show - --json --snapshot => One { file: None, command: Show { kind: Snapshot, form: Json, filters: Filters { start: Start { before: 0, since: None }, only: None, stocks: None, types: None, reference: None } } }",
+    "show --only 1-3 --stock MSFT,AAPL --types AEX --reference 007 => One { file: None, command: Show { kind: Day(Limit { after: None, until: None }), form: Text, filters: Filters { start: Start { before: 0, since: None }, only: Some(\"1-3\"), stocks: Some(\"MSFT,AAPL\"), types: Some(\"AEX\"), reference: Some(7) } } }",
+    "show --orders day.itch => One { file: Some(\"day.itch\"), command: ShowOrders { limit: Limit { after: None, until: None }, form: Text, filters: Filters { start: Start { before: 0, since: None }, only: None, stocks: None, types: None, reference: None } } }",
+    "show --orders --csv --after 2 --until 7 --stock AAPL => One { file: None, command: ShowOrders { limit: Limit { after: Some(2), until: Some(7) }, form: Csv, filters: Filters { start: Start { before: 0, since: None }, only: None, stocks: Some(\"AAPL\"), types: None, reference: None } } }",
+    "show --csv --types A --after 2 --stock AAPL => One { file: None, command: Show { kind: Day(Limit { after: Some(2), until: None }), form: Csv { kind: 65 }, filters: Filters { start: Start { before: 0, since: None }, only: None, stocks: Some(\"AAPL\"), types: Some(\"A\"), reference: None } } }",
+    "show --json --orders --reference 7 => One { file: None, command: ShowOrders { limit: Limit { after: None, until: None }, form: Json, filters: Filters { start: Start { before: 0, since: None }, only: None, stocks: None, types: None, reference: Some(7) } } }",
+    "show --from 3 --since 9:30 --until 9:31 => One { file: None, command: Show { kind: Day(Limit { after: None, until: Some(34260000000000) }), form: Text, filters: Filters { start: Start { before: 2, since: Some(34200000000000) }, only: None, stocks: None, types: None, reference: None } } }",
+    "show --orders --from 001 - => One { file: None, command: ShowOrders { limit: Limit { after: None, until: None }, form: Text, filters: Filters { start: Start { before: 0, since: None }, only: None, stocks: None, types: None, reference: None } } }",
+    "cut day.itch => One { file: Some(\"day.itch\"), command: Cut { limit: Limit { after: None, until: None }, filters: Filters { start: Start { before: 0, since: None }, only: None, stocks: None, types: None, reference: None } } }",
+    "cut --from 2 --after 5 --since 7 --until 9 --only 1-3 --stock AAPL --types AE => One { file: None, command: Cut { limit: Limit { after: Some(5), until: Some(9) }, filters: Filters { start: Start { before: 1, since: Some(7) }, only: Some(\"1-3\"), stocks: Some(\"AAPL\"), types: Some(\"AE\"), reference: None } } }",
     "canon => One { file: None, command: Canon { check: false } }",
     "canon day.itch => One { file: Some(\"day.itch\"), command: Canon { check: false } }",
     "canon --check => One { file: None, command: Canon { check: true } }",
@@ -76,7 +82,7 @@ const REQUESTS: [&str; 45] = [
     "join --only=40 a.snap - => Two { first: Some(\"a.snap\"), second: None, command: Join { part: FeedPart { before: 0, limit: Limit { after: None, until: None } }, selection: Locates(\"40\") } }",
     "book 0 => One { file: None, command: Book { selection: Locates(\"0\"), depth: None, kind: Day(Limit { after: None, until: None }), form: Text } }",
     "book 1 --depth 0 => One { file: None, command: Book { selection: Locates(\"1\"), depth: Some(0), kind: Day(Limit { after: None, until: None }), form: Text } }",
-    "show --snapshot day.snap => One { file: Some(\"day.snap\"), command: Show { kind: Snapshot, form: Text, filters: Filters { only: None, stocks: None, types: None, reference: None } } }",
+    "show --snapshot day.snap => One { file: Some(\"day.snap\"), command: Show { kind: Snapshot, form: Text, filters: Filters { start: Start { before: 0, since: None }, only: None, stocks: None, types: None, reference: None } } }",
     "compare a.snap - --snapshot --json => Two { first: Some(\"a.snap\"), second: None, command: Compare { kind: Snapshot, form: Json } }",
     "compare --first a.itch day.itch => Two { first: Some(\"a.itch\"), second: Some(\"day.itch\"), command: CompareFirst { limit: Limit { after: None, until: None }, form: Text } }",
     "compare a.itch - --json --after 5 --until 7 --first => Two { first: Some(\"a.itch\"), second: None, command: CompareFirst { limit: Limit { after: Some(5), until: Some(7) }, form: Json } }",
@@ -120,7 +126,7 @@ fn points_are_read(rt: HostRuntime) -> TestResult {
     Ok(())
 }
 
-// Where the words of a line send a snapshot, if they are no usage fault. Standard output is a terminal, where none is written.
+// Returns where a command line sends a snapshot, unless it is a usage fault. Standard output is a terminal, where none is written.
 fn sent_to(alloc: Global, line: &str) -> Result<Option<String>, Fail> {
     let words = words(alloc, line)?;
     match read_job(alloc, words.as_slice(), true, None) {
@@ -136,6 +142,7 @@ fn a_snapshot_is_sent_to_a_file(rt: HostRuntime) -> TestResult {
         "canon --output=./- day.snap => ./-",
         "join a.snap day.itch --only 1 --output out.snap => out.snap",
         "fetch --port 1 --user u --pass p --output out.snap => out.snap",
+        "cut day.itch --output part.itch => part.itch",
         "check day.itch => nowhere",
     ] {
         let (line, path) = columns(row)?;
@@ -145,6 +152,7 @@ fn a_snapshot_is_sent_to_a_file(rt: HostRuntime) -> TestResult {
     for line in [
         "snap day.itch",
         "snap --output - day.itch",
+        "cut day.itch --from 2",
         "canon --check --output out.snap",
     ] {
         holds_in(&rt, line, sent_to(rt.alloc(), line)?.is_none());
@@ -179,7 +187,7 @@ fn times_are_read(rt: HostRuntime) -> TestResult {
         let line = format!(in rt.alloc(); "show --until {time} --after 5 day.itch")?;
         let wanted = format!(in rt.alloc();
             "Files {{ request: One {{ file: Some(\"day.itch\"), command: Show {{ kind: Day(Limit {{ after: Some(5), \
-             until: Some({nanoseconds}) }}), form: Text, filters: Filters {{ only: None, stocks: None, types: None, reference: None }} }} }}, \
+             until: Some({nanoseconds}) }}), form: Text, filters: Filters {{ start: Start {{ before: 0, since: None }}, only: None, stocks: None, types: None, reference: None }} }} }}, \
              progress: false, output: None }}"
         )?;
         ask_for(&rt, line.as_str(), wanted.as_str())?;
@@ -194,7 +202,7 @@ fn completions_are_asked_for(rt: HostRuntime) -> TestResult {
     ask_for(&rt, "completions fish", "Completions(Fish)")
 }
 
-// The example of the crate's page, without and with `--progress`.
+// Tests the example of the crate's page, without and with `--progress`.
 #[test]
 fn a_check_is_asked_for(rt: HostRuntime) -> TestResult {
     for (line, progress) in [

@@ -17,7 +17,7 @@
 #![no_std]
 #![allow(non_camel_case_types)]
 
-use core::ffi::c_void;
+use core::ffi::{c_char, c_void};
 
 /// The version of this interface.
 pub const ITCHSNAP_VERSION: u32 = 1;
@@ -27,6 +27,10 @@ pub const ITCHSNAP_NONE: itchsnap_handle = itchsnap_handle { at: core::ptr::null
 
 /// The value of `after` and of `until` with which [`itchsnap_snap`] takes all messages.
 pub const ITCHSNAP_ALL: u64 = u64::MAX;
+
+/// As many bytes as the text of a code may have.
+pub const ITCHSNAP_REASON_LEN: usize = 32;
+
 pub const ITCHSNAP_OK: u32 = 0;
 
 // A payload spells no message, or a block no packet.
@@ -68,7 +72,7 @@ pub const ITCHSNAP_SHORT: u32 = 37;
 
 // A call is refused.
 pub const ITCHSNAP_OUT_OF_MEMORY: u32 = 48;
-/// The caller's memory is too short, and is as it was; len: the bytes that are needed.
+/// The caller's memory is too short, and is as it was; len: what is needed. Rows: it is full.
 pub const ITCHSNAP_NO_ROOM: u32 = 49;
 /// The handle does not hold what the call is about.
 pub const ITCHSNAP_WRONG_HANDLE: u32 = 50;
@@ -141,6 +145,98 @@ pub const ITCHSNAP_BROKEN_SESSION: u32 = 101;
 #[repr(C)]
 #[derive(Clone, Copy, Debug)]
 pub struct itchsnap_answer {
+    pub detail: u64,
+    pub code: u32,
+}
+
+/// What was written into the caller's memory.
+#[repr(C)]
+#[derive(Clone, Copy, Debug)]
+pub struct itchsnap_written {
+    /// OK and NO_ROOM: the bytes of the snapshot or the text, or the items of the list.
+    pub len: usize,
+    pub code: u32,
+}
+
+/// The fields of a message, by the names of the standard. Those that its type does not have are 0.
+/// Prices have four implied decimals. Texts are padded with spaces. A code field has the byte of
+/// the message.
+#[repr(C)]
+#[derive(Clone, Copy, Debug, Default, PartialEq, Eq)]
+pub struct itchsnap_message {
+    /// In nanoseconds since midnight.
+    pub timestamp: u64,
+    pub order_reference_number: u64,
+    pub original_order_reference_number: u64,
+    pub new_order_reference_number: u64,
+    pub match_number: u64,
+    pub shares: u64,
+    /// End of Snapshot: the number of the first message that the snapshot does not contain.
+    pub sequence_number: u64,
+    pub executed_shares: u32,
+    pub cancelled_shares: u32,
+    pub price: u32,
+    pub execution_price: u32,
+    pub cross_price: u32,
+    pub round_lot_size: u32,
+    pub etp_leverage_factor: u32,
+    pub stock_locate: u16,
+    pub tracking_number: u16,
+    pub stock: [u8; 8],
+    pub mpid: [u8; 4],
+    pub attribution: [u8; 4],
+    pub reason: [u8; 4],
+    pub issue_sub_type: [u8; 2],
+    /// The first byte of the payload.
+    pub message_type: u8,
+    pub buy_sell_indicator: u8,
+    pub printable: u8,
+    pub cross_type: u8,
+    pub event_code: u8,
+    pub market_category: u8,
+    pub financial_status_indicator: u8,
+    pub round_lots_only: u8,
+    pub issue_classification: u8,
+    pub authenticity: u8,
+    pub short_sale_threshold_indicator: u8,
+    pub ipo_flag: u8,
+    pub luld_reference_price_tier: u8,
+    pub etp_flag: u8,
+    pub inverse_indicator: u8,
+    pub trading_state: u8,
+    pub reserved: u8,
+    pub reg_sho_action: u8,
+    pub market_code: u8,
+    pub operational_halt_action: u8,
+    pub primary_market_maker: u8,
+    pub market_maker_mode: u8,
+    pub market_participant_state: u8,
+}
+
+/// A message of blocks.
+#[repr(C)]
+#[derive(Clone, Copy, Debug)]
+pub struct itchsnap_row {
+    /// Its number, counted from 1.
+    pub number: u64,
+    /// Where its payload begins in the blocks; the two bytes before have its length.
+    pub offset: u64,
+    /// In nanoseconds since midnight; 0 if it has no header, or is not decoded.
+    pub timestamp: u64,
+    /// Its first bytes, with zeros after the last; only a message that is not decoded may be longer.
+    pub payload: [u8; 48],
+}
+
+/// What a call returns.
+#[repr(C)]
+#[derive(Clone, Copy, Debug)]
+pub struct itchsnap_decoded {
+    /// The number of the last message that was passed.
+    pub count: u64,
+    /// The rows that were written.
+    pub rows: usize,
+    /// The bytes of the blocks that were passed.
+    pub len: usize,
     pub detail: u64,
     pub code: u32,
 }
@@ -219,15 +315,6 @@ pub struct itchsnap_price {
 #[derive(Clone, Copy, Debug)]
 pub struct itchsnap_count {
     pub count: u64,
-    pub code: u32,
-}
-
-/// What a call returns.
-#[repr(C)]
-#[derive(Clone, Copy, Debug)]
-pub struct itchsnap_written {
-    /// OK and NO_ROOM: the bytes of the snapshot, or the items of the list.
-    pub len: usize,
     pub code: u32,
 }
 
@@ -330,8 +417,41 @@ unsafe extern "C" {
     /// The version of the library that is linked: the two should be equal.
     pub fn itchsnap_version() -> u32;
 
+    /// Writes the text of a code, such as "stock mismatch", and a zero byte after it to the front of
+    /// out; len counts that byte too. No text has more than ITCHSNAP_REASON_LEN bytes. Codes: OK, or
+    /// the first that fits of ABSENT (there is no such code), NO_ROOM.
+    pub fn itchsnap_reason_text(code: u32, out: *mut c_char, len: usize) -> itchsnap_written;
+
     /// Whether a payload spells a message, and if not, its first fault: codes 0 to 5.
     pub fn itchsnap_decode_fault(payload: *const u8, len: usize) -> itchsnap_answer;
+
+    /// Writes the fields of the message that a payload spells to out; if it spells none, out is as
+    /// it was. A type that is not one of S R H Y h L A F E C X D U P Q B and G is not decoded: of
+    /// such a message there is the type alone. Codes: 0 to 5.
+    pub fn itchsnap_decode(payload: *const u8, len: usize, out: *mut itchsnap_message) -> itchsnap_answer;
+
+    /// Writes the messages of blocks, as a day file has them, side by side to the front of out:
+    /// those of the listed types, such as "AF", and, if locates are listed, only those at one of
+    /// them. No order rule is applied. before is the number of the last message before the blocks.
+    ///
+    /// OK: the bytes end after a block, or at an empty one. NO_ROOM: the message after those that
+    /// were passed is wanted, and out is full: call again with the blocks from len on, and with
+    /// count as before. TRUNCATED: the bytes end within a block, detail being its bytes that are
+    /// there; in a piece of a day file these are the beginning of the next piece. 1 to 5: the
+    /// message after those that were passed is of a listed type, and spells none. Others are not
+    /// looked into; without a type in the list, the messages are counted. Codes: 0 to 5, TRUNCATED,
+    /// TOO_MANY_MESSAGES, NO_ROOM, OUT_OF_MEMORY (then nothing was passed).
+    pub fn itchsnap_decode_blocks(
+        blocks: *const u8,
+        len: usize,
+        before: u64,
+        types: *const u8,
+        types_len: usize,
+        locates: *const u16,
+        locates_len: usize,
+        out: *mut itchsnap_row,
+        out_len: usize,
+    ) -> itchsnap_decoded;
 
     /// Frees what a handle holds, if it holds anything. The handle is then empty, and may be filled
     /// again.

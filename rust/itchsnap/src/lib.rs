@@ -1,7 +1,7 @@
 //! Market snapshots for Nasdaq TotalView-ITCH 5.0, over the proved library `libitchsnap`.
 //!
 //! A [`Day`] is a day file, a [`Snapshot`] the market at one message of a feed, a [`Market`] takes messages and is asked in between,
-//! and a [`Joiner`] joins a snapshot and a live feed. What can be asked of a market is in [`View`]. A call that is refused returns
+//! and a [`Joiner`] joins a snapshot and a live feed. [`decode`] makes the fields of a message. What can be asked of a market is in [`View`]. A call that is refused returns
 //! [`Refused`], with the [`Reason`].
 //!
 //! ```
@@ -31,6 +31,7 @@ mod day;
 mod handle;
 mod joiner;
 mod market;
+mod message;
 mod refused;
 mod snapshot;
 mod view;
@@ -38,6 +39,7 @@ mod view;
 pub use day::{Day, Messages, Part, messages};
 pub use joiner::{Joiner, Step};
 pub use market::{Applied, Market};
+pub use message::{Message, decode};
 pub use refused::{Reason, Refused};
 pub use snapshot::Snapshot;
 pub use view::{Level, Order, Price, Prices, Side, View};

@@ -40,7 +40,7 @@ fn set_listed<B: OrderBook>(market: &Market<B>, set: &LocateSet<B::Alloc>) -> Re
     Ok(())
 }
 
-/// Writes the heading, and below it the books of the locates that are wanted, in rising order.
+/// Writes the heading, and below it the books of the requested locates, in ascending order.
 pub fn write_books<B: OrderBook, W: CountedWrite>(
     market: &Market<B>,
     only: Option<&LocateSet<B::Alloc>>,

@@ -34,7 +34,7 @@ pub fn book<R: CountedRead + Drop, A: Allocator + Copy, W: CountedWrite>(
     one_blocks::<_, _, Book<A>, _>(alloc, locate, &mut reader, kind, out)
 }
 
-// The same over a reader of blocks, for a file of either kind, with any book of orders.
+// Writes the price levels of a locate as [`book`] does, over a reader of blocks, for a file of either kind, with any book of orders.
 fn one_blocks<R: CountedRead, A: Allocator, B: OrderBook, W: CountedWrite>(
     alloc: B::Alloc,
     locate: u16,

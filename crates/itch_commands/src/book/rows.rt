@@ -8,7 +8,7 @@ use crate::form::BookForm;
 use crate::line::Line;
 use itch_codec::Side;
 
-/// The lines of a book: their form, and the locate and stock that are in the title, or in each of them.
+/// The lines of a book: their form, and the locate and the stock, which are in the title or in each line.
 #[derive(Clone, Copy)]
 pub struct Rows<'a> {
     pub form: BookForm,
@@ -16,7 +16,7 @@ pub struct Rows<'a> {
     pub stock: &'a str,
 }
 
-/// What stands before all books.
+/// Returns the heading of all books.
 pub fn head(form: BookForm) -> Line
     ensures { result ≡ head form }
 {
@@ -29,7 +29,7 @@ pub fn head(form: BookForm) -> Line
 }
 
 impl Rows<'_> {
-    /// What stands before the lines of the prices.
+    /// Returns the title, which is before the lines of the prices.
     pub fn title(&self) -> Line
         requires { length self.now.stock.now ≤ 8 }
         ensures { result ≡ title self.now.form self.now.locate self.now.stock.now }
@@ -47,7 +47,7 @@ impl Rows<'_> {
         line
     }
 
-    /// The line of a price: all shares at it, and how many orders have them.
+    /// Returns the line of a price: all shares at it, and the number of its orders.
     pub fn row(&self, side: Side, price: u32, shares: u128, orders: u64) -> Line
         requires { length self.now.stock.now ≤ 8 }
         ensures { result ≡ row self.now.form self.now.locate self.now.stock.now side price shares orders }

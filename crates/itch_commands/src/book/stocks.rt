@@ -14,7 +14,7 @@ use itch_frame::{BlockReader, CountedRead, CountedWrite};
 use itch_market::Market;
 use std::alloc::Allocator;
 
-/// Writes the books of the locates that have one of these stocks, by the directory that the file leaves, as `book_blocks` does. The
+/// Writes the books of the locates that have one of these stocks, according to the directory after the file, as `book_blocks` does. The
 /// names are separated by commas.
 ///
 /// `UnknownStock` if the directory has no entry with the stock of a name: then nothing is written.

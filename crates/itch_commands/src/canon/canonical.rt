@@ -11,9 +11,9 @@ use itch_codec::{Message, Seq, encode};
 use itch_market::Market;
 use itch_snapshot::SnapshotIter;
 
-/// Whether bytes are exactly the canonical bytes of a market and the block of an End of Snapshot with this number.
+/// Returns whether bytes are exactly the canonical bytes of a market and the block of an End of Snapshot with this number.
 ///
-/// No snapshot is made: each message is spelled and compared with the bytes at its place.
+/// It builds no snapshot: it encodes each message and compares it with the bytes at its place.
 pub fn is_closed<B: OrderBook>(bytes: &[u8], market: &Market<B>, next: Seq) -> bool
     ensures { (result ≡ true) ↔ (bytes.now ≡ canon market.now ++ closing next) }
 {
@@ -31,7 +31,7 @@ pub fn is_closed<B: OrderBook>(bytes: &[u8], market: &Market<B>, next: Seq) -> b
     }
 }
 
-// The bytes after the block of a message's spelling, if they begin with it.
+// Returns the bytes after the block of a message, if they begin with it.
 fn after_message<'a>(bytes: &'a [u8], message: &Message<'_>) -> Option<&'a [u8]>
     ensures strips { IsPayload (spelling message.now) → StripsFront bytes.now (block (spelling message.now)) result }
     ensures fits { IsMessage message.now }
@@ -40,7 +40,7 @@ fn after_message<'a>(bytes: &'a [u8], message: &Message<'_>) -> Option<&'a [u8]>
     after_block(bytes, payload.bytes())
 }
 
-// The bytes after the block of a payload, if they begin with it.
+// Returns the bytes after the block of a payload, if they begin with it.
 fn after_block<'a>(bytes: &'a [u8], payload: &[u8]) -> Option<&'a [u8]>
     ensures { IsPayload payload.now → StripsFront bytes.now (block payload.now) result }
 {

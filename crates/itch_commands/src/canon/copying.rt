@@ -1,4 +1,4 @@
-//! A snapshot file read along with a copy of its bytes.
+//! Reads a snapshot file and copies its bytes.
 ghost use Rattle.std.specs.Prelude.{◌≡◌, ◌++◌, [], OnOk, IfOk, Ok};
 ghost use Rattle.itch_frame.specs.Blocks.{IsPayload, block};
 ghost use Rattle.itch_frame.specs.Reading.{bytes_left};
@@ -15,7 +15,7 @@ use itch_frame::{BlockReader, CountedRead};
 use itch_snapshot::{SnapFault, SnapshotReader};
 use std::alloc::{AllocError, Allocator};
 
-/// Reads a snapshot file up to its End of Snapshot, of which the number is returned, and copies the bytes that it reads.
+/// Reads a snapshot file up to its End of Snapshot, copies the bytes that it reads, and returns the number in the End of Snapshot.
 ///
 /// A message is taken before its bytes are copied, so that a fault in it is returned even if there is no memory for them.
 pub fn copy_snapshot<R: CountedRead, C: Allocator, B: OrderBook, A: Allocator>(
@@ -59,7 +59,7 @@ fn copy_next<R: CountedRead, C: Allocator, B: OrderBook, A: Allocator>(
     }
 }
 
-// Copies the block of a payload after the bytes before it.
+// Appends the block of a payload to the copy.
 fn copy_block<A: Allocator>(copy: &mut Vec<u8, A>, payload: &[u8]) -> Result<(), AllocError>
     requires { IsPayload payload.now }
     ensures { OnOk result (copy.new.items ≡ copy.old.items ++ block payload.now) }
@@ -69,7 +69,7 @@ fn copy_block<A: Allocator>(copy: &mut Vec<u8, A>, payload: &[u8]) -> Result<(),
     copy.extend_from_slice(payload)
 }
 
-/// Reads what follows an End of Snapshot. Returns true at the end of the input, and false at an empty block.
+/// Reads the rest after an End of Snapshot. Returns true at the end of the input, and false at an empty block.
 pub fn read_end<R: CountedRead, C: Allocator>(
     reader: &mut BlockReader<R, C>,
 ) -> Result<bool, ToolFault>

@@ -1,4 +1,4 @@
-//! `compare --first`: after how many messages the markets of two files first differ.
+//! `compare --first`: finds the number of messages after which the markets of two files first differ.
 ghost use Rattle.std.specs.Prelude.{◌≡◌, ◌<◌, ◌^◌, ◌↔◌, None, false, is_none, length, IsTrue};
 ghost use Rattle.itch_market.specs.SameMarkets.{Same};
 ghost use Rattle.itch_day.specs.Passing.{IsLeft, left_by};
@@ -26,11 +26,11 @@ use itch_market::{Market, Refused, reason_of};
 use itch_snapshot::same_market;
 use std::alloc::Allocator;
 
-/// Writes `different after N` if the markets of two day files differ after N messages of each, and not after fewer, and returns
-/// false. Otherwise it writes `same` and returns true. A file with fewer messages counts as all of them.
+/// Writes `different after N` if the markets of two day files differ after N messages of each, and not after fewer, and returns false.
+/// Otherwise it writes `same` and returns true. Once the shorter file ends, its final market is used.
 ///
-/// The files are read side by side: message N of the first and then message N of the second. Nothing is read after the messages
-/// that make the difference, and a file is refused only for what comes before it.
+/// The files are read side by side: message N of the first and then message N of the second. Nothing is read after the messages that make
+/// the difference, so a file is refused only for a fault before them.
 pub fn compare_first<
     R: CountedRead + Drop,
     S: CountedRead + Drop,
@@ -51,7 +51,7 @@ pub fn compare_first<
     )
 }
 
-/// The same over readers of blocks, for the same part of two day files, and in any form. The readers are left where the reading ended.
+/// Does the same over readers of blocks, for the same part of two day files, and in any form. The readers are left where the reading ended.
 pub fn compare_first_blocks<
     R: CountedRead,
     S: CountedRead,
@@ -74,7 +74,7 @@ pub fn compare_first_blocks<
     write_first(count, form, out)
 }
 
-// The least number of messages of each file after which their markets differ.
+// Returns the least number of messages of each file after which their markets differ.
 fn first_difference<R: CountedRead, S: CountedRead, A: Allocator, C: Allocator, B: OrderBook>(
     alloc: B::Alloc,
     first: &mut BlockReader<R, A>,
@@ -136,8 +136,8 @@ fn first_difference<R: CountedRead, S: CountedRead, A: Allocator, C: Allocator, 
     Ok(None)
 }
 
-// What ends the comparison where a file stops after so many messages: nothing, unless more messages are wanted. It changes nothing from
-// then on.
+// Returns the end of the comparison if a file stops after that many messages: none, unless more messages were requested. From then on the
+// file changes nothing.
 #[cold]
 #[inline(never)]
 fn over<R: CountedRead, A: Allocator>(
@@ -164,8 +164,8 @@ fn over<R: CountedRead, A: Allocator>(
     }
 }
 
-// Whether two markets are the same, which were so before the last changes. They are settled and compared only if the changes do not
-// tell.
+// Returns whether two markets are still the same, given that they were before the last changes. They are settled and compared only if the
+// changes do not decide it.
 #[inline(always)]
 fn still_same<B: OrderBook>(one: &mut TrackedMarket<B>, other: &mut TrackedMarket<B>) -> bool
     requires few { length (snap one.old.market) < 10 ^ 19 }
@@ -177,7 +177,7 @@ fn still_same<B: OrderBook>(one: &mut TrackedMarket<B>, other: &mut TrackedMarke
     one.changed_as(other) || settled_same(&mut one.market, &mut other.market)
 }
 
-// Whether two markets are the same. A function of its own keeps what few messages need out of the loop.
+// Returns whether two markets are the same. This is a function of its own so that code for few messages stays out of the loop.
 #[cold]
 #[inline(never)]
 fn settled_same<B: OrderBook>(one: &mut Market<B>, other: &mut Market<B>) -> bool

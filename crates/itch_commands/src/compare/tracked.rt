@@ -1,4 +1,4 @@
-//! A market, and what the last message of a day changed in it.
+//! A market, and the change by the last message of a day.
 ghost use Rattle.std.specs.Prelude.{◌≡◌, ◌↔◌, IsTrue};
 ghost use Rattle.itch_market.specs.Content.{Content, empty};
 ghost use Rattle.itch_market.specs.Plain.{nothing, plain};
@@ -9,18 +9,18 @@ use itch_codec::{BrokenTrade, CodecFault, Header, Message, Stamp};
 use itch_day::Sink;
 use itch_market::{Market, Refused, same_message};
 
-/// A market that takes the messages of a day, and what the last of them changed.
+/// A market that takes the messages of a day, and the change by the last of them.
 #[derive(Drop)]
 pub struct TrackedMarket<B: OrderBook> {
     pub market: Market<B>,
-    /// Whether the last message may have changed something, as its type tells.
+    /// Whether the last message may have changed something, judging by its type.
     pub has_change: bool,
-    /// The plainest message with the effect of the last one that may have.
+    /// The plainest message with the effect of the last one that may have changed something.
     pub change: Message<'static>,
 }
 
 impl<B: OrderBook> TrackedMarket<B> {
-    /// The market before any message.
+    /// Creates the market before any message.
     pub fn new(alloc: B::Alloc) -> TrackedMarket<B>
         ensures { result.market ≡ empty }
     {
@@ -31,7 +31,7 @@ impl<B: OrderBook> TrackedMarket<B> {
         }
     }
 
-    /// Whether the last messages of two markets changed the same.
+    /// Returns whether the last messages of two markets had the same effect.
     #[inline(always)]
     pub fn changed_as(&self, other: &TrackedMarket<B>) -> bool
         ensures { IsTrue result ↔ (plainest self.now.has_change self.now.change ≡ plainest other.now.has_change other.now.change) }
@@ -82,7 +82,7 @@ impl<B: OrderBook> Sink for TrackedMarket<B> {
     }
 }
 
-// Whether a message changes no market, as its type tells.
+// Returns whether a message never changes a market, judging by its type.
 #[inline(always)]
 fn changes_nothing(message: &Message<'_>) -> bool
     ensures { IsTrue result → (m : Content) → plain m message.now ≡ nothing }
@@ -97,7 +97,7 @@ fn changes_nothing(message: &Message<'_>) -> bool
     )
 }
 
-// A function of its own keeps the room that each type needs out of the loop.
+// This is a function of its own so that the space that each type needs stays out of the loop.
 #[inline(never)]
 fn plain<B: OrderBook>(market: &Market<B>, message: &Message<'_>) -> Message<'static>
     ensures { result ≡ plain market.now message.now }
@@ -105,7 +105,7 @@ fn plain<B: OrderBook>(market: &Market<B>, message: &Message<'_>) -> Message<'st
     market.plain(message)
 }
 
-// A message that changes no market: the plainest of those.
+// Returns a message that never changes a market: the plainest one.
 fn nothing() -> Message<'static>
     ensures { result ≡ nothing }
 {

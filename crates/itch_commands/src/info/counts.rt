@@ -1,31 +1,31 @@
-//! How many messages have each type.
+//! Counts the messages of each type.
 ghost use Rattle.std.specs.Prelude.{◌≡◌, ℕ, ◌+◌, ◌-◌, ◌^◌, ◌<◌, ◌==◌, if◌then◌else◌, slice_index};
 
-/// The number of types that a byte may be.
+/// The number of possible types.
 pub const KINDS: usize = 256;
 
-/// How many messages have each type.
+/// The number of messages of each type.
 #[derive(Clone, Copy)]
 pub struct TypeCounts {
     counts: [u64; KINDS],
 }
 
 impl TypeCounts {
-    /// No message has any type.
+    /// Starts without messages.
     pub fn new() -> TypeCounts
         ensures { (kind : ℕ) → kind < 256 → slice_index result.counts kind ≡ 0 }
     {
         TypeCounts { counts: [0; KINDS] }
     }
 
-    /// How many messages have this type.
+    /// Returns the number of messages of this type.
     pub fn of(&self, kind: u8) -> u64
         ensures { result ≡ slice_index self.now.counts kind }
     {
         self.counts[usize::from(kind)]
     }
 
-    /// One message more has this type.
+    /// Counts one more message of this type.
     #[inline(always)]
     pub fn add(&mut self, kind: u8)
         requires { slice_index self.old.counts kind < 2 ^ 64 - 1 }

@@ -17,12 +17,12 @@ pub struct Event {
 #[derive(Drop)]
 pub struct EventList<A: Allocator> {
     pub events: Vec<Event, A>,
-    /// Whether they are all there: memory was not refused for one.
+    /// Whether the list is complete: memory never ran out for one.
     pub is_complete: bool,
 }
 
 impl<A: Allocator> EventList<A> {
-    /// None so far.
+    /// Creates an empty list.
     pub fn new(alloc: A) -> EventList<A>
         ensures events { result.events.items ≡ [] }
         ensures complete { result.is_complete ≡ true }
@@ -33,7 +33,7 @@ impl<A: Allocator> EventList<A> {
         }
     }
 
-    /// Passes the message with this number.
+    /// Adds the message with this number, if it is a system event.
     pub fn pass(&mut self, number: u64, message: &Message<'_>)
         ensures complete { self.new.is_complete ≡ true → (self.old.is_complete ≡ true) × (self.new.events.items ≡ self.old.events.items ++ event_of number message.now) }
         ensures lost { self.new.is_complete ≡ false → (self.old.is_complete ≡ false) ⊎ (event_of number message.now ≢ []) }
@@ -47,7 +47,7 @@ impl<A: Allocator> EventList<A> {
         }
     }
 
-    // A function of its own keeps what few messages need out of the loop.
+    // This is a function of its own so that code for few messages stays out of the loop.
     #[cold]
     #[inline(never)]
     fn push(&mut self, event: Event)

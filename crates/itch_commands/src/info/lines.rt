@@ -1,4 +1,4 @@
-//! The texts of what is told of a day, in each form.
+//! The texts about a day, in each form.
 ghost use Rattle.std.specs.Prelude.{◌≡◌, ◌+◌, ◌≤◌, ◌<◌, ◌++◌, length};
 ghost use Rattle.itch_commands.specs.Infos.{comma, event_text, market_text, middle_text, size_text, tail_text, time_text, times_text, truth_text, type_text};
 
@@ -7,7 +7,7 @@ use crate::info::events::Event;
 use crate::info::summary::Summary;
 use crate::line::Line;
 
-/// How many messages there are, and bytes of their blocks.
+/// Returns the number of messages, and of bytes in their blocks.
 pub fn size_text(form: Form, summary: &Summary) -> Line
     ensures { result ≡ size_text form summary.now }
 {
@@ -30,7 +30,7 @@ pub fn size_text(form: Form, summary: &Summary) -> Line
     line
 }
 
-/// The earliest and the latest time.
+/// Returns the earliest and the latest time.
 pub fn times_text(form: Form, summary: &Summary) -> Line
     ensures { result ≡ times_text form summary.now }
 {
@@ -53,7 +53,7 @@ pub fn times_text(form: Form, summary: &Summary) -> Line
     line
 }
 
-/// The stocks, the live orders, and whether the day has ended.
+/// Returns the stocks, the live orders, and whether the day has ended.
 pub fn market_text(form: Form, summary: &Summary) -> Line
     ensures { result ≡ market_text form summary.now }
 {
@@ -85,7 +85,7 @@ pub fn market_text(form: Form, summary: &Summary) -> Line
     line
 }
 
-/// A type, and how many messages have it.
+/// Returns a type, and its number of messages.
 pub fn type_text(form: Form, is_first: bool, kind: u8, count: u64) -> Line
     ensures { result ≡ type_text form is_first kind count }
 {
@@ -109,7 +109,7 @@ pub fn type_text(form: Form, is_first: bool, kind: u8, count: u64) -> Line
     line
 }
 
-/// What stands between the types and the events.
+/// Returns the text between the types and the events.
 pub fn middle_text(form: Form) -> &'static [u8]
     ensures text { result.now ≡ middle_text form }
     ensures short { length result.now ≤ 256 }
@@ -120,7 +120,7 @@ pub fn middle_text(form: Form) -> &'static [u8]
     }
 }
 
-/// A system event: the number of its message, its time and its code.
+/// Returns a system event: the number of its message, its time and its code.
 pub fn event_text(form: Form, is_first: bool, event: &Event) -> Line
     ensures { result ≡ event_text form is_first event.now }
 {
@@ -151,7 +151,7 @@ pub fn event_text(form: Form, is_first: bool, event: &Event) -> Line
     line
 }
 
-/// What stands after the events.
+/// Returns the text after the events.
 pub fn tail_text(form: Form) -> &'static [u8]
     ensures text { result.now ≡ tail_text form }
     ensures short { length result.now ≤ 256 }
@@ -194,7 +194,7 @@ fn truth_text(form: Form, truth: bool) -> &'static [u8]
     }
 }
 
-// What separates a member from the one before, unless it is the first.
+// Returns the separator before a member, unless it is the first.
 fn comma(form: Form, is_first: bool) -> &'static [u8]
     ensures text { result.now ≡ comma form is_first }
     ensures short { length result.now ≤ 1 }

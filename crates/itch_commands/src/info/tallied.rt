@@ -1,4 +1,4 @@
-//! A market, and what is counted of the messages that it takes.
+//! A market, and the tally of the messages that it takes.
 ghost use Rattle.std.specs.Prelude.{◌≡◌, List, ℕ, [], true};
 ghost use Rattle.itch_market.specs.Content.{empty};
 ghost use Rattle.itch_day.specs.Marks.{first_mark};
@@ -18,7 +18,7 @@ use itch_frame::{BlockReader, CountedRead};
 use itch_market::{Market, Refused, Stop, reason_of};
 use std::alloc::Allocator;
 
-/// A market that takes the messages of a day, and what is counted of them.
+/// A market that takes the messages of a day, and their tally.
 #[derive(Drop)]
 pub struct TalliedMarket<B: OrderBook> {
     pub market: Market<B>,
@@ -70,7 +70,7 @@ impl<B: OrderBook> Sink for TalliedMarket<B> {
     }
 }
 
-/// The market before any message, of which nothing is counted, at the beginning of a day.
+/// Creates the market before any message, with an empty tally, at the beginning of a day.
 pub fn new_tally<B: OrderBook>(alloc: B::Alloc) -> Marked<TalliedMarket<B>>
     ensures mark { result.mark ≡ first_mark }
     ensures market { result.sink.market ≡ empty }
@@ -88,7 +88,7 @@ pub fn new_tally<B: OrderBook>(alloc: B::Alloc) -> Marked<TalliedMarket<B>>
     }
 }
 
-/// Counts the messages of the part of a day that is wanted, or those before the fault that is returned.
+/// Counts the messages of the requested part of a day, or those before the fault that is returned.
 pub fn read_tally<R: CountedRead, A: Allocator, B: OrderBook>(
     reader: &mut BlockReader<R, A>,
     tally: &mut Marked<TalliedMarket<B>>,
@@ -108,7 +108,7 @@ pub fn read_tally<R: CountedRead, A: Allocator, B: OrderBook>(
     ended(reason_of(stop), limit, count)
 }
 
-// What is returned where a part stops after so many messages: nothing, unless more messages are wanted.
+// Returns the result if a part stops after that many messages: no fault, unless more messages were requested.
 fn ended(stop: Option<Stop>, limit: Limit, count: u64) -> Result<(), ToolFault>
     ensures { result ≡ over stop limit Only count }
 {

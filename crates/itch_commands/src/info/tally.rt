@@ -1,10 +1,10 @@
-//! What is counted of messages.
+//! The tally of messages.
 ghost use Rattle.std.specs.Prelude.{◌≡◌, ℕ, ◌+◌, ◌-◌, ◌^◌, ◌<◌, ◌==◌, if◌then◌else◌, max, None, slice_index};
 ghost use Rattle.itch_commands.specs.Tallies.{earlier};
 
 use crate::info::counts::TypeCounts;
 
-/// What is counted of messages: how many have each type, their earliest time, and the greatest number of live orders after one.
+/// The tally of messages: the number of each type, their earliest time, and the greatest number of live orders after one.
 #[derive(Clone, Copy)]
 pub struct Tally {
     pub counts: TypeCounts,
@@ -13,7 +13,7 @@ pub struct Tally {
 }
 
 impl Tally {
-    /// There are no messages.
+    /// Starts without messages.
     pub fn new() -> Tally
         ensures counts { (kind : ℕ) → kind < 256 → slice_index result.counts.counts kind ≡ 0 }
         ensures first { result.first ≡ None }
@@ -26,7 +26,7 @@ impl Tally {
         }
     }
 
-    /// A message more has this type and this time, and then so many orders are live.
+    /// Counts one more message with this type and this time, after which that many orders are live.
     #[inline(always)]
     pub fn count(&mut self, kind: u8, time: Option<u64>, live: u64)
         requires { slice_index self.old.counts.counts kind < 2 ^ 64 - 1 }
@@ -40,7 +40,7 @@ impl Tally {
     }
 }
 
-// The earlier one of two times, of which there may be none.
+// Returns the earlier of two times, if there are any.
 #[inline(always)]
 fn earlier(before: Option<u64>, time: Option<u64>) -> Option<u64>
     ensures { result ≡ earlier before time }

@@ -1,4 +1,4 @@
-//! What is told of a day, on the output.
+//! Writes the contents of a day to the output.
 ghost use Rattle.std.specs.Prelude.{◌≡◌, ◌<◌, ◌^◌, length, slice_index, true};
 ghost use Rattle.std.specs.FinMap as map;
 ghost use Rattle.itch_market.specs.Content.{Content};
@@ -24,7 +24,7 @@ use itch_frame::CountedWrite;
 use itch_market::{Locates, Market};
 use std::alloc::Allocator;
 
-/// Writes what was counted of a day.
+/// Writes the tally of a day.
 pub fn write_info<B: OrderBook, W: CountedWrite>(
     tally: &Marked<TalliedMarket<B>>,
     form: Form,
@@ -39,7 +39,7 @@ pub fn write_info<B: OrderBook, W: CountedWrite>(
     write_text(tail_text(form), out)
 }
 
-// The summary of what was counted.
+// Returns the summary of the tally.
 fn summary<B: OrderBook>(tally: &Marked<TalliedMarket<B>>) -> Summary
     ensures { result ≡ summary_by tally.now.mark tally.now.sink.market tally.now.sink.tally }
 {
@@ -56,7 +56,7 @@ fn summary<B: OrderBook>(tally: &Marked<TalliedMarket<B>>) -> Summary
     }
 }
 
-// How many stocks the directory has.
+// Returns the number of stocks in the directory.
 #[tactic(auto, using(itch_snapshot::proofs::LengthLemmas::few_locates))]
 fn count_stocks<B: OrderBook>(market: &Market<B>) -> u64
     ensures { result ≡ length (map.keys (Content.securities market.now)) }
@@ -81,7 +81,7 @@ fn write_head<W: CountedWrite>(summary: &Summary, form: Form, out: &mut W) -> Re
     write_text(market_text(form, summary).as_bytes(), out)
 }
 
-// Writes the types that have messages, with how many they have.
+// Writes the types that have messages, with their numbers.
 fn write_types<W: CountedWrite>(
     counts: &TypeCounts,
     form: Form,

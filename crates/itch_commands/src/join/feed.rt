@@ -1,4 +1,4 @@
-//! The feed that continues after a snapshot.
+//! Reads the feed that continues after a snapshot.
 ghost use Rattle.std.specs.Prelude.{◌≡◌, ◌<◌, ◌≤◌, ◌+◌, ◌^◌, IfSome, MatchResult};
 ghost use Rattle.itch_market.specs.Wanted.{has};
 ghost use Rattle.itch_join.specs.Takings.{IsJoined, position_of};
@@ -17,7 +17,7 @@ use itch_join::Joiner;
 use itch_market::{Stop, reason_of};
 use std::alloc::Allocator;
 
-/// Delivers the messages of a feed that are wanted to a joiner that has joined, up to the first that is not taken.
+/// Delivers the requested messages of a feed to a joiner that has joined, up to the first that is not taken.
 pub fn read_feed<R: CountedRead, A: Allocator, B: OrderBook>(
     reader: &mut BlockReader<R, A>,
     joiner: &mut Joiner<B>,
@@ -41,7 +41,7 @@ pub fn read_feed<R: CountedRead, A: Allocator, B: OrderBook>(
     }
 }
 
-// A part of a feed, counted from the first message of the day.
+// Returns a part of a feed, counted from the first message of the day.
 fn of_day(before: u64, limit: Limit) -> Limit
     requires { IfSome limit.after (λ most. before + most < 2 ^ 64) }
     ensures { result ≡ of_day before limit }
@@ -52,7 +52,7 @@ fn of_day(before: u64, limit: Limit) -> Limit
     }
 }
 
-// What a message with this number returns that is late: a fault, if the snapshot has it, since it is below the joiner's next one.
+// Returns the result for a late message with this number: a fault, if the snapshot contains it, since it is below the joiner's next one.
 fn late_at(number: u64, next: u64) -> Result<(), ToolFault>
     ensures { MatchResult result (λ _. next ≤ number) (λ fault. (fault ≡ ToolFault.Misfit (Misfit.Late number)) × (number < next)) }
 {
@@ -63,7 +63,7 @@ fn late_at(number: u64, next: u64) -> Result<(), ToolFault>
     }
 }
 
-// What is returned where this ends the feed, or nothing does, after so many messages of the day.
+// Returns the result if this ends the feed, or nothing does, after that many messages of the day.
 fn ended(stop: Option<Stop>, wanted: Option<u64>, count: u64) -> Result<(), ToolFault>
     ensures { result ≡ ended_feed stop wanted count }
 {

@@ -1,4 +1,4 @@
-//! A snapshot that a joiner starts from.
+//! Reads the snapshot from which a joiner starts.
 ghost use Rattle.std.specs.Prelude.{◌≡◌};
 ghost use Rattle.itch_market.specs.Wanted.{has};
 ghost use Rattle.itch_snapshot.specs.AsRead.{as_read};
@@ -12,8 +12,7 @@ use itch_frame::{BlockReader, CountedRead};
 use itch_join::Joiner;
 use std::alloc::Allocator;
 
-/// Gives a joiner the messages of a snapshot, up to its End of Snapshot. The joiner skips those at locates that its set does not
-/// have.
+/// Gives a joiner the messages of a snapshot, up to its End of Snapshot. The joiner skips those at locates that its set does not have.
 pub fn read_start<R: CountedRead, A: Allocator, B: OrderBook>(
     reader: &mut BlockReader<R, A>,
     joiner: &mut Joiner<B>,

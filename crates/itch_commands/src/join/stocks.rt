@@ -25,10 +25,10 @@ use itch_join::Joiner;
 use itch_snapshot::snapshot_len;
 use std::alloc::Allocator;
 
-/// Joins all of a part of a feed to the whole snapshot, and writes what [`join_blocks`](crate::join::join_blocks) does, cut down to the
-/// locates that have one of these stocks, by the directory in the end. The names are separated by commas.
+/// Joins all of a part of a feed to the whole snapshot, and writes the output of [`join_blocks`](crate::join::join_blocks), restricted to
+/// the locates that have one of these stocks, according to the final directory. The names are separated by commas.
 ///
-/// So each message of both has to follow the rules, unlike those that `join_blocks` skips for a set.
+/// So each message of both must follow the rules, while `join_blocks` skips some for a set.
 ///
 /// # Faults
 ///
@@ -55,7 +55,7 @@ pub fn join_stocks<
     join_with(alloc, &mut joiner, snapshot, feed, part, names, out)
 }
 
-// The same with a joiner that has taken nothing.
+// Does the same with a joiner that has taken nothing.
 fn join_with<
     R: CountedRead,
     S: CountedRead,
@@ -82,7 +82,7 @@ fn join_with<
     write_stocks(alloc, joiner, names, out)
 }
 
-// Writes the snapshot of a joiner's market, if it is one, cut down to the locates of these stocks.
+// Writes the snapshot of a joiner's market, if it is one, restricted to the locates of these stocks.
 fn write_stocks<B: OrderBook, W: CountedWrite>(
     alloc: B::Alloc,
     joiner: &Joiner<B>,

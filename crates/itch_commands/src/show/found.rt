@@ -1,11 +1,11 @@
-//! Whether stocks that are looked for were found.
+//! Checks that all stocks searched for were found.
 ghost use Rattle.std.specs.Prelude.{◌≡◌, if◌then◌else◌, true, Bool, Ok, Err};
 ghost use Rattle.itch_commands.specs.declared.fault.ToolFault.{ToolFault};
 ghost use Rattle.itch_commands.specs.declared.fault.ToolFault.TheVariants.{UnknownStock};
 
 use crate::fault::ToolFault;
 
-/// What is shown is refused if one of the stocks that are looked for was not found.
+/// Returns a fault if one of the stocks searched for was not found.
 pub fn if_found(found: bool) -> Result<bool, ToolFault>
     ensures { result ≡ (if found then Ok true else Err UnknownStock) }
 {

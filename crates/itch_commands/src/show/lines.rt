@@ -1,8 +1,9 @@
-//! The line of a message, where it is chosen.
+//! Writes the line of a message, if it is chosen.
 ghost use Rattle.std.specs.Prelude.{◌≡◌};
 ghost use Rattle.itch_commands.specs.Choices.{chosen_after, chosen_line, line_in};
 ghost use Rattle.itch_commands.specs.Outputs.{WritesText};
 
+use super::rows::write_row_of;
 use crate::choice::Choice;
 use crate::fault::ToolFault;
 use crate::form::ShowForm;
@@ -31,7 +32,7 @@ pub fn write_chosen<A: Allocator, W: CountedWrite>(
     }
 }
 
-// The line of a message in a form.
+// Writes the line of a message in a form.
 fn write_line<W: CountedWrite>(
     form: ShowForm,
     number: u64,
@@ -44,5 +45,6 @@ fn write_line<W: CountedWrite>(
         ShowForm::Text => write_text(show_message(number, message).as_str().as_bytes(), out),
         ShowForm::Named => write_text(show_named(number, message).as_str().as_bytes(), out),
         ShowForm::Json => write_text(json(number, message).as_str().as_bytes(), out),
+        ShowForm::Csv { kind } => write_row_of(kind, number, message, out),
     }
 }

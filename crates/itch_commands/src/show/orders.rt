@@ -1,4 +1,4 @@
-//! `show --orders`: messages that change an order, each with that order as it was before.
+//! `show --orders`: shows messages that change an order, each with that order as it was before.
 ghost use Rattle.std.specs.Prelude.{◌≡◌, Bool};
 ghost use Rattle.std.specs.Option.{option_copied};
 ghost use Rattle.itch_commands.specs.ListedOrders.{Lists, ListsBelow, ListsFile, ListsPart, answer_of};
@@ -19,16 +19,16 @@ use itch_day::{Limit, Stop as PartStop, pass_stop, read_part};
 use itch_frame::{BlockReader, CountedRead, CountedWrite};
 use itch_market::{LocateSet, Market, Refused, Stop};
 use lines::write_head;
+pub(crate) use lines::{side_text, write_both};
 use sink::{ChosenMarket, OrderLines, Unlisted};
 use std::alloc::Allocator;
 
-/// Writes a line for each execution, cancel, delete and replace of a part of a day file, of those that the filters choose: the message,
-/// and the order that it refers to as it was before. Of a replace that is the original order; its new one has the same side, stock and
-/// attribution.
+/// Writes a line for each execution, cancel, delete and replace of a part of a day file that the filters choose: the message, and the order
+/// that it refers to as it was before. For a replace that is the original order; its new one has the same side, stock and attribution.
 ///
-/// The messages are applied to a market. Where one is refused, the lines before it have been written, and the fault is that of
-/// [`check_blocks`](crate::check::check_blocks). If the part has no Stock Directory message of a stock that is looked for
-/// (`UnknownStock`), all lines have been written.
+/// The messages are applied to a market. If one is refused, the lines before it have been written, and the fault is that of
+/// [`check_blocks`](crate::check::check_blocks). If the part has no Stock Directory message of a stock searched for (`UnknownStock`), all
+/// lines have been written.
 pub fn orders_blocks<R: CountedRead, A: Allocator, B: OrderBook, W: CountedWrite>(
     alloc: B::Alloc,
     reader: &mut BlockReader<R, A>,
@@ -44,7 +44,7 @@ pub fn orders_blocks<R: CountedRead, A: Allocator, B: OrderBook, W: CountedWrite
     list_found::<R, A, B, W>(alloc, reader, limit, form, choice, out)
 }
 
-// The same of what is chosen.
+// Does the same for this choice.
 fn list_found<R: CountedRead, A: Allocator, B: OrderBook, W: CountedWrite>(
     alloc: B::Alloc,
     reader: &mut BlockReader<R, A>,
@@ -59,7 +59,7 @@ fn list_found<R: CountedRead, A: Allocator, B: OrderBook, W: CountedWrite>(
     if_found(found)
 }
 
-// The same. Returns whether each of the stocks that are looked for has come.
+// Does the same. Returns whether each of the stocks searched for has come.
 fn list_below<R: CountedRead, A: Allocator, B: OrderBook, W: CountedWrite>(
     alloc: B::Alloc,
     reader: &mut BlockReader<R, A>,
@@ -74,7 +74,7 @@ fn list_below<R: CountedRead, A: Allocator, B: OrderBook, W: CountedWrite>(
     list_part::<R, A, B, W>(alloc, reader, limit, form, choice, out)
 }
 
-// The lines below the head.
+// Writes the lines below the heading.
 fn list_part<R: CountedRead, A: Allocator, B: OrderBook, W: CountedWrite>(
     alloc: B::Alloc,
     reader: &mut BlockReader<R, A>,
@@ -98,7 +98,7 @@ fn list_part<R: CountedRead, A: Allocator, B: OrderBook, W: CountedWrite>(
     answer(stop, limit.after, count, lines.has_found_all())
 }
 
-// What is returned where a part goes no further. The end of the file is no fault, unless more messages are wanted.
+// Returns the result if a part ends. The end of the file is not a fault, unless more messages were requested.
 fn answer(
     stop: PartStop<Unlisted>,
     wanted: Option<u64>,

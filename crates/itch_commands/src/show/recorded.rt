@@ -22,9 +22,9 @@ use itch_market::Market;
 use itch_snapshot::SnapshotIter;
 use std::alloc::Allocator;
 
-/// Writes a line for each message of a snapshot file, in canonical order, and for its End of Snapshot, of those that are chosen. The
-/// file is read wholly first, and refused as `canon` refuses it; then nothing is written. If a stock that is looked for is not in the
-/// directory (`UnknownStock`), all lines have been written.
+/// Writes a line for each chosen message of a snapshot file, in canonical order, and for its End of Snapshot. The file is read completely
+/// first, and refused as by `canon`; then nothing is written. If a stock searched for is not in the directory (`UnknownStock`), all lines
+/// have been written.
 pub fn show_snapshot<R: CountedRead, A: Allocator, B: OrderBook, W: CountedWrite>(
     alloc: B::Alloc,
     reader: &mut BlockReader<R, A>,
@@ -39,7 +39,7 @@ pub fn show_snapshot<R: CountedRead, A: Allocator, B: OrderBook, W: CountedWrite
     if_found(found)
 }
 
-// Returns whether each of the stocks that are looked for has come.
+// Does the same. Returns whether each of the stocks searched for has come.
 fn show_found<R: CountedRead, A: Allocator, B: OrderBook, W: CountedWrite>(
     alloc: B::Alloc,
     reader: &mut BlockReader<R, A>,

@@ -1,4 +1,4 @@
-//! The lines of a day's messages, as they come.
+//! Writes the lines of a day's messages, one after another.
 
 ghost use Rattle.std.specs.Prelude.{◌≡◌};
 ghost use Rattle.itch_commands.specs.Choices.{Chosen};
@@ -16,7 +16,7 @@ use itch_frame::CountedWrite;
 use itch_market::{ReplayEnd, Stop};
 use std::alloc::Allocator;
 
-/// Writes the lines of those messages that are chosen.
+/// Writes the lines of the messages that are chosen.
 #[derive(Drop)]
 pub struct ShownLines<'a, 'b, 'c, A: Allocator, W: CountedWrite> {
     pub out: &'b mut W,
@@ -25,7 +25,7 @@ pub struct ShownLines<'a, 'b, 'c, A: Allocator, W: CountedWrite> {
 }
 
 impl<'a, 'b, 'c, A: Allocator, W: CountedWrite> ShownLines<'a, 'b, 'c, A, W> {
-    /// Whether each of the stocks that are looked for has come.
+    /// Returns whether each of the stocks searched for has come.
     pub fn has_found_all(&self) -> bool
         ensures { result ≡ are_found (Chosen.stocks self.now.choice.now) }
     {
@@ -63,7 +63,7 @@ impl<'a, 'b, 'c, A: Allocator, W: CountedWrite> Sink for ShownLines<'a, 'b, 'c, 
     }
 }
 
-/// The fault of a file that stops after this many messages.
+/// Returns the fault of a file that stops after this many messages.
 pub fn stopped(count: u64, stop: Stop) -> ToolFault
     ensures { result ≡ Stopped Only (record { count = count; stop = stop }) }
 {

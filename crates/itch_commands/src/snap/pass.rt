@@ -1,4 +1,4 @@
-//! Several snapshots of a day file, of which each message is read once.
+//! Writes several snapshots of a day file in one pass.
 ghost use Rattle.std.specs.Prelude.{◌≡◌, ◌≤◌, ◌-◌, ◌^◌, length};
 ghost use Rattle.itch_snapshot.specs.Snapshot.{snap};
 
@@ -12,7 +12,7 @@ use itch_frame::{BlockReader, CountedRead, CountedWrite};
 use itch_market::{LocateSet, Market, reason_of};
 use std::alloc::Allocator;
 
-/// A day file that is read on from point to point, and its market there.
+/// A day file that is read on from point to point, and its market at the present point.
 #[derive(Drop)]
 pub struct Pass<R: CountedRead, A: Allocator, B: OrderBook> {
     reader: BlockReader<R, A>,
@@ -34,7 +34,7 @@ impl<R: CountedRead, A: Allocator, B: OrderBook> Pass<R, A, B> {
     ghost use Rattle.itch_commands.specs.Points.{IsRead, ReadsMore, ReadsOn, Stands};
     ghost use Rattle.itch_commands.specs.Readings.{FromBlocks};
 
-    /// A pass that begins where this reader stands.
+    /// Creates a pass that begins at this reader's position.
     pub fn new(alloc: B::Alloc, reader: BlockReader<R, A>) -> Pass<R, A, B>
         ensures { (until : Option ℕ) → Stands R.remaining R.failures (record { after = Some 0; until = until }) reader result.reader result.marked Full }
     {
@@ -47,17 +47,17 @@ impl<R: CountedRead, A: Allocator, B: OrderBook> Pass<R, A, B> {
         }
     }
 
-    /// How far the file was read.
+    /// Returns the mark after the messages read so far.
     pub fn mark(&self) -> Mark
         ensures { result ≡ self.now.marked.mark }
     {
         self.marked.mark
     }
 
-    /// Reads on to the end of the part of the file that is wanted, and returns how many messages the part has.
+    /// Reads on to the end of the requested part of the file, and returns the number of messages in the part.
     ///
-    /// What it returns is what one reading of that part, from where the pass began, would return. No part may be smaller than the one
-    /// before. After `Short` the pass has read the whole file, and may be asked for that.
+    /// The result is the same as that of one reading of that part, from the beginning of the pass. No part may be smaller than the one
+    /// before. After `Short` the pass has read the whole file, and can be asked for that part.
     pub fn read_to(&mut self, limit: Limit) -> Result<u64, ToolFault>
         ensures { (first : Reading R) → (before : AnyLimit) → (stop : AnyStop AnyRefused)
             → Stands R.remaining R.failures before first self.old.reader self.old.marked stop
@@ -74,7 +74,7 @@ impl<R: CountedRead, A: Allocator, B: OrderBook> Pass<R, A, B> {
         }
     }
 
-    /// Reads so many messages more, and returns true; or all that are left, if there are fewer, and returns false.
+    /// Reads that many more messages, and returns true; or all remaining ones, if there are fewer, and returns false.
     pub fn read_more(&mut self, count: u64) -> Result<bool, ToolFault>
         ensures { (first : Reading R) → (before : AnyLimit) → (stop : AnyStop AnyRefused)
             → Stands R.remaining R.failures before first self.old.reader self.old.marked stop → GoesOn stop → 0 < count
@@ -88,8 +88,8 @@ impl<R: CountedRead, A: Allocator, B: OrderBook> Pass<R, A, B> {
         }
     }
 
-    /// Writes the canonical snapshot of the market as far as the file was read, cut down to a set if there is one: what `snap` of that
-    /// part of the file writes and returns.
+    /// Writes the canonical snapshot of the market as far as the file was read, restricted to a set if there is one: the output and the
+    /// result are those of `snap` for that part of the file.
     pub fn write<W: CountedWrite>(
         &self,
         only: Option<&LocateSet<B::Alloc>>,

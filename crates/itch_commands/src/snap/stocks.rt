@@ -14,8 +14,8 @@ use itch_frame::{BlockReader, CountedRead, CountedWrite};
 use itch_market::Market;
 use std::alloc::Allocator;
 
-/// Writes the snapshot that `snap` does, cut down to the locates that have one of these stocks, by the directory that the messages
-/// leave. The names are separated by commas.
+/// Writes the snapshot that `snap` writes, restricted to the locates that have one of these stocks, according to the directory after the
+/// messages. The names are separated by commas.
 ///
 /// `UnknownStock` if the directory has no entry with the stock of a name: then nothing is written.
 pub fn snap_stocks<R: CountedRead, A: Allocator, B: OrderBook, W: CountedWrite>(

@@ -1,8 +1,8 @@
-//! The messages in a stream of blocks that comes in pieces, counted.
+//! Counts the messages in a stream of blocks that arrives in pieces.
 ghost use Rattle.std.specs.Prelude.{◌≡◌, ℕ, List, [], ◌∷◌, ◌++◌};
 ghost use Rattle.itchsnap_cli.specs.Tallies.{IsWholeAfter, IsAt, Reaches, Counts, CountsOn};
 
-/// Where a stream of blocks is cut: what is needed to find the rest of its last block.
+/// The place where a stream of blocks is cut, which is enough to find the end of its last block.
 #[derive(Clone, Copy, Debug, PartialEq, Eq)]
 pub enum Place {
     /// Between two blocks.
@@ -14,7 +14,7 @@ pub enum Place {
 }
 
 impl Place {
-    // The place after one byte more.
+    // Returns the place after one more byte.
     fn after(self, byte: u8) -> Place
         ensures { (bytes : List ℕ) → IsAt self bytes → Reaches result (bytes ++ byte ∷ []) }
     {
@@ -25,7 +25,7 @@ impl Place {
         }
     }
 
-    // The place in a payload of which this many bytes are still to come.
+    // Returns the place in a payload with this many bytes still to come.
     fn in_payload(count: u16) -> Place
         ensures { (bytes : List ℕ) → IsWholeAfter count bytes → Reaches result bytes }
     {
@@ -37,7 +37,7 @@ impl Place {
     }
 }
 
-/// Counts the whole blocks of a stream.
+/// Counts the complete blocks of a stream.
 #[derive(Clone, Copy, Debug, PartialEq, Eq)]
 pub struct Tally {
     place: Place,
@@ -45,7 +45,7 @@ pub struct Tally {
 }
 
 impl Tally {
-    /// The tally of nothing.
+    /// Starts before any bytes.
     pub fn new() -> Tally
         ensures { Counts result [] }
     {
@@ -55,7 +55,7 @@ impl Tally {
         }
     }
 
-    /// How many whole blocks there were; the count stops at 2^64 - 1.
+    /// Returns the number of complete blocks, capped at 2^64 - 1.
     pub fn messages(&self) -> u64
         ensures { result ≡ self.now.messages }
     {

@@ -3,7 +3,7 @@ ghost use Rattle.itchsnap_cli.specs.Opening.{opened_remaining};
 
 use std::io::{self, Read};
 
-/// A file that was opened, or standard input. It gives the bytes of whichever it is.
+/// An opened file, or standard input. Reading it yields the bytes of either.
 #[derive(Drop)]
 pub enum Opened<F, I> {
     File(F),

@@ -1,11 +1,11 @@
-//! Files that hold a day file in another form, which their first bytes tell.
+//! Recognises files that hold a day file in another form by their first bytes.
 ghost use Rattle.std.specs.Prelude.{◌≡◌};
 ghost use Rattle.itchsnap_cli.specs.Packings.{is_capture, packing_of};
 
-/// How many of a file's first bytes [`Packing::of`] looks at.
+/// The number of first bytes of a file that [`Packing::of`] looks at.
 pub const MOST_MAGIC: usize = 6;
 
-/// The form of a file that is no day file, but may have one inside.
+/// The form of a file that is not a day file, but may contain one.
 #[derive(Clone, Copy, Debug, PartialEq, Eq)]
 pub enum Packing {
     Gzip,
@@ -14,12 +14,12 @@ pub enum Packing {
     Xz,
     Lz4,
     Zip,
-    /// Packets that were captured, in the form of pcap or of pcapng.
+    /// Captured packets, in the form of pcap or of pcapng.
     Capture,
 }
 
 impl Packing {
-    /// The form of a file that begins with these bytes, if it is one of those.
+    /// Returns the form of a file with these first bytes, if it is one of these forms.
     pub fn of(beginning: &[u8]) -> Option<Packing>
         ensures { result ≡ packing_of beginning.now }
     {
@@ -43,7 +43,7 @@ impl Packing {
     }
 }
 
-// The magic numbers of pcap, in microseconds and in nanoseconds, of either byte order, and that of pcapng.
+// Returns whether these are the magic numbers of pcap, for microseconds or for nanoseconds, in either byte order, or that of pcapng.
 fn is_capture(beginning: &[u8]) -> bool
     ensures { result ≡ is_capture beginning.now }
 {

@@ -1,4 +1,4 @@
-//! How far a command has read its files, shown on standard error.
+//! The progress of a command in reading its files, shown on standard error.
 ghost use Rattle.std.specs.Prelude.{◌≡◌, ◌↔◌, [], take, IsNone, IfSome, IfOk};
 ghost use Rattle.std.specs.Io.{ReadsAtMost};
 ghost use Rattle.std.specs.Io.KnownBytes.{ReadConsumes};
@@ -15,13 +15,13 @@ use std::time::{Duration, Instant};
 /// The line is updated whenever this many more bytes have been read: 64 MiB.
 const STEP: u64 = 1 << 26;
 
-/// How much was read, and in how much time. `Display` gives the progress line.
+/// The bytes and messages read, and the time taken. `Display` writes the progress line.
 #[derive(Clone, Copy, Debug)]
 pub struct Amount {
     pub bytes: u64,
     pub messages: u64,
     pub elapsed: Duration,
-    /// How many bytes the files have, if that is known of each.
+    /// The length of the files in bytes, if all are known.
     pub total: Option<u64>,
 }
 
@@ -32,7 +32,7 @@ impl fmt::Display for Amount {
             messages,
             ..
         } = self;
-        // Bytes in a microsecond are megabytes in a second.
+        // Bytes per microsecond are megabytes per second.
         let rate = u128::from(*bytes) / self.elapsed.as_micros().max(1);
         write!(f, "{bytes} bytes, {messages} messages, {rate:>5} MB/s")?;
         match self.left() {
@@ -43,7 +43,7 @@ impl fmt::Display for Amount {
 }
 
 impl Amount {
-    // The per cent that were read, and the seconds that the rest will take at the same rate, if there is a rest.
+    // Returns the percentage that was read, and the seconds for the rest at the same rate, if there is a rest.
     fn left(&self) -> Option<(u128, u128)> {
         let total = self.total?;
         let (bytes, rest) = (u128::from(self.bytes), total.checked_sub(self.bytes)?);
@@ -53,10 +53,10 @@ impl Amount {
     }
 }
 
-/// What a command has read of all its files, and since when.
+/// The progress of a command over all its files, since its start.
 ///
-/// A line on standard error is updated every 64 MiB, and ends when a file has been read to its end, or with the command. What
-/// standard error does not take is left out.
+/// A line on standard error is updated every 64 MiB, and ends when a file has been read to its end, or with the command. If standard error
+/// cannot be written, the line is left out.
 pub struct Progress<'a, R: Eprint> {
     rt: &'a R,
     begun: Instant,
@@ -67,7 +67,7 @@ pub struct Progress<'a, R: Eprint> {
 }
 
 impl<'a, R: Eprint + Clock> Progress<'a, R> {
-    /// Begins now; there is none if the clock fails.
+    /// Starts now; returns `None` if the clock fails.
     pub fn begin(rt: &'a R) -> Option<Progress<'a, R>> {
         let begun = Instant::now(rt).ok()?;
         Some(Progress {
@@ -80,7 +80,7 @@ impl<'a, R: Eprint + Clock> Progress<'a, R> {
         })
     }
 
-    // Adds these bytes, and the messages that are whole by them.
+    // Adds these bytes, and the messages that they complete.
     fn add(&self, bytes: u64, messages: u64) {
         let before = self.bytes.get();
         let now = before.saturating_add(bytes);
@@ -92,7 +92,7 @@ impl<'a, R: Eprint + Clock> Progress<'a, R> {
         }
     }
 
-    // Renews the line.
+    // Updates the line.
     fn show(&self) {
         let Ok(elapsed) = self.begun.elapsed(self.rt) else {
             return;
@@ -109,7 +109,7 @@ impl<'a, R: Eprint + Clock> Progress<'a, R> {
 }
 
 impl<R: Eprint> Progress<'_, R> {
-    /// Another file will be read, of this size, if it is known.
+    /// Adds another file to read, with its size, if it is known.
     pub fn add_file(&self, size: Option<u64>) {
         let total = match (self.total.get(), size) {
             (Some(total), Some(size)) => total.checked_add(size),
@@ -140,7 +140,7 @@ fn end_line(rt: &impl Eprint, is_open: &Cell<bool>) {
     }
 }
 
-/// A reader of one of a command's files. It reads as the one inside does, and counts what it reads if there is a progress line.
+/// A reader of one of a command's files. It reads as its inner reader does, and counts bytes if there is a progress line.
 #[derive(Drop)]
 pub struct Watched<'a, T, R: Eprint> {
     inner: T,
@@ -148,7 +148,7 @@ pub struct Watched<'a, T, R: Eprint> {
 }
 
 impl<'a, T, R: Eprint> Watched<'a, T, R> {
-    /// A reader that is at the beginning of its file.
+    /// Creates a reader at the beginning of its file.
     pub fn new(inner: T, progress: Option<&'a Progress<'a, R>>) -> Watched<'a, T, R>
         ensures inner { result.inner ≡ inner }
         ensures off { IsNone result.watch ↔ IsNone progress.entry }
@@ -177,7 +177,7 @@ impl<T: Read, R: Eprint + Clock> Read for Watched<'_, T, R> {
 }
 
 impl<T, R: Eprint + Clock> Watched<'_, T, R> {
-    // Shows the watch what was read.
+    // Passes the bytes read to the watch.
     fn note(&mut self, piece: &[u8])
         ensures inner { self.new.inner ≡ self.old.inner }
         ensures watch { Notes self.old.watch piece.now self.new.watch }
@@ -188,7 +188,7 @@ impl<T, R: Eprint + Clock> Watched<'_, T, R> {
     }
 }
 
-// What has passed through a reader.
+// Watches the bytes that pass through a reader.
 #[derive(Drop)]
 struct Watch<'a, R: Eprint> {
     progress: &'a Progress<'a, R>,
@@ -196,7 +196,7 @@ struct Watch<'a, R: Eprint> {
 }
 
 impl<R: Eprint + Clock> Watch<'_, R> {
-    // Counts what was read. Nothing is the end of the file.
+    // Counts the bytes read. An empty piece is the end of the file.
     fn pass(&mut self, piece: &[u8])
         ensures { CountsOn self.old.tally piece.now self.new.tally }
     {

@@ -1,9 +1,10 @@
-//! An argument of a command, as data: a word, a flag, or an option with a value.
+//! An argument of a command, as data: a positional one, a flag, or an option with a value.
 
 use clap::{Arg, ArgAction};
 use std::alloc::{AllocError, Global};
 
-/// What a command takes. `RequiredUnless` is required where another option is not given, and `Repeated` is a required option that may stand more
+/// An argument of a command. `RequiredUnless` is required unless another option is given, and `Repeated` is a required option that can be
+/// given more than once.
 /// than once.
 #[derive(Clone, Copy)]
 pub enum Argument {
@@ -42,7 +43,7 @@ pub enum Argument {
     },
 }
 
-/// The value of an option, which the help calls by this name. A `Range` has its least and its greatest number.
+/// The value of an option, with its name in the help. A `Range` has its least and its greatest number.
 #[derive(Clone, Copy)]
 pub enum Value {
     Text(&'static str),
@@ -52,7 +53,7 @@ pub enum Value {
 }
 
 impl Argument {
-    /// The argument, as clap takes it.
+    /// Returns the argument in the form that clap takes.
     pub fn arg<'a>(self, alloc: Global) -> Result<Arg<'a>, AllocError> {
         let arg = match self {
             Argument::Word { id, .. } => Arg::new(alloc, id),
@@ -76,7 +77,7 @@ impl Argument {
         Ok(arg.help(self.help()))
     }
 
-    /// The name of a flag or an option, without its hyphens.
+    /// Returns the name of a flag or an option, without its hyphens.
     pub fn long(self) -> Option<&'static str> {
         match self {
             Argument::Word { .. } | Argument::RequiredWord { .. } => None,
@@ -88,7 +89,7 @@ impl Argument {
         }
     }
 
-    /// The value of an option.
+    /// Returns the value of an option.
     pub fn value(self) -> Option<Value> {
         match self {
             Argument::Optional { value, .. }
@@ -99,7 +100,7 @@ impl Argument {
         }
     }
 
-    /// What the help says of it.
+    /// Returns its help text.
     pub fn help(self) -> &'static str {
         match self {
             Argument::Word { help, .. }
@@ -114,7 +115,7 @@ impl Argument {
 }
 
 impl Value {
-    // The option with this value.
+    // Creates the option with this value.
     fn arg<'a>(self, alloc: Global, long: &'a str) -> Arg<'a> {
         let arg = Arg::new(alloc, long).long(long);
         match self {

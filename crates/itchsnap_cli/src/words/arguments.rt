@@ -2,7 +2,7 @@
 
 use crate::words::argument::{Argument, Value};
 
-/// The greatest number that `--after`, `--every` and `--depth` take.
+/// The greatest number for `--after`, `--every` and `--depth`.
 pub const MOST_COUNTED: i64 = 999_999_999_999;
 
 pub const FILE: Argument = Argument::Word {
@@ -25,6 +25,18 @@ pub const UNTIL: Argument = Argument::Optional {
     long: "until",
     value: Value::Text("TIME"),
     help: "Stop before the first message at TIME or later, such as 10:30",
+};
+
+pub const FROM: Argument = Argument::Optional {
+    long: "from",
+    value: Value::Range("N", 1, MOST_COUNTED),
+    help: "Start with message N",
+};
+
+pub const SINCE: Argument = Argument::Optional {
+    long: "since",
+    value: Value::Text("TIME"),
+    help: "Start with the first message at TIME or later, such as 9:30",
 };
 
 pub const RECORDED: Argument = Argument::Flag {
@@ -60,7 +72,7 @@ pub const PROGRESS: Argument = Argument::Flag {
     help: "Report every 64 MiB, on standard error, how much has been read",
 };
 
-// The feed that is followed, and the server of snapshots.
+// The feed to follow, and the snapshot server.
 pub const FEED: Argument = Argument::Repeated {
     long: "feed",
     value: Value::Text("HOST:PORT"),
@@ -79,7 +91,7 @@ pub const GLIMPSE_SESSION: Argument = Argument::Optional {
     help: "The session of the snapshot server [default: the feed's]",
 };
 
-// Where a server listens, and for which session.
+// The address on which a server listens, and its session.
 pub const BIND: Argument = Argument::Optional {
     long: "bind",
     value: Value::Text("ADDRESS"),

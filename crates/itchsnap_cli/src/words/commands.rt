@@ -1,17 +1,17 @@
-//! The words of the command line: the commands, what they take, and an example of each.
+//! The commands of the command line, with their arguments, and an example of each.
 
 use crate::words::argument::{Argument, Value};
 use crate::words::arguments::{
-    AFTER, BIND, FEED, FEED_FILE, FEED_SESSION, FILE, GLIMPSE_SESSION, JSON, MOST_COUNTED,
-    ONE_USER, ONLY, OUTPUT, PASSWORD, PASSWORD_FILE, PORT, PROGRESS, RECORDED, SESSION, STOCK,
-    UNTIL, USER, USERS,
+    AFTER, BIND, FEED, FEED_FILE, FEED_SESSION, FILE, FROM, GLIMPSE_SESSION, JSON, MOST_COUNTED,
+    ONE_USER, ONLY, OUTPUT, PASSWORD, PASSWORD_FILE, PORT, PROGRESS, RECORDED, SESSION, SINCE,
+    STOCK, UNTIL, USER, USERS,
 };
 use clap::error::ErrorKind;
 use clap::{Command, Error};
-use itchsnap_live::VERSION;
+use itch_sessions::VERSION;
 use std::alloc::{AllocError, Global};
 
-/// A command: its name, what it does, its arguments in the order of the help, and an example.
+/// A command: its name, its description, its arguments in the order of the help, and an example.
 pub struct Entry {
     pub name: &'static str,
     pub about: &'static str,
@@ -20,7 +20,7 @@ pub struct Entry {
 }
 
 /// The commands.
-pub const COMMANDS: [Entry; 15] = [
+pub const COMMANDS: [Entry; 17] = [
     Entry {
         name: "snap",
         about: "Write the snapshot of the market that a day file leaves",
@@ -169,6 +169,8 @@ pub const COMMANDS: [Entry; 15] = [
         about: "Print the messages of a file, one per line",
         takes: &[
             FILE,
+            FROM,
+            SINCE,
             AFTER,
             UNTIL,
             RECORDED,
@@ -203,17 +205,46 @@ pub const COMMANDS: [Entry; 15] = [
             JSON,
             Argument::Flag {
                 long: "csv",
-                help: "With --orders, print comma-separated values, after a line of column names",
+                help: "With --orders or one type, print comma-separated values, after a line of column names",
             },
             PROGRESS,
         ],
         example: "Example: itchsnap show day.itch --reference 7",
     },
     Entry {
+        name: "cut",
+        about: "Write the messages of a part of a day file, as a day file",
+        takes: &[
+            FILE,
+            FROM,
+            SINCE,
+            AFTER,
+            UNTIL,
+            Argument::Optional {
+                long: "only",
+                value: Value::Text("LIST"),
+                help: "Keep only messages of these locates, such as 1-40,77, and those of no stock",
+            },
+            Argument::Optional {
+                long: "stock",
+                value: Value::Text("LIST"),
+                help: "Keep only messages of these stocks, such as AAPL,MSFT, and those of no stock",
+            },
+            Argument::Optional {
+                long: "types",
+                value: Value::Text("LETTERS"),
+                help: "Keep only messages of these types, such as AEX",
+            },
+            OUTPUT,
+            PROGRESS,
+        ],
+        example: "Example: itchsnap cut day.itch --stock AAPL --since 9:30 > aapl.itch",
+    },
+    Entry {
         name: "book",
         about: "Print the price levels of the given locates",
         takes: &[
-            // With `--stock` the first word is the file, so this one is not required.
+            // With `--stock` the first positional argument is the file, so this one is not required.
             Argument::Word {
                 id: "LOCATE",
                 help: "The locates, such as 1-40,77",
@@ -356,6 +387,11 @@ pub const COMMANDS: [Entry; 15] = [
                 value: Value::Text("WHEN"),
                 help: "Sync the record to disk: no, second or message [default: second]",
             },
+            Argument::Optional {
+                long: "records",
+                value: Value::Path("DIR"),
+                help: "Record each session of the feed in a day file of its own in a folder",
+            },
             Argument::Flag {
                 long: "record-optional",
                 help: "Continue without the record if it cannot be written",
@@ -370,9 +406,29 @@ pub const COMMANDS: [Entry; 15] = [
                 value: Value::Range("N", 1, MOST_COUNTED),
                 help: "Write a snapshot after every N messages",
             },
+            Argument::Optional {
+                long: "keep",
+                value: Value::Range("N", 1, MOST_COUNTED),
+                help: "Keep the last N snapshots in the folder [default: all]",
+            },
+            Argument::Optional {
+                long: "ready",
+                value: Value::Text("WHEN"),
+                help: "Serve clients from the first market on, or once it is caught-up [default: first]",
+            },
             Argument::Flag {
                 long: "stay",
                 help: "Continue to serve after the feed has ended its session",
+            },
+            Argument::Optional {
+                long: "status",
+                value: Value::Text("HOST:PORT"),
+                help: "Serve metrics and a status page over HTTP; a port alone is on 127.0.0.1",
+            },
+            Argument::Optional {
+                long: "log",
+                value: Value::Text("FORM"),
+                help: "Log every event with its time on standard error: text or json",
             },
         ],
         example: "Example: itchsnap live --feed feed.example:5000 --port 5100 --user desk --pass-file pass",
@@ -438,6 +494,23 @@ pub const COMMANDS: [Entry; 15] = [
         example: "Example: itchsnap feed day.itch --port 5000 --user desk --pass-file pass --rate 1000",
     },
     Entry {
+        name: "status",
+        about: "Print the status of a live server",
+        takes: &[
+            Argument::RequiredWord {
+                id: "SERVER",
+                help: "The status port, HOST:PORT, or a port of this machine",
+            },
+            Argument::Optional {
+                long: "wait",
+                value: Value::Range("SECONDS", 1, 86_400),
+                help: "Wait up to this long, 1 to 86400, until the server is ready",
+            },
+            JSON,
+        ],
+        example: "Example: itchsnap status 127.0.0.1:9100 --wait 60",
+    },
+    Entry {
         name: "completions",
         about: "Print the completions for a shell",
         takes: &[Argument::RequiredWord {
@@ -448,7 +521,7 @@ pub const COMMANDS: [Entry; 15] = [
     },
 ];
 
-/// The program's commands and their arguments.
+/// Returns the program's commands and their arguments.
 pub fn command<'a>(alloc: Global) -> Result<Command<'a>, AllocError> {
     let mut program = Command::new(alloc, "itchsnap")
         .about("Market snapshots for TotalView-ITCH 5.0")
@@ -461,7 +534,7 @@ pub fn command<'a>(alloc: Global) -> Result<Command<'a>, AllocError> {
     Ok(program)
 }
 
-/// The usage fault with this message.
+/// Returns the usage fault with this message.
 pub fn usage_fault(alloc: Global, message: &str) -> Result<Error, AllocError> {
     command(alloc)?.error(ErrorKind::ValueValidation, message)
 }

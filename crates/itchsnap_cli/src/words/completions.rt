@@ -4,7 +4,7 @@ use crate::words::argument::Value;
 use crate::words::commands::{COMMANDS, Entry};
 use std::fmt::{self, Display, Formatter};
 
-/// What is typed after `completions`.
+/// The values of the argument of `completions`.
 const SHELLS: &str = "bash zsh fish";
 
 const BASH_HEAD: &str = r#"_itchsnap() {
@@ -47,7 +47,7 @@ else
 fi
 "#;
 
-/// A shell that completes what is typed.
+/// A shell for which there are completions.
 #[derive(Clone, Copy, Debug, PartialEq, Eq)]
 pub enum Shell {
     Bash,
@@ -55,7 +55,7 @@ pub enum Shell {
     Fish,
 }
 
-/// The completions of every command and option for a shell: `Display` gives the script.
+/// The completions of every command and option for a shell: `Display` writes the script.
 #[derive(Clone, Copy, Debug, PartialEq, Eq)]
 pub struct Completions(Shell);
 
@@ -167,7 +167,7 @@ fn write_fish_command<W: fmt::Write>(command: &Entry, f: &mut Formatter<W>) -> f
     Ok(())
 }
 
-// A text as it stands between the single quotes of a shell's script.
+// A text between the single quotes of a shell's script.
 #[derive(Clone, Copy)]
 struct Quoted(Shell, &'static str);
 
@@ -176,7 +176,7 @@ impl Display for Quoted {
         for letter in self.1.chars() {
             match (self.0, letter) {
                 (Shell::Zsh, '\'') => f.write_str("'\\''")?,
-                // A help text ends with a bracket, and a name with a colon.
+                // A bracket would end a help text, and a colon a name.
                 (Shell::Zsh, '[' | ']' | ':' | '\\') | (Shell::Fish, '\'' | '\\') => {
                     write!(f, "\\{letter}")?;
                 }

@@ -1,4 +1,4 @@
-//! What the program is asked to do: a request over files, one end of a session, or the completions of a shell.
+//! The jobs of the program: a request over files, one end of a session, or the completions of a shell.
 ghost use Rattle.std.specs.Prelude.{◌≡◌, option_map};
 ghost use Rattle.itchsnap_cli.specs.Jobs.{output_of, writes_snapshot};
 
@@ -10,15 +10,16 @@ use crate::words::request::{read_kind, read_output, read_path, read_request, rea
 use crate::words::session::{
     LoginWords, Server, read_address, read_from, read_login, read_number, read_server, read_session,
 };
+use crate::words::status::{StatusWords, read_status_words};
 use clap::{ArgMatches, Error};
 use itch_codec::{Alpha, Seq};
-use itch_commands::{FileKind, Request};
-use itchsnap_live::FollowForm;
+use itch_commands::{Command, FileKind, Request};
+use itch_sessions::FollowForm;
 use std::alloc::Global;
 use std::net::SocketAddr;
 
-/// What the command line asks for. With `progress`, standard error shows how much was read so far; with `output`, a snapshot is
-/// written to the file of that path, and otherwise to standard output.
+/// The job of a command line. With `progress`, standard error shows how much was read so far; with `output`, a snapshot is written to the
+/// file at that path, and otherwise to standard output.
 #[derive(Debug, Drop)]
 pub enum Job<'a> {
     /// A request over files and standard streams.
@@ -29,18 +30,18 @@ pub enum Job<'a> {
     },
     /// Write the snapshots of several points of a day file into a folder.
     Points(PointWords<'a>),
-    /// Serve the market of a file, or of standard input where none is named, to `count` connections. The port 0 is a free one.
+    /// Serve the market of a file, or of standard input if none is named, to `count` connections. Port 0 means a free port.
     Serve {
         file: Option<&'a str>,
         kind: FileKind,
         address: SocketAddr,
         login: LoginWords<'a>,
-        /// The session that logins are accepted in, where it is named.
+        /// The session of the logins, if it is named.
         session: Option<Alpha<10>>,
         count: u64,
         progress: bool,
     },
-    /// Fetch the snapshot that a server has, or its messages from a number on.
+    /// Fetch the snapshot of a server, or its messages from a number on.
     Fetch {
         server: Server<'a>,
         login: LoginWords<'a>,
@@ -53,12 +54,14 @@ pub enum Job<'a> {
     Follow(FollowWords<'a>),
     /// Play a day file as a live feed.
     Feed(FeedWords<'a>),
+    /// Print the status of a live server.
+    Status(StatusWords<'a>),
     /// Print the completions of a shell.
     Completions(Shell),
 }
 
 impl<'a> Job<'a> {
-    /// The path of the file that a snapshot is written to, or of the folder for several, if one is named.
+    /// Returns the path of the output file for a snapshot, or of the folder for several, if one is named.
     pub fn output(&self) -> Option<&'a str>
         ensures { option_map (λ path. path.now) result ≡ output_of self.now }
     {
@@ -70,23 +73,27 @@ impl<'a> Job<'a> {
     }
 }
 
-// Whether the output is a snapshot or a day file, which are no text.
+// Returns whether the output is a snapshot or blocks of messages, which are not text.
 fn writes_snapshot(job: &Job<'_>) -> bool
     ensures { result ≡ writes_snapshot job.now }
 {
     match job {
         Job::Files { request, .. } => request.is_binary(),
-        Job::Points(_) | Job::Serve { .. } | Job::Live(_) | Job::Feed(_) | Job::Completions(_) =>
-            false,
+        Job::Points(_)
+        | Job::Serve { .. }
+        | Job::Live(_)
+        | Job::Feed(_)
+        | Job::Status(_)
+        | Job::Completions(_) => false,
         Job::Fetch { .. } => true,
         Job::Follow(follow) => !matches!(follow.form, FollowForm::Json),
     }
 }
 
-/// Reads the words of the command line; the first is the program's name. A command that writes a snapshot is refused if standard
-/// output is a terminal. `password` is that of a login which names none.
+/// Parses the command line; the first word is the program's name. A command that writes a snapshot is refused if standard output is a
+/// terminal. `password` is used for a login without one.
 ///
-/// An error is a usage fault, a request for help, or out of memory: its kind says which.
+/// An error is a usage fault, a request for help, or out of memory: its kind tells which.
 pub fn read_job<'a>(
     alloc: Global,
     words: &'a [String],
@@ -101,7 +108,7 @@ pub fn read_job<'a>(
     Ok(job)
 }
 
-// What the matched words ask for.
+// Returns the job of the matched words.
 fn read_matched<'a>(
     alloc: Global,
     matches: &ArgMatches<'a>,
@@ -113,6 +120,7 @@ fn read_matched<'a>(
         Some(("live", options)) => Ok(Job::Live(read_live(alloc, options, password)?)),
         Some(("follow", options)) => Ok(Job::Follow(read_follow(alloc, options, password)?)),
         Some(("feed", options)) => Ok(Job::Feed(read_feed(alloc, options, password)?)),
+        Some(("status", options)) => Ok(Job::Status(read_status_words(alloc, options)?)),
         Some(("completions", options)) => Ok(Job::Completions(read_shell(alloc, options)?)),
         Some(("snap", options)) => match read_snap_words(alloc, options)? {
             SnapWords::Several(words) => Ok(Job::Points(words)),
@@ -123,7 +131,7 @@ fn read_matched<'a>(
     }
 }
 
-// Whether standard output gets a snapshot or a day file, which are not shown on a terminal.
+// Returns whether standard output would get a snapshot or a day file, which are not shown on a terminal.
 fn needs_a_file(job: &Job<'_>) -> bool {
     job.output().is_none() && writes_snapshot(job)
 }
@@ -133,6 +141,13 @@ fn terminal_fault(job: &Job<'_>) -> &'static str {
         Job::Follow(_) => {
             "messages are not written to a terminal: redirect the output, or give --json"
         }
+        Job::Files {
+            request: Request::One {
+                command: Command::Cut { .. },
+                ..
+            },
+            ..
+        } => "messages are not written to a terminal: redirect the output, or give --output",
         _ => "a snapshot is not written to a terminal: redirect the output, or give --output",
     }
 }

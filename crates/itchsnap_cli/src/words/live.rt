@@ -1,78 +1,86 @@
-//! The words of a live server, of what follows a feed, and of a feed that is played.
+//! The options of a live server, of a follower, and of a played feed.
 
 use crate::words::commands::usage_fault;
-use crate::words::places::{read_feeds, read_place, read_place_if_any};
+use crate::words::places::{read_feeds, read_place, read_place_if_any, read_status};
 use crate::words::request::read_count;
 use crate::words::session::{
     LoginWords, Password, UserWords, read_address, read_login, read_session, read_users,
 };
 use crate::words::size::read_size;
 use clap::{ArgMatches, Error};
+use itch_clients::Pace;
 use itch_codec::Alpha;
-use itchsnap_live::{Feeds, FollowForm, Pace, Place, RecordWords, SnapshotWords, SyncTime};
+use itch_records::{Ready, RecordPlace, RecordWords, SnapshotWords, SyncTime};
+use itch_sessions::log::form::LogForm;
+use itch_sessions::{Feeds, FollowForm, Place};
 use std::alloc::Global;
 use std::net::SocketAddr;
 
-/// How many clients a live server has at a time, where nothing is said.
+/// The default number of clients of a live server at a time.
 const CLIENTS: u64 = 64;
 
-/// What a live server is told.
+/// The options of a live server.
 #[derive(Clone, Copy, Debug, PartialEq, Eq)]
 pub struct LiveWords<'a> {
     pub feeds: Feeds<'a>,
-    /// A server of snapshots to begin with, or none to begin with the feed's first message.
+    /// The snapshot server to start from, or `None` to start with the feed's first message.
     pub glimpse: Option<Place<'a>>,
     pub address: SocketAddr,
-    /// Who may log in.
+    /// The users that may log in.
     pub users: UserWords<'a>,
-    /// Whom it logs in as itself.
+    /// The login of the server itself at the feed.
     pub feed_login: LoginWords<'a>,
-    /// The feed's session, where it is named.
+    /// The feed's session, if it is named.
     pub session: Option<Alpha<10>>,
-    /// The session of the server of snapshots, where it is not the feed's.
+    /// The session of the snapshot server, if it is not the feed's.
     pub glimpse_session: Option<Alpha<10>>,
-    /// How many clients it has at a time.
+    /// The most clients at a time.
     pub clients: u64,
-    /// How many of them may be from one address, if there is a limit.
+    /// The most clients from one address, if there is a limit.
     pub clients_per_address: Option<u64>,
-    /// How many bytes the snapshots in use may have, if a limit is given.
+    /// The limit in bytes of the snapshots in use, if one is given.
     pub snapshot_memory: Option<u64>,
     pub record: Option<RecordWords<'a>>,
     pub snapshots: Option<SnapshotWords<'a>>,
-    /// Whether it serves on once the feed has ended.
+    /// Whether it continues to serve once the feed has ended.
     pub stay: bool,
+    /// When it starts to send snapshots.
+    pub ready: Ready,
+    /// The address of its status port, if it has one.
+    pub status: Option<Place<'a>>,
+    pub log: LogForm,
 }
 
-/// What is followed, and how.
+/// The options of a follower.
 #[derive(Clone, Copy, Debug, PartialEq, Eq)]
 pub struct FollowWords<'a> {
     pub feeds: Feeds<'a>,
     pub glimpse: Place<'a>,
     pub login: LoginWords<'a>,
-    /// The feed's session, where it is named.
+    /// The feed's session, if it is named.
     pub session: Option<Alpha<10>>,
-    /// The session of the server of snapshots, where it is not the feed's.
+    /// The session of the snapshot server, if it is not the feed's.
     pub glimpse_session: Option<Alpha<10>>,
     pub form: FollowForm,
 }
 
-/// Which day file is played, where, to whom and how.
+/// The options of a played feed.
 #[derive(Clone, Copy, Debug, PartialEq, Eq)]
 pub struct FeedWords<'a> {
     pub file: &'a str,
     pub address: SocketAddr,
-    /// Who may log in.
+    /// The users that may log in.
     pub users: UserWords<'a>,
-    /// The session that logins are accepted in, where it is named.
+    /// The session of the logins, if it is named.
     pub session: Option<Alpha<10>>,
     pub pace: Pace,
-    /// After how many connections it ends, if it does.
+    /// The number of connections after which it ends, if it does.
     pub count: Option<u64>,
-    /// Whether heartbeats follow the last message, and not the end of the session.
+    /// Whether heartbeats follow the last message, instead of the end of the session.
     pub stay: bool,
 }
 
-/// The words of `live`.
+/// Reads the options of `live`.
 pub fn read_live<'a>(
     alloc: Global,
     options: &ArgMatches<'a>,
@@ -101,10 +109,13 @@ pub fn read_live<'a>(
         record,
         snapshots: read_snapshots(alloc, options)?,
         stay: options.get_flag("stay"),
+        ready: read_ready(alloc, options)?,
+        status: read_status(alloc, options, "status")?,
+        log: read_log(alloc, options)?,
     })
 }
 
-/// The words of `follow`.
+/// Reads the options of `follow`.
 pub fn read_follow<'a>(
     alloc: Global,
     options: &ArgMatches<'a>,
@@ -120,7 +131,7 @@ pub fn read_follow<'a>(
     })
 }
 
-/// The words of `feed`.
+/// Reads the options of `feed`.
 pub fn read_feed<'a>(
     alloc: Global,
     options: &ArgMatches<'a>,
@@ -143,18 +154,25 @@ fn read_record<'a>(
 ) -> Result<Option<RecordWords<'a>>, Error> {
     let sync = read_sync(alloc, options)?;
     let is_optional = options.get_flag("record-optional");
-    match options.get_str("record") {
-        Some(path) => Ok(Some(RecordWords {
-            path,
-            sync: sync.unwrap_or(SyncTime::EverySecond),
-            is_optional,
-        })),
-        None if sync.is_some() || is_optional => Err(usage_fault(
-            alloc,
-            "--sync and --record-optional go with --record",
-        )?),
-        None => Ok(None),
-    }
+    let place = match (options.get_str("record"), options.get_str("records")) {
+        (Some(path), None) => RecordPlace::File(path),
+        (None, Some(folder)) => RecordPlace::Folder(folder),
+        (Some(_), Some(_)) => {
+            return Err(usage_fault(alloc, "--record and --records exclude each other")?);
+        }
+        (None, None) if sync.is_some() || is_optional => {
+            return Err(usage_fault(
+                alloc,
+                "--sync and --record-optional go with --record or --records",
+            )?);
+        }
+        (None, None) => return Ok(None),
+    };
+    Ok(Some(RecordWords {
+        place,
+        sync: sync.unwrap_or(SyncTime::EverySecond),
+        is_optional,
+    }))
 }
 
 fn read_sync<'a>(alloc: Global, options: &ArgMatches<'a>) -> Result<Option<SyncTime>, Error> {
@@ -164,6 +182,23 @@ fn read_sync<'a>(alloc: Global, options: &ArgMatches<'a>) -> Result<Option<SyncT
         Some("second") => Ok(Some(SyncTime::EverySecond)),
         Some("message") => Ok(Some(SyncTime::EveryMessage)),
         Some(_) => Err(usage_fault(alloc, "--sync takes no, second or message")?),
+    }
+}
+
+fn read_ready<'a>(alloc: Global, options: &ArgMatches<'a>) -> Result<Ready, Error> {
+    match options.get_str("ready") {
+        None | Some("first") => Ok(Ready::First),
+        Some("caught-up") => Ok(Ready::CaughtUp),
+        Some(_) => Err(usage_fault(alloc, "--ready takes first or caught-up")?),
+    }
+}
+
+fn read_log<'a>(alloc: Global, options: &ArgMatches<'a>) -> Result<LogForm, Error> {
+    match options.get_str("log") {
+        None => Ok(LogForm::Plain),
+        Some("text") => Ok(LogForm::Text),
+        Some("json") => Ok(LogForm::Json),
+        Some(_) => Err(usage_fault(alloc, "--log takes text or json")?),
     }
 }
 
@@ -181,7 +216,7 @@ fn read_glimpse_session<'a>(
     }
 }
 
-// Whom a live server logs in as: a name and a password of its own where they are given, and otherwise those of its one user.
+// Reads the login of a live server at its feed: its own name and password if they are given, and otherwise those of its one user.
 fn read_feed_login<'a>(
     alloc: Global,
     options: &ArgMatches<'a>,
@@ -209,9 +244,15 @@ fn read_snapshots<'a>(
     options: &ArgMatches<'a>,
 ) -> Result<Option<SnapshotWords<'a>>, Error> {
     let every = read_counted(alloc, options, "every")?;
+    let keep = read_counted(alloc, options, "keep")?;
     match (options.get_str("snapshots"), every) {
+        (None, None) if keep.is_some() => Err(usage_fault(alloc, "--keep goes with --snapshots")?),
         (None, None) => Ok(None),
-        (Some(folder), Some(every)) => Ok(Some(SnapshotWords { folder, every })),
+        (Some(folder), Some(every)) => Ok(Some(SnapshotWords {
+            folder,
+            every,
+            keep,
+        })),
         _ => Err(usage_fault(alloc, "--snapshots and --every go together")?),
     }
 }
@@ -238,7 +279,7 @@ fn read_follow_form<'a>(alloc: Global, options: &ArgMatches<'a>) -> Result<Follo
     }
 }
 
-// Each client reads the file by itself, which standard input does not allow.
+// Each client reads the file separately, which standard input does not allow.
 fn read_played<'a>(alloc: Global, options: &ArgMatches<'a>) -> Result<&'a str, Error> {
     match options.get_str("FILE") {
         Some(path) if path != "-" => Ok(path),

@@ -1,12 +1,12 @@
-//! The servers that a live server or a follower connects to, as the command line has them.
+//! The servers to which a live server or a follower connects, on the command line.
 
 use crate::words::commands::usage_fault;
 use crate::words::time::read_digits;
 use clap::{ArgMatches, Error};
-use itchsnap_live::{Feeds, Place};
+use itch_sessions::{Feeds, Place};
 use std::alloc::Global;
 
-/// The servers after `--feed`.
+/// Reads the servers after `--feed`.
 pub fn read_feeds<'a>(alloc: Global, options: &ArgMatches<'a>) -> Result<Feeds<'a>, Error> {
     let words = options.get_strs("feed").unwrap_or(&[]);
     let [first, rest @ ..] = words else {
@@ -23,7 +23,7 @@ pub fn read_feeds<'a>(alloc: Global, options: &ArgMatches<'a>) -> Result<Feeds<'
     Ok(feeds)
 }
 
-/// The server after an option.
+/// Reads the server after an option.
 pub fn read_place<'a>(
     alloc: Global,
     options: &ArgMatches<'a>,
@@ -35,7 +35,7 @@ pub fn read_place<'a>(
     }
 }
 
-/// The server after an option, if it is given.
+/// Reads the server after an option, if it is given.
 pub fn read_place_if_any<'a>(
     alloc: Global,
     options: &ArgMatches<'a>,
@@ -47,17 +47,54 @@ pub fn read_place_if_any<'a>(
     Ok(Some(read_words(alloc, words)?))
 }
 
+/// Reads the status port after an option, if it is given. Without a host it is on this machine; port 0 means a free port.
+pub fn read_status<'a>(
+    alloc: Global,
+    options: &ArgMatches<'a>,
+    name: &str,
+) -> Result<Option<Place<'a>>, Error> {
+    let Some(words) = options.get_str(name) else {
+        return Ok(None);
+    };
+    match status_place_of(words) {
+        Some(place) => Ok(Some(place)),
+        None => Err(usage_fault(
+            alloc,
+            "a status port is HOST:PORT or PORT, with an IPv6 address in brackets and a port to 65535",
+        )?),
+    }
+}
+
+/// Parses a host and a port, or a port of this machine.
+pub fn status_place_of(words: &str) -> Option<Place<'_>> {
+    if words.contains(':') {
+        place_of(words)
+    } else {
+        port_of(words)
+    }
+}
+
+// Parses a port of this machine.
+fn port_of(words: &str) -> Option<Place<'_>> {
+    let port = u16::try_from(read_digits(words)?).ok()?;
+    Some(Place {
+        words,
+        host: "127.0.0.1",
+        port,
+    })
+}
+
 fn read_words<'a>(alloc: Global, words: &'a str) -> Result<Place<'a>, Error> {
     match place_of(words) {
-        Some(place) => Ok(place),
-        None => Err(usage_fault(
+        Some(place) if place.port > 0 => Ok(place),
+        _ => Err(usage_fault(
             alloc,
             "a server is HOST:PORT, with an IPv6 address in brackets and a port from 1 to 65535",
         )?),
     }
 }
 
-// A host and a port. The colons of an IPv6 address stand in brackets.
+// Parses a host and a port. An IPv6 address is written in brackets.
 fn place_of(words: &str) -> Option<Place<'_>> {
     let (host, port) = words.rsplit_once(':')?;
     let port = u16::try_from(read_digits(port)?).ok()?;
@@ -66,7 +103,7 @@ fn place_of(words: &str) -> Option<Place<'_>> {
         None if host.contains(':') => return None,
         None => host,
     };
-    if host.is_empty() || port == 0 {
+    if host.is_empty() {
         return None;
     }
     Some(Place { words, host, port })

@@ -1,4 +1,4 @@
-//! The points of a day file at which snapshots are wanted, as `snap` is told them.
+//! The points of a day file at which `snap` writes snapshots.
 
 use crate::words::arguments::MOST_COUNTED;
 use crate::words::commands::usage_fault;
@@ -8,29 +8,29 @@ use clap::{ArgMatches, Error};
 use itch_commands::Limit;
 use std::alloc::{AllocError, Global};
 
-/// Where the snapshots of a day file are wanted.
+/// The points of a day file at which snapshots are requested.
 #[derive(Debug, Drop)]
 pub enum Points {
-    /// Where each of these parts of it ends. Each is longer than the one before.
+    /// At the ends of these parts of it. Each is longer than the one before.
     At(Vec<Limit>),
-    /// After each so many messages, and at its end.
+    /// One per that many messages, and one at its end.
     Every(u64),
 }
 
-/// Which snapshots of a day file are wanted, and the folder for them.
+/// The requested snapshots of a day file, and the folder for them.
 #[derive(Debug, Drop)]
 pub struct PointWords<'a> {
     /// The path of the day file, or none for standard input.
     pub file: Option<&'a str>,
     pub points: Points,
-    /// The list of the locates that are kept, if not all are.
+    /// The list of the locates to keep, if not all are.
     pub only: Option<&'a str>,
     pub folder: &'a str,
     /// Whether standard error shows how much was read so far.
     pub progress: bool,
 }
 
-/// What `snap` is told to write.
+/// The output of `snap`.
 #[derive(Drop)]
 pub enum SnapWords<'a> {
     /// The snapshot after this part of the file.
@@ -39,9 +39,9 @@ pub enum SnapWords<'a> {
     Several(PointWords<'a>),
 }
 
-/// Reads which snapshots the words of `snap` ask for.
+/// Reads the options of `snap`.
 ///
-/// An error is a usage fault or out of memory: its kind says which.
+/// An error is a usage fault or out of memory: its kind tells which.
 pub fn read_snap_words<'a>(
     alloc: Global,
     options: &ArgMatches<'a>,
@@ -62,7 +62,7 @@ pub fn read_snap_words<'a>(
     }))
 }
 
-// The one part of a file that is wanted without a folder: up to a number of messages, or a time, whichever comes first.
+// Reads the one requested part of a file without a folder: up to a number of messages, or a time, whichever comes first.
 fn one_part<'a>(alloc: Global, options: &ArgMatches<'a>, points: &Points) -> Result<Limit, Error> {
     match points {
         Points::At(limits) if limits.len() == 1 => match limits[0].after {
@@ -76,7 +76,7 @@ fn one_part<'a>(alloc: Global, options: &ArgMatches<'a>, points: &Points) -> Res
     }
 }
 
-// The points after `--after`, `--until` or `--every`.
+// Reads the points after `--after`, `--until` or `--every`.
 fn read_list<'a>(alloc: Global, options: &ArgMatches<'a>) -> Result<Points, Error> {
     let every = read_count(alloc, options, "every", "--every takes decimal digits")?;
     match (options.get_str("after"), options.get_str("until"), every) {
@@ -84,7 +84,7 @@ fn read_list<'a>(alloc: Global, options: &ArgMatches<'a>) -> Result<Points, Erro
         (Some(list), None, None) => read_each(alloc, list, Unit::Messages),
         (None, Some(list), None) => read_each(alloc, list, Unit::Time),
         (None, None, Some(count)) => Ok(Points::Every(count)),
-        // Whichever comes first ends the one part that is wanted.
+        // Whichever comes first ends the one requested part.
         (Some(list), Some(_), None) if options.get_str("to").is_none() => read_each(
             alloc,
             list,
@@ -97,7 +97,7 @@ fn read_list<'a>(alloc: Global, options: &ArgMatches<'a>) -> Result<Points, Erro
     }
 }
 
-// What a list counts.
+// The unit of a list.
 #[derive(Clone, Copy)]
 enum Unit {
     Messages,
@@ -105,7 +105,7 @@ enum Unit {
 }
 
 impl Unit {
-    // The part of a file that ends at a point, unless the text is none.
+    // Returns the part of a file that ends at a point, unless the text is not a point.
     fn limit(self, text: &str) -> Option<Limit> {
         match self {
             Unit::Messages => Some(Limit::counted(Some(read_number(text)?))),
@@ -116,7 +116,7 @@ impl Unit {
         }
     }
 
-    // What is wrong with a list that has something else in it, or does not rise.
+    // Returns the fault of a list with an invalid item, or of one that does not ascend.
     fn fault(self) -> &'static str {
         match self {
             Unit::Messages => {
@@ -136,7 +136,7 @@ fn read_each(alloc: Global, list: &str, unit: Unit) -> Result<Points, Error> {
     }
 }
 
-// The parts of a file that end at the points of a list; none unless each is longer than the one before.
+// Returns the parts of a file that end at the points of a list; `None` unless each is longer than the one before.
 fn rising(alloc: Global, list: &str, unit: Unit) -> Result<Option<Vec<Limit>>, AllocError> {
     let mut limits = Vec::new(alloc);
     let mut before = None;
@@ -154,7 +154,7 @@ fn rising(alloc: Global, list: &str, unit: Unit) -> Result<Option<Vec<Limit>>, A
     Ok(Some(limits))
 }
 
-// A number of messages, in decimal digits alone.
+// Parses a number of messages in decimal digits only.
 fn read_number(text: &str) -> Option<u64> {
     let number = read_digits(text)?;
     if number <= MOST_COUNTED as u64 {

@@ -1,4 +1,4 @@
-//! Requests over files, made from the matched words of the command line.
+//! Requests over files, read from the matched command line.
 ghost use Rattle.std.specs.Prelude.{◌≡◌};
 ghost use Rattle.itchsnap_cli.specs.Types.{is_message_type};
 
@@ -7,7 +7,7 @@ use crate::words::time::read_time;
 use clap::{ArgMatches, Error};
 use itch_commands::{
     BookForm, Command, Expected, FeedPart, FileKind, Filters, Form, Limit, OrderForm, PairCommand,
-    Request, Selection, ShowForm, path_of,
+    Request, Selection, ShowForm, Start, path_of,
 };
 use std::alloc::Global;
 
@@ -17,9 +17,9 @@ const TYPES: [char; 24] = [
     'B', 'I', 'N', 'O', 'G',
 ];
 
-/// Reads the matched words of a request over files other than `snap`.
+/// Reads a request over files other than `snap`.
 ///
-/// An error is a usage fault or out of memory: its kind says which.
+/// An error is a usage fault or out of memory: its kind tells which.
 pub fn read_request<'a>(alloc: Global, matches: &ArgMatches<'a>) -> Result<Request<'a>, Error> {
     match matches.subcommand() {
         Some(("compare", options)) => read_compare(alloc, options),
@@ -40,7 +40,7 @@ pub fn read_request<'a>(alloc: Global, matches: &ArgMatches<'a>) -> Result<Reque
     }
 }
 
-/// Reads the words of `snap` for one part of a file.
+/// Reads the options of `snap` for one part of a file.
 pub fn read_snap<'a>(
     alloc: Global,
     options: &ArgMatches<'a>,
@@ -55,7 +55,7 @@ pub fn read_snap<'a>(
     })
 }
 
-// What is done with a file that is named FILE.
+// Reads the command over a file that is named FILE.
 fn read_command<'a>(
     alloc: Global,
     name: &str,
@@ -71,13 +71,17 @@ fn read_command<'a>(
             limit: read_limit(alloc, options)?,
             form: read_form(options),
         }),
+        "cut" => Ok(Command::Cut {
+            limit: read_limit(alloc, options)?,
+            filters: read_filters(alloc, options)?,
+        }),
         "show" if options.get_flag("orders") => read_orders(alloc, options),
         "show" => read_show(alloc, options),
         _ => Err(usage_fault(alloc, "a command is missing")?),
     }
 }
 
-// What a file is expected to be, after `--expect` and `--ended`.
+// Reads the expectations after `--expect` and `--ended`.
 fn read_expected<'a>(alloc: Global, options: &ArgMatches<'a>) -> Result<Expected, Error> {
     Ok(Expected {
         count: read_count(alloc, options, "expect", "--expect takes decimal digits")?,
@@ -127,7 +131,7 @@ fn read_at<'a>(alloc: Global, options: &ArgMatches<'a>) -> Result<Request<'a>, E
     })
 }
 
-// A point of the day: a number of messages, or a time with a colon in it.
+// Reads a point of the day: a number of messages, or a time with a colon in it.
 fn read_point(alloc: Global, text: &str) -> Result<Limit, Error> {
     if text.contains(':') {
         if let Some(time) = read_time(text) {
@@ -148,27 +152,31 @@ fn read_point(alloc: Global, text: &str) -> Result<Limit, Error> {
     )?)
 }
 
-// The part of a feed that is wanted, after `--from`, `--after` and `--until`.
+// Reads the requested part of a feed, after `--from`, `--after` and `--until`.
 fn read_feed_part<'a>(alloc: Global, options: &ArgMatches<'a>) -> Result<FeedPart, Error> {
-    let first = read_count(alloc, options, "from", "--from takes decimal digits")?;
     Ok(FeedPart {
-        before: first.unwrap_or(1).saturating_sub(1),
+        before: read_before(alloc, options)?,
         limit: read_limit(alloc, options)?,
     })
 }
 
 fn read_show<'a>(alloc: Global, options: &ArgMatches<'a>) -> Result<Command<'a>, Error> {
-    if options.get_flag("csv") {
-        return Err(usage_fault(alloc, "--csv needs --orders")?);
+    let kind = read_kind(alloc, options)?;
+    let filters = read_filters(alloc, options)?;
+    if kind == FileKind::Snapshot && filters.start != Start::first() {
+        return Err(usage_fault(
+            alloc,
+            "--snapshot excludes --from and --since: a snapshot is read from its beginning",
+        )?);
     }
     Ok(Command::Show {
-        kind: read_kind(alloc, options)?,
-        form: read_show_form(alloc, options)?,
-        filters: read_filters(alloc, options)?,
+        kind,
+        form: read_show_form(alloc, options, filters.types)?,
+        filters,
     })
 }
 
-// `show --orders`, which applies the order rules of a day.
+// Reads `show --orders`, which applies the order rules of a day.
 fn read_orders<'a>(alloc: Global, options: &ArgMatches<'a>) -> Result<Command<'a>, Error> {
     let FileKind::Day(limit) = read_kind(alloc, options)? else {
         return Err(usage_fault(
@@ -196,18 +204,35 @@ fn read_order_form<'a>(alloc: Global, options: &ArgMatches<'a>) -> Result<OrderF
     }
 }
 
-fn read_show_form<'a>(alloc: Global, options: &ArgMatches<'a>) -> Result<ShowForm, Error> {
-    match (options.get_flag("names"), options.get_flag("json")) {
-        (false, false) => Ok(ShowForm::Text),
-        (true, false) => Ok(ShowForm::Named),
-        (false, true) => Ok(ShowForm::Json),
-        (true, true) => Err(usage_fault(alloc, "--names and --json exclude each other")?),
+fn read_show_form<'a>(
+    alloc: Global,
+    options: &ArgMatches<'a>,
+    types: Option<&str>,
+) -> Result<ShowForm, Error> {
+    match read_order_form(alloc, options)? {
+        OrderForm::Text => Ok(ShowForm::Text),
+        OrderForm::Named => Ok(ShowForm::Named),
+        OrderForm::Json => Ok(ShowForm::Json),
+        OrderForm::Csv => read_columns(alloc, types.unwrap_or("")),
     }
 }
 
-// What chooses the messages that are shown.
+// The one type whose fields are the columns.
+fn read_columns(alloc: Global, types: &str) -> Result<ShowForm, Error> {
+    let letters = types.as_bytes();
+    if letters.len() != 1 {
+        return Err(usage_fault(
+            alloc,
+            "--csv needs --orders, or one type, such as --types A: each type has its own columns",
+        )?);
+    }
+    Ok(ShowForm::Csv { kind: letters[0] })
+}
+
+// Reads the filters for the messages that are shown.
 fn read_filters<'a>(alloc: Global, options: &ArgMatches<'a>) -> Result<Filters<'a>, Error> {
     Ok(Filters {
+        start: read_start(alloc, options)?,
         only: options.get_str("only"),
         stocks: read_stocks(alloc, options)?,
         types: read_types(alloc, options)?,
@@ -220,7 +245,7 @@ fn read_filters<'a>(alloc: Global, options: &ArgMatches<'a>) -> Result<Filters<'
     })
 }
 
-// The letters of message types: one or more.
+// Reads the letters of message types: one or more.
 fn read_types<'a>(alloc: Global, options: &ArgMatches<'a>) -> Result<Option<&'a str>, Error> {
     let Some(types) = options.get_str("types") else {
         return Ok(None);
@@ -235,14 +260,14 @@ fn read_types<'a>(alloc: Global, options: &ArgMatches<'a>) -> Result<Option<&'a 
     Ok(Some(types))
 }
 
-// Whether a letter is a type of message.
+// Returns whether a letter is a type of message.
 fn is_type(letter: char) -> bool
     ensures { result ≡ is_message_type letter }
 {
     TYPES.contains(&letter)
 }
 
-// The two files of a command, of which one may be standard input.
+// Reads the two files of a command; one may be standard input.
 fn read_two<'a>(
     alloc: Global,
     options: &ArgMatches<'a>,
@@ -255,7 +280,7 @@ fn read_two<'a>(
     }
 }
 
-/// The path of a file on the command line, or none if that is standard input.
+/// Reads the path of a file on the command line; `None` means standard input.
 pub fn read_path<'a>(options: &ArgMatches<'a>, name: &str) -> Option<&'a str> {
     path_of(options.get_str(name))
 }
@@ -273,7 +298,7 @@ fn read_book<'a>(alloc: Global, options: &ArgMatches<'a>) -> Result<Request<'a>,
     })
 }
 
-// The locates that `book` prints, and its file. After `--stock` there is no LOCATE, and the first word is the file.
+// Reads the locates for `book`, and its file. With `--stock` there is no LOCATE, and the first positional argument is the file.
 fn read_booked<'a>(
     alloc: Global,
     options: &ArgMatches<'a>,
@@ -287,7 +312,7 @@ fn read_booked<'a>(
     }
 }
 
-// The locates that `--only` or `--stock` selects.
+// Reads the selection of `--only` or `--stock`.
 fn read_selection<'a>(alloc: Global, options: &ArgMatches<'a>) -> Result<Selection<'a>, Error> {
     match (options.get_str("only"), read_stocks(alloc, options)?) {
         (None, None) => Ok(Selection::All),
@@ -297,7 +322,7 @@ fn read_selection<'a>(alloc: Global, options: &ArgMatches<'a>) -> Result<Selecti
     }
 }
 
-// The names after `--stock`, none of which is empty.
+// Reads the names after `--stock`, none of which may be empty.
 fn read_stocks<'a>(alloc: Global, options: &ArgMatches<'a>) -> Result<Option<&'a str>, Error> {
     let Some(names) = options.get_str("stock") else {
         return Ok(None);
@@ -308,12 +333,12 @@ fn read_stocks<'a>(alloc: Global, options: &ArgMatches<'a>) -> Result<Option<&'a
     Ok(Some(names))
 }
 
-// Whether nothing stands before a comma of a list, or after one.
+// Returns whether a list has nothing before or after one of its commas.
 fn has_empty_part(names: &str) -> bool {
     names.is_empty() || names.starts_with(',') || names.ends_with(',') || names.contains(",,")
 }
 
-/// What a file is: a snapshot after `--snapshot`, and otherwise a day file or the part of it that is wanted.
+/// Reads the kind of a file: a snapshot with `--snapshot`, and otherwise a day file or the requested part of it.
 pub fn read_kind<'a>(alloc: Global, options: &ArgMatches<'a>) -> Result<FileKind, Error> {
     let limit = read_limit(alloc, options)?;
     if !options.get_flag("snapshot") {
@@ -328,7 +353,7 @@ pub fn read_kind<'a>(alloc: Global, options: &ArgMatches<'a>) -> Result<FileKind
     Ok(FileKind::Snapshot)
 }
 
-/// The path of the file that a snapshot is written to, or none if that is standard output. `canon --check` writes no snapshot.
+/// Reads the path of the output file for a snapshot; `None` means standard output. `canon --check` writes no snapshot.
 pub fn read_output<'a>(alloc: Global, options: &ArgMatches<'a>) -> Result<Option<&'a str>, Error> {
     let path = path_of(options.get_str("output"));
     if path.is_some() && options.get_flag("check") {
@@ -337,7 +362,7 @@ pub fn read_output<'a>(alloc: Global, options: &ArgMatches<'a>) -> Result<Option
     Ok(path)
 }
 
-// The form of a count or a verdict.
+// Reads the form of a count or a verdict.
 fn read_form(options: &ArgMatches<'_>) -> Form {
     if options.get_flag("json") {
         Form::Json
@@ -355,7 +380,7 @@ fn read_book_form<'a>(alloc: Global, options: &ArgMatches<'a>) -> Result<BookFor
     }
 }
 
-// The part of a file that is wanted, after `--after` and `--until`.
+// Reads the requested part of a file, after `--after` and `--until`.
 fn read_limit<'a>(alloc: Global, options: &ArgMatches<'a>) -> Result<Limit, Error> {
     Ok(Limit {
         after: read_count(alloc, options, "after", "--after takes decimal digits")?,
@@ -363,21 +388,52 @@ fn read_limit<'a>(alloc: Global, options: &ArgMatches<'a>) -> Result<Limit, Erro
     })
 }
 
-/// The time before which the part of a file ends, after `--until`.
+// Reads the beginning of the requested range of messages, after `--from` and `--since`.
+fn read_start<'a>(alloc: Global, options: &ArgMatches<'a>) -> Result<Start, Error> {
+    Ok(Start {
+        before: read_before(alloc, options)?,
+        since: read_moment(
+            alloc,
+            options,
+            "since",
+            "--since takes a time such as 9:30 or 9:30:00.000000001, or nanoseconds since midnight",
+        )?,
+    })
+}
+
+// Reads the number of messages before the one after `--from`, which defaults to the first.
+fn read_before<'a>(alloc: Global, options: &ArgMatches<'a>) -> Result<u64, Error> {
+    let first = read_count(alloc, options, "from", "--from takes decimal digits")?;
+    Ok(first.unwrap_or(1).saturating_sub(1))
+}
+
+/// Reads the end time of the part of a file, after `--until`.
 pub fn read_until<'a>(alloc: Global, options: &ArgMatches<'a>) -> Result<Option<u64>, Error> {
-    let Some(text) = options.get_str("until") else {
+    read_moment(
+        alloc,
+        options,
+        "until",
+        "--until takes a time such as 10:30 or 10:30:00.000000001, or nanoseconds since midnight",
+    )
+}
+
+// Reads the time after an option, if it is given; any other text is this usage fault.
+fn read_moment<'a>(
+    alloc: Global,
+    options: &ArgMatches<'a>,
+    name: &str,
+    fault: &str,
+) -> Result<Option<u64>, Error> {
+    let Some(text) = options.get_str(name) else {
         return Ok(None);
     };
     match read_time(text) {
         Some(time) => Ok(Some(time)),
-        None => Err(usage_fault(
-            alloc,
-            "--until takes a time such as 10:30 or 10:30:00.000000001, or nanoseconds since midnight",
-        )?),
+        None => Err(usage_fault(alloc, fault)?),
     }
 }
 
-/// The number after an option, if it is given, in decimal digits alone; otherwise the usage fault is this one.
+/// Reads the number after an option, if it is given, in decimal digits only; any other text is this usage fault.
 pub fn read_count<'a>(
     alloc: Global,
     options: &ArgMatches<'a>,

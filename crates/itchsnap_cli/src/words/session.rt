@@ -1,25 +1,25 @@
-//! The two ends of a session, as the command line has them: where a server listens, or is, and the login to it.
+//! The two ends of a session on the command line: the address of the server, and the login to it.
 
 use crate::words::commands::usage_fault;
 use crate::words::request::read_count;
 use crate::words::time::read_digits;
 use clap::{ArgMatches, Error};
 use itch_codec::{Alpha, MOST_MESSAGES, Seq};
-use itchsnap_live::sessions::{current_session, default_session};
+use itch_sessions::sessions::{current_session, default_session};
 use std::alloc::Global;
 use std::fmt::{self, Debug, Formatter};
 use std::net::{IpAddr, Ipv4Addr, SocketAddr};
 
-/// Where a password is.
+/// The source of a password.
 #[derive(Clone, Copy, PartialEq, Eq)]
 pub enum Password<'a> {
-    /// It is this word.
+    /// This argument.
     Word(&'a str),
-    /// It is the first line of the file of this path.
+    /// The first line of the file at this path.
     File(&'a str),
 }
 
-/// The user name of a login, and where its password is.
+/// The user name of a login, and the source of its password.
 ///
 /// `{:?}` leaves the password out.
 #[derive(Clone, Copy, PartialEq, Eq)]
@@ -36,28 +36,28 @@ impl Debug for LoginWords<'_> {
     }
 }
 
-/// Who may log in to a server.
+/// The users that may log in to a server.
 #[derive(Clone, Copy, Debug, PartialEq, Eq)]
 pub enum UserWords<'a> {
     /// One user.
     One(LoginWords<'a>),
-    /// Those whom the file of this path lists.
+    /// The users that the file at this path lists.
     Listed(&'a str),
 }
 
 /// The server of a fetch.
 #[derive(Clone, Copy, Debug, PartialEq, Eq)]
 pub struct Server<'a> {
-    /// Its name or its address.
+    /// The name or the address of the server.
     pub host: &'a str,
     pub port: u16,
-    /// The session that is asked for; blank for the current one.
+    /// The requested session; blank for the current one.
     pub session: Alpha<10>,
-    /// For how many seconds it may be silent, if not for ever.
+    /// The time limit for its silence in seconds, if there is one.
     pub timeout: Option<u64>,
 }
 
-/// The address and the port after `--bind` and `--port`.
+/// Reads the address and the port after `--bind` and `--port`.
 pub fn read_address<'a>(alloc: Global, options: &ArgMatches<'a>) -> Result<SocketAddr, Error> {
     let port = read_port(alloc, options)?;
     let Some(text) = options.get_str("bind") else {
@@ -69,7 +69,7 @@ pub fn read_address<'a>(alloc: Global, options: &ArgMatches<'a>) -> Result<Socke
     }
 }
 
-/// The server after `--host`, `--port`, `--session` and `--timeout`.
+/// Reads the server after `--host`, `--port`, `--session` and `--timeout`.
 pub fn read_server<'a>(alloc: Global, options: &ArgMatches<'a>) -> Result<Server<'a>, Error> {
     Ok(Server {
         host: options.get_str("host").unwrap_or("127.0.0.1"),
@@ -79,7 +79,7 @@ pub fn read_server<'a>(alloc: Global, options: &ArgMatches<'a>) -> Result<Server
     })
 }
 
-/// The number after `--from`, if it is given: that of the first message to fetch.
+/// Reads the number after `--from`, if it is given: that of the first message to fetch.
 pub fn read_from<'a>(alloc: Global, options: &ArgMatches<'a>) -> Result<Option<Seq>, Error> {
     let Some(text) = options.get_str("from") else {
         return Ok(None);
@@ -90,7 +90,7 @@ pub fn read_from<'a>(alloc: Global, options: &ArgMatches<'a>) -> Result<Option<S
     }
 }
 
-/// The login after `--user` and `--pass` or `--pass-file`; `environment` is the password without either.
+/// Reads the login after `--user` and `--pass` or `--pass-file`; `environment` is the password without either.
 pub fn read_login<'a>(
     alloc: Global,
     options: &ArgMatches<'a>,
@@ -119,7 +119,7 @@ pub fn read_login<'a>(
     Ok(LoginWords { user, password })
 }
 
-/// The users after `--users`, or the one after `--user`.
+/// Reads the users after `--users`, or the one after `--user`.
 pub fn read_users<'a>(
     alloc: Global,
     options: &ArgMatches<'a>,
@@ -136,7 +136,7 @@ pub fn read_users<'a>(
     Ok(UserWords::Listed(path))
 }
 
-/// The number after an option, in decimal digits alone.
+/// Reads the number after an option, in decimal digits only.
 pub fn read_number<'a>(alloc: Global, options: &ArgMatches<'a>, name: &str) -> Result<u64, Error> {
     let fault = "a number must have decimal digits only";
     match read_count(alloc, options, name, fault)? {
@@ -152,7 +152,7 @@ fn read_port<'a>(alloc: Global, options: &ArgMatches<'a>) -> Result<u16, Error> 
     }
 }
 
-/// The session after an option, if it is given.
+/// Reads the session after an option, if it is given.
 pub fn read_session<'a>(
     alloc: Global,
     options: &ArgMatches<'a>,
@@ -167,7 +167,7 @@ pub fn read_session<'a>(
     }
 }
 
-/// The session of a day file that is played: its name up to the first dot, or the last ten characters of that; `ITCHSNAP` where these are not
+/// Returns the session of a played day file: its name up to the first dot, or the last ten characters of that; `ITCHSNAP` if these are not
 /// printable.
 pub fn session_of_file(path: &str) -> Alpha<10> {
     let name = match path.rsplit_once('/') {

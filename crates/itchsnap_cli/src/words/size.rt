@@ -3,8 +3,8 @@ ghost use Rattle.std.specs.Prelude.{◌<◌, IfSome};
 
 use crate::words::time::read_digits;
 
-/// The number of bytes that a text spells, which is not 0: decimal digits, such as `1000000`, or so many KiB, MiB or GiB, such as `512K`,
-/// `256M` or `2G`.
+/// Parses a number of bytes, which must not be 0: decimal digits, such as `1000000`, or that many KiB, MiB or GiB, such as `512K`, `256M`
+/// or `2G`.
 pub fn read_size(text: &str) -> Option<u64>
     ensures { IfSome result (λ bytes. 0 < bytes) }
 {
@@ -13,7 +13,7 @@ pub fn read_size(text: &str) -> Option<u64>
     if bytes > 0 { Some(bytes) } else { None }
 }
 
-// The digits before the unit, and the bytes of the unit.
+// Returns the digits before the unit, and the number of bytes in the unit.
 fn unit_of(text: &str) -> (&str, u64) {
     if let Some(digits) = text.strip_suffix('K') {
         (digits, 1 << 10)

@@ -1,4 +1,4 @@
-//! Blocks of messages, in hexadecimal digits, by their names. Fields that a name does not give are 0, or as in the other blocks.
+//! Blocks of messages, in hexadecimal digits, by their names. Fields that a name does not mention are 0, or as in the other blocks.
 
 use std::alloc::Global;
 use std::test::Fail;
@@ -8,7 +8,7 @@ const BLOCKS: [&str; 44] = [
     // System Event O.
     "START 000c53000000000000000000004f",
     "START_STAMPED 000c53000000000000000000014f",
-    // Stock Directory: at locate 1, but for MSFT at 2 and MAX at 65535.
+    // Stock Directory: at locate 1, except MSFT at 2 and MAX at 65535.
     "AAPL 002752000100000000000000004141504c20202020514e000000644e435a20504e4e314e000000004e",
     "AAPL_STAMPED 002752000100000000000000024141504c20202020514e000000644e435a20504e4e314e000000004e",
     "AAPL_LATE 002752000100000000000000094141504c20202020514e000000644e435a20504e4e314e000000004e",
@@ -17,7 +17,7 @@ const BLOCKS: [&str; 44] = [
     "MSFT_AT_1 002752000100000000000000004d53465420202020514e000000644e435a20504e4e314e000000004e",
     "MAX 002752ffff00000000000000004d41582020202020514e000000644e435a20504e4e314e000000004e",
     "AAPL_AT_3 002752000300000000000000004141504c20202020514e000000644e435a20504e4e314e000000004e",
-    // AAPL trades, also with another reserved byte, and Reg SHO 0 for it.
+    // AAPL trades, also with another reserved byte, and its Reg SHO restriction 0.
     "TRADING 001948000100000000000000004141504c20202020542020202020",
     "TRADING_RESERVED_0 001948000100000000000000004141504c20202020540020202020",
     "TRADING_RESERVED_58 001948000100000000000000004141504c20202020545820202020",
@@ -63,7 +63,7 @@ const BLOCKS: [&str; 44] = [
     "POSITION_ABCD 001a4c00010000000000000000414243444141504c202020204e4e41",
 ];
 
-// The digits of the block of this name, or else the word itself, which is digits.
+// Returns the digits of the block with this name, or else the word itself, which is digits.
 fn digits_of(word: &str) -> &str {
     for row in BLOCKS {
         match row.split_once(' ') {
@@ -74,7 +74,7 @@ fn digits_of(word: &str) -> &str {
     word
 }
 
-/// The bytes of the blocks with these names, and of digits among them.
+/// Returns the bytes of the blocks with these names, and of digits among them.
 pub(super) fn file(alloc: Global, words: &str) -> Result<Vec<u8>, Fail> {
     let mut digits = String::new(alloc);
     for word in words.split_whitespace() {

@@ -1,4 +1,4 @@
-//! Commands over files, with files of their own, and what they write of them.
+//! Commands over files, with their own files, and their output.
 use super::blocks::file;
 use itch_commands::book::book;
 use itch_commands::canon::canon;
@@ -9,12 +9,12 @@ use itch_commands::show::show;
 use itch_commands::snap::snap;
 use itch_commands::{
     Book, BookForm, Command, FeedPart, FileKind, Filters, Limit, OrderForm, PairCommand, Selection,
-    ShowForm, ToolFault, perform, perform_pair, read_locates,
+    ShowForm, Start, ToolFault, perform, perform_pair, read_locates,
 };
 use itch_frame::BlockReader;
-use library_tests::doubles::{FuseWriter, PieceReader};
 use std::alloc::Global;
 use std::test::Fail;
+use test_doubles::{FuseWriter, PieceReader};
 
 /// A command over one file.
 #[derive(Clone, Copy)]
@@ -25,8 +25,10 @@ pub(super) enum Single {
     CanonCheck,
     Show,
     ShowChosen,
+    ShowColumns,
     ShowSnapshot,
     ShowOrders,
+    Cut,
     Book,
     BookLocates,
     SnapStocks,
@@ -56,6 +58,11 @@ const AS_CSV: &[u8] = b"locate,stock,side,price,shares,orders\n1,AAPL,B,150.0000
 const CHOSEN_LINES: &[u8] = b"2 F 1 0 00:00:00.000000000 1 B 100 [AAPL] 150.0000 [ABCD]\n\
     4 U 1 0 00:00:00.000000000 1 3 100 150.0000\n";
 
+const COLUMNS: &[u8] =
+    b"number,type,stock_locate,tracking_number,time,ns,original_order_reference_number,\
+    new_order_reference_number,shares,price\n\
+    4,U,1,0,00:00:00.000000000,0,1,3,100,150.0000\n";
+
 const ORDERS_AS_CSV: &[u8] =
     b"number,type,stock_locate,tracking_number,time,ns,order_reference_number,\
     buy_sell_indicator,stock,order_price,shares_before,shares_after,attribution,executed_shares,match_number,\
@@ -68,10 +75,10 @@ const SNAPSHOT_LINES: &[u8] =
     \"shares\":200,\"stock\":\"AAPL\",\"price\":\"150.0000\"}\n\
     {\"number\":4,\"type\":\"G\",\"sequence_number\":5}\n";
 
-/// What a command answers.
+/// The result of a command.
 pub(super) type Answer = Result<bool, ToolFault>;
 
-// Each command without its contract, so that what calls one of them does not carry it.
+// These call each command without its contract, so that their callers do not have to know it.
 fn checked(alloc: Global, reader: PieceReader<'_>, out: &mut FuseWriter) -> Answer {
     check(alloc, reader, out)
 }
@@ -92,7 +99,7 @@ fn booked(alloc: Global, reader: PieceReader<'_>, out: &mut FuseWriter) -> Answe
     book(alloc, 1, reader, out)
 }
 
-// The readers of the files of a command over two.
+// The readers for a command over two files.
 type Files<'a> = (PieceReader<'a>, PieceReader<'a>);
 
 fn compared(alloc: Global, (first, second): Files<'_>, out: &mut FuseWriter) -> Answer {
@@ -107,7 +114,7 @@ fn joined(alloc: Global, (snapshot, feed): Files<'_>, out: &mut FuseWriter) -> A
     join(alloc, snapshot, feed, None, out)
 }
 
-// What a command says, with the list of the locates that are wanted, if it has one.
+// Returns the result of a command, with the list of the requested locates, if it has one.
 fn performed(
     alloc: Global,
     command: Command<'_>,
@@ -133,11 +140,18 @@ fn joined_of_stocks(alloc: Global, (snapshot, feed): Files<'_>, out: &mut FuseWr
     perform_pair::<_, _, _, _, Book<Global>, _>(alloc, command, None, &mut snapshot, &mut feed, out)
 }
 
-// The messages of order 1, of some locates, stocks and types, with names.
+// The first message.
+const FIRST: Start = Start {
+    before: 0,
+    since: None,
+};
+
+// Shows the messages of order 1, of some locates, stocks and types, with names.
 const SHOW_CHOSEN: Command<'static> = Command::Show {
     kind: WHOLE,
     form: ShowForm::Named,
     filters: Filters {
+        start: FIRST,
         only: Some("1-3"),
         stocks: Some("AAPL"),
         types: Some("FU"),
@@ -145,11 +159,25 @@ const SHOW_CHOSEN: Command<'static> = Command::Show {
     },
 };
 
-// The orders of a snapshot without attribution, and its End, as JSON.
+// The replacements of a stock's orders, as comma-separated values.
+const SHOW_COLUMNS: Command<'static> = Command::Show {
+    kind: WHOLE,
+    form: ShowForm::Csv { kind: b'U' },
+    filters: Filters {
+        start: FIRST,
+        only: None,
+        stocks: Some("AAPL"),
+        types: Some("U"),
+        reference: None,
+    },
+};
+
+// Shows the orders of a snapshot without attribution, and its End of Snapshot, as JSON.
 const SHOW_SNAPSHOT: Command<'static> = Command::Show {
     kind: FileKind::Snapshot,
     form: ShowForm::Json,
     filters: Filters {
+        start: FIRST,
         only: None,
         stocks: None,
         types: Some("AG"),
@@ -157,14 +185,27 @@ const SHOW_SNAPSHOT: Command<'static> = Command::Show {
     },
 };
 
-// The orders behind the messages of a stock.
+// Shows the orders of the messages of a stock.
 const SHOW_ORDERS: Command<'static> = Command::ShowOrders {
     limit: WHOLE_DAY,
     form: OrderForm::Csv,
     filters: Filters {
+        start: FIRST,
         only: None,
         stocks: Some("AAPL"),
         types: None,
+        reference: None,
+    },
+};
+
+// Writes the messages of two types unchanged.
+const CUT_TYPES: Command<'static> = Command::Cut {
+    limit: WHOLE_DAY,
+    filters: Filters {
+        start: FIRST,
+        only: None,
+        stocks: None,
+        types: Some("FU"),
         reference: None,
     },
 };
@@ -211,8 +252,10 @@ pub(super) fn perform_single(
         Single::Show => shown(alloc, reader, out),
         Single::Book => booked(alloc, reader, out),
         Single::ShowChosen => performed(alloc, SHOW_CHOSEN, Some("1-3"), reader, out),
+        Single::ShowColumns => performed(alloc, SHOW_COLUMNS, None, reader, out),
         Single::ShowSnapshot => performed(alloc, SHOW_SNAPSHOT, None, reader, out),
         Single::ShowOrders => performed(alloc, SHOW_ORDERS, None, reader, out),
+        Single::Cut => performed(alloc, CUT_TYPES, None, reader, out),
         Single::BookLocates => performed(alloc, BOOK_LOCATES, Some("1"), reader, out),
         Single::SnapStocks => performed(alloc, SNAP_STOCKS, None, reader, out),
         Single::BookStocks => performed(alloc, BOOK_STOCKS, None, reader, out),
@@ -236,17 +279,19 @@ pub(super) fn perform_double(
     }
 }
 
-/// What a command writes of its file, which is the day or, of `canon` and `show --snapshot`, the snapshot.
+/// Returns the output of a command for its file, which is the day or, for `canon` and `show --snapshot`, the snapshot.
 pub(super) fn wanted(alloc: Global, command: Single) -> Result<Vec<u8>, Fail> {
     match command {
         Single::Check => Ok(Vec::from_slice(alloc, b"ok 4 messages\n")?),
         Single::CanonCheck => Ok(Vec::from_slice(alloc, b"canonical\n")?),
         Single::Show => Ok(Vec::from_slice(alloc, LINES)?),
         Single::ShowChosen => Ok(Vec::from_slice(alloc, CHOSEN_LINES)?),
+        Single::ShowColumns => Ok(Vec::from_slice(alloc, COLUMNS)?),
         Single::ShowSnapshot => Ok(Vec::from_slice(alloc, SNAPSHOT_LINES)?),
         Single::ShowOrders => Ok(Vec::from_slice(alloc, ORDERS_AS_CSV)?),
         Single::Book => Ok(Vec::from_slice(alloc, b"1 AAPL\nB 150.0000 300 2\n")?),
         Single::BookLocates | Single::BookStocks => Ok(Vec::from_slice(alloc, AS_CSV)?),
+        Single::Cut => file(alloc, "ATTRIBUTED_1 REPLACE_1_BY_3"),
         Single::Snap | Single::SnapStocks | Single::Canon => file(alloc, SNAPSHOT),
     }
 }

@@ -1,8 +1,8 @@
-//! The example of the page of `itch_commands`, run.
+//! Runs the example of the page of `itch_commands`.
 
 use itch_commands::check::check;
 use itch_frame::Counted;
-use library_tests::doubles::FuseWriter;
+use test_doubles::FuseWriter;
 
 #[test]
 fn a_file_is_checked(rt: HostRuntime) {

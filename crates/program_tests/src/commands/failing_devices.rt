@@ -1,12 +1,12 @@
-//! The write of each byte of each command's output failing: what was written before it is there, and nothing after it. A run of the
-//! program does not show that, since its output is buffered.
+//! The write of each byte of each command's output fails: the bytes before it were written, and nothing after it. A run of the program does
+//! not show that, since its output is buffered.
 use super::blocks::file;
 use super::cases::{Answer, DAY, Double, SNAPSHOT, Single, perform_double, perform_single, wanted};
 use crate::equal::{Host, TestResult, holds_in, same_in};
 use itch_commands::ToolFault;
-use library_tests::doubles::FuseWriter;
 use std::alloc::Global;
 use std::test::Fail;
+use test_doubles::FuseWriter;
 
 // The write of this byte of the output failed.
 fn is_cut(rt: &impl Host, at: usize, answer: Answer, written: &[u8], wanted: &[u8]) {
@@ -33,7 +33,7 @@ fn fail_double(rt: &impl Host, command: Double, files: (&[u8], &[u8]), wanted: &
     }
 }
 
-// The file of a command over one.
+// Returns the file for a command over one.
 fn bytes_of(alloc: Global, command: Single) -> Result<Vec<u8>, Fail> {
     match command {
         Single::Canon | Single::CanonCheck | Single::ShowSnapshot => file(alloc, SNAPSHOT),
@@ -49,6 +49,7 @@ fn writes_of_lines(rt: HostRuntime) -> TestResult {
         Single::CanonCheck,
         Single::Show,
         Single::ShowChosen,
+        Single::ShowColumns,
         Single::ShowSnapshot,
         Single::ShowOrders,
         Single::Book,
@@ -67,9 +68,9 @@ fn writes_of_lines(rt: HostRuntime) -> TestResult {
 }
 
 #[test]
-fn writes_of_snapshots(rt: HostRuntime) -> TestResult {
+fn writes_of_blocks(rt: HostRuntime) -> TestResult {
     let alloc = rt.alloc();
-    for command in [Single::Snap, Single::SnapStocks, Single::Canon] {
+    for command in [Single::Snap, Single::SnapStocks, Single::Canon, Single::Cut] {
         let bytes = bytes_of(alloc, command)?;
         fail_single(&rt, command, bytes.as_slice())?;
     }

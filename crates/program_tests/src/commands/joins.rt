@@ -1,4 +1,4 @@
-//! Feeds joined to snapshots for the set of all locates, which no words ask for, and parts of feeds.
+//! Feeds joined to snapshots for the set of all locates, which no command line requests, and parts of feeds.
 
 use super::blocks::file;
 use crate::equal::{Host, TestResult, holds_in, same_in};
@@ -6,20 +6,20 @@ use itch_commands::join::{join, join_blocks};
 use itch_commands::{Book, FeedPart, Limit, laws};
 use itch_frame::{BlockReader, CountedRead, CountedWrite};
 use itch_market::LocateSet;
-use library_tests::doubles::{FuseWriter, PieceReader};
 use std::alloc::Global;
 use std::test::Fail;
+use test_doubles::{FuseWriter, PieceReader};
 
-// What is joined of a feed.
+// The part of a feed to join.
 #[derive(Clone, Copy)]
 enum Part {
-    // All of it, for all locates.
+    // All of the feed, for all locates.
     Whole,
     // The feed begins with the third message of its day, and is joined up to the fourth.
     Third,
 }
 
-// Whether the feed is joined to the snapshot for all locates, without the contract of that.
+// Returns whether the feed is joined to the snapshot for all locates; without a contract.
 fn is_joined<R: CountedRead + Drop, S: CountedRead + Drop, W: CountedWrite>(
     alloc: Global,
     snapshot: R,
@@ -30,7 +30,7 @@ fn is_joined<R: CountedRead + Drop, S: CountedRead + Drop, W: CountedWrite>(
     matches!(join(alloc, snapshot, feed, Some(all), out), Ok(true))
 }
 
-// The same of a part of a day.
+// Returns the same for a part of a day.
 fn is_joined_in_part<R: CountedRead + Drop, S: CountedRead + Drop, W: CountedWrite>(
     alloc: Global,
     snapshot: R,
@@ -47,7 +47,7 @@ fn is_joined_in_part<R: CountedRead + Drop, S: CountedRead + Drop, W: CountedWri
     Ok(matches!(done, Ok(true)))
 }
 
-// A row is a snapshot, a feed, and the snapshot after both.
+// Checks a row: a snapshot, a feed, and the snapshot after both.
 fn check(rt: &impl Host, part: Part, row: &str) -> TestResult {
     let (files, wanted) = row.split_once(" => ").ok_or("a snapshot after all")?;
     let (snapshot, feed) = files.split_once(" + ").ok_or("two files")?;
@@ -73,7 +73,7 @@ fn the_laws_of_what_is_read_with_a_set() {
     laws::joined_day();
 }
 
-// Nothing is read after End of Snapshot, and what the snapshot contains is not decoded.
+// Nothing is read after End of Snapshot, and messages that the snapshot contains are not decoded.
 #[test]
 fn join_goes_on_after_a_snapshot(rt: HostRuntime) -> TestResult {
     for row in [

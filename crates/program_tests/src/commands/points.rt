@@ -4,11 +4,11 @@ use crate::equal::{TestResult, holds_in, same};
 use itch_commands::snap::{Mark, Pass};
 use itch_commands::{Book, Limit};
 use itch_frame::{BlockReader, Counted, CountedRead};
-use library_tests::doubles::FuseWriter;
 use std::alloc::{Allocator, Global};
 use std::test::Fail;
+use test_doubles::FuseWriter;
 
-// Whether a pass writes these blocks where it stands.
+// Returns whether a pass writes these blocks at its current point.
 fn writes<R: CountedRead, A: Allocator>(
     alloc: Global,
     pass: &Pass<R, A, Book<Global>>,

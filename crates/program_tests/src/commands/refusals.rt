@@ -1,8 +1,9 @@
-//! The line and the status of each fault.
+//! The line and the exit status of each fault.
 
 use crate::equal::{Host, TestResult, same, same_in};
+use itch_checkpoints::Latest;
 use itch_codec::CodecFault;
-use itch_commands::snap::{Latest, Mark};
+use itch_commands::snap::Mark;
 use itch_commands::{
     Expected, FeedPart, Limit, Misfit, Source, ToolFault, Unmet, status, system_fault,
 };
@@ -11,7 +12,7 @@ use itch_market::{Refusal, ReplayEnd, Stop};
 use itch_snapshot::SnapFault;
 use std::io;
 
-// A fault has this status and, after it, this line.
+// A fault has this exit status and, after it, this line.
 fn is_told(rt: &impl Host, fault: &ToolFault, wanted: &str) -> TestResult {
     let told = format!(in rt.alloc(); "{} {fault}", fault.status())?;
     same(rt, told.as_str(), wanted);
@@ -67,7 +68,7 @@ fn every_fault_has_its_line_and_status(rt: HostRuntime) -> TestResult {
     Ok(())
 }
 
-// How a file of so many messages whose last system event is this one differs from what is expected.
+// Returns how a file of that many messages, with this last system event, differs from the expected one.
 fn differs(
     rt: &impl Host,
     (count, end): (Option<u64>, bool),

@@ -6,9 +6,9 @@ use itch_commands::read_locates;
 use itch_commands::snap::snap;
 use itch_frame::{CountedRead, CountedWrite};
 use itch_market::LocateSet;
-use library_tests::doubles::{FuseWriter, PieceReader, Refusing};
 use std::alloc::Global;
 use std::test::Fail;
+use test_doubles::{FuseWriter, PieceReader, Refusing};
 
 // Files, and their snapshots.
 const ROWS: [&str; 16] = [
@@ -30,7 +30,7 @@ const ROWS: [&str; 16] = [
     "MSFT START AAPL UNRESTRICTED TRADING 0000ff => START AAPL TRADING UNRESTRICTED MSFT END_6",
 ];
 
-// Whether the snapshot of this file for these locates is written, without the contract of that.
+// Returns whether the snapshot of this file for these locates is written; without a contract.
 fn is_snapped<R: CountedRead + Drop, W: CountedWrite>(
     alloc: Global,
     only: &LocateSet<Global>,
@@ -75,7 +75,7 @@ fn lists_are_read(rt: HostRuntime) -> TestResult {
     Ok(())
 }
 
-// Each allocation of a list that is read is refused in turn.
+// Each allocation of reading a list is refused in turn.
 #[test]
 fn list_without_memory(rt: HostRuntime) -> TestResult {
     for nth in 0..64 {

@@ -6,11 +6,11 @@ use itch_codec::Seq;
 use itch_commands::{Book, FileKind, Limit, Source, ToolFault, file_market, stock_locates};
 use itch_frame::BlockReader;
 use itch_market::{LocateSet, Market};
-use library_tests::doubles::{PieceReader, Refusing};
 use std::alloc::Allocator;
 use std::test::Fail;
+use test_doubles::{PieceReader, Refusing};
 
-// The locates of the directory of a day file that have one of these stocks.
+// Looks up the locates of the directory of a day file that have one of these stocks.
 fn looked_up<A: Allocator + Copy>(
     alloc: A,
     day: &[u8],

@@ -1,4 +1,4 @@
-//! Clients: what each is sent, beside the others, and when it is cut off.
+//! Clients: the bytes sent to each, next to the others, and when it is cut off.
 use super::messages::{
     AAPL, ADD_1, ADD_2, CLIENT_HEARTBEAT, END_3, EVENT, HEARTBEAT, LOGIN, LOGIN_2, LOGIN_BLANK,
     LOGIN_OTHER, LOGIN_WRONG, LOGOUT, REFUSED_SESSION, REFUSED_USER, SNAPSHOT_2, SNAPSHOT_4,
@@ -8,13 +8,13 @@ use super::steps::{Brought, Standing, Step, UNKNOWN, check, desk_of, take_steps}
 use crate::equal::TestResult;
 use itch_book::IndexedBook;
 use itch_live::{Desk, Gone, laws};
-use library_tests::doubles::FuseWriter;
 use std::alloc::Global;
+use test_doubles::FuseWriter;
 
 type Index = IndexedBook<Global>;
 
-// Two messages of the feed come, and a client; two more come, and another. Each is accepted at once, and sent the snapshot of its
-// moment.
+// Two messages of the feed come, and a client; two more come, and another client. Each is accepted at once, and gets the snapshot of that
+// time.
 const TWO_CLIENTS: &[Step<'static>] = &[
     Step::Begin,
     Step::Feed(EVENT, Brought::Taken(2)),
@@ -94,8 +94,8 @@ fn before_the_market(rt: HostRuntime) -> TestResult {
     check::<Index>(&rt, rt.alloc(), true, EARLY)
 }
 
-// While a login waits, its client is sent a heartbeat a second, and is not cut off while it takes them, also where no moment was told
-// for a long time: the other one takes none. No heartbeat comes between the packets of the answer.
+// While a login waits, its client gets a heartbeat per second, and is not cut off while it takes them, even if no time was passed in for
+// long; the other client takes none. No heartbeat comes between the packets of the answer.
 const WAITING: &[Step<'static>] = &[
     Step::Admit(Some(0)),
     Step::Admit(Some(1)),
@@ -144,7 +144,7 @@ fn heartbeats_while_waiting(rt: HostRuntime) -> TestResult {
     check::<Index>(&rt, rt.alloc(), true, WAITING)
 }
 
-// A login that is refused is told so, whatever follows it, and what is no login cuts off.
+// A login that is rejected gets a rejection, whatever follows it, and a packet that is not a login cuts the client off.
 const REFUSED: &[Step<'static>] = &[
     Step::Admit(Some(0)),
     Step::Hear(0, LOGIN_WRONG),
@@ -194,8 +194,8 @@ fn refused(rt: HostRuntime) -> TestResult {
     check::<Index>(&rt, rt.alloc(), false, REFUSED)
 }
 
-// 15 seconds without a word before the login, without taking the answer, and after the last byte of it: these cut off. Heartbeats do not help one
-// that takes nothing, nor does a byte now and then.
+// Cut off after 15 seconds without a packet before the login, without taking the answer, and after the last byte of it. Heartbeats do not
+// help a client that takes nothing, and neither does a byte now and then.
 const CUT_OFF: &[Step<'static>] = &[
     Step::Admit(Some(0)),
     Step::Admit(Some(1)),
@@ -236,8 +236,8 @@ fn cut_off(rt: HostRuntime) -> TestResult {
 // The snapshot after two system events.
 const SNAPSHOT_3: &[u8] = b"\0\x0dSS\0\0\0\0\0\0\0\0\0\0O\0\x16SG                   3\0\x01Z";
 
-// A snapshot of no message has 27 bytes, and one of a system event 42; 171 might be needed for that. The first is sent whatever is
-// allowed, since none is in use; the others once they fit beside those in use, to the byte; and one that is in use always.
+// A snapshot of no message has 27 bytes, and one of a system event 42, for which 171 might be needed. The first is sent whatever the limit
+// is, since none is in use; the others once they fit next to those in use, to the byte; and one that is in use always.
 const WITHIN: &[Step<'static>] = &[
     Step::Begin,
     Step::Admit(Some(0)),

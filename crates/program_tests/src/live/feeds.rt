@@ -8,12 +8,12 @@ use crate::equal::TestResult;
 use itch_book::IndexedBook;
 use itch_live::Desk;
 use itch_soup::Tick;
-use library_tests::doubles::FuseWriter;
 use std::alloc::Global;
+use test_doubles::FuseWriter;
 
 type Index = IndexedBook<Global>;
 
-// The connection ends in the middle of message 3, which is asked for again, in the session that was named first.
+// The connection ends in the middle of message 3, which is requested again, in the session that was named first.
 const LOST: &[Step<'static>] = &[
     Step::Begin,
     Step::Feed(EVENT, Brought::Taken(2)),
@@ -37,8 +37,8 @@ fn lost_in_a_message(rt: HostRuntime) -> TestResult {
     check::<Index>(&rt, rt.alloc(), false, LOST)
 }
 
-// The next day's server accepts the login in its own name: nothing of that connection is taken, though its numbers would do. The same
-// name padded elsewhere is the same.
+// The next day's server accepts the login in its own name: nothing of that connection is taken, though its numbers would fit. The same name
+// with other padding is the same.
 const NEXT_DAY: &[Step<'static>] = &[
     Step::Begin,
     Step::Feed(EVENT, Brought::Taken(2)),
@@ -68,7 +68,7 @@ fn the_next_day(rt: HostRuntime) -> TestResult {
     check::<Index>(&rt, rt.alloc(), false, NEXT_DAY)
 }
 
-// A feed that begins lower than it was asked to repeats messages, and one that begins higher is not taken.
+// A feed that begins with an earlier message than requested repeats messages, and a feed that begins with a later one is not taken.
 const ELSEWHERE: &[Step<'static>] = &[
     Step::Begin,
     Step::Feed(EVENT, Brought::Taken(2)),
@@ -133,7 +133,7 @@ fn silent(rt: HostRuntime) -> TestResult {
     check::<Index>(&rt, rt.alloc(), false, SILENT)
 }
 
-// A packet of no type, and an order at a locate that the feed has not named: the joiner refuses it for good.
+// A packet of an unknown type, and an order at a locate that the feed has not named: the joiner refuses it permanently.
 const BROKEN: &[Step<'static>] = &[
     Step::Connect(FEED_FROM_1),
     Step::Feed(b"\0\x01Q", Brought::Broken),
@@ -148,7 +148,7 @@ fn broken(rt: HostRuntime) -> TestResult {
     check::<Index>(&rt, rt.alloc(), false, BROKEN)
 }
 
-// The second write fails, that of the payload: the market has the message, and the record its length alone.
+// The second write fails, which is that of the payload: the market has the message, and the record only its length.
 const UNRECORDED: &[Step<'static>] = &[
     Step::Begin,
     Step::Feed(EVENT, Brought::Unrecorded),

@@ -1,7 +1,7 @@
-//! What the tables send: messages of TotalView-ITCH 5.0, and the packets of SoupBinTCP 3.00 with them, as blocks.
+//! The data that the tables send: messages of TotalView-ITCH 5.0, and the packets of SoupBinTCP 3.00 with them, as blocks.
 
-/// The logins of the server: for the feed's messages from 1 on, in any session, in the one named MONDAY, and in that named
-/// SNAPSHOTS; and from 3 on, the last one in any session.
+/// The server's logins: for the feed's messages from 1 on, in any session, in the one named MONDAY, and in that named SNAPSHOTS; and from 3
+/// on, the last one in any session.
 pub(crate) const FEED_FROM_1: &[u8] = b"Luser  secret                                 1";
 
 pub(crate) const MONDAY_FROM_1: &[u8] = b"Luser  secret    MONDAY                       1";
@@ -19,14 +19,14 @@ pub(crate) const ACCEPTED_1: &[u8] = b"\0\x1fA    MONDAY                   1";
 
 pub(crate) const ACCEPTED_3: &[u8] = b"\0\x1fA    MONDAY                   3";
 
-/// Others accept: the next day's feed, and a server of snapshots that has its own name for the session.
+/// Other servers accept: the next day's feed, and a snapshot server that has its own name for the session.
 pub(crate) const TUESDAY_1: &[u8] = b"\0\x1fA   TUESDAY                   1";
 
 pub(crate) const TUESDAY_3: &[u8] = b"\0\x1fA   TUESDAY                   3";
 
 pub(crate) const SNAPSHOTS_1: &[u8] = b"\0\x1fA SNAPSHOTS                   1";
 
-/// The feed rejects: no such session.
+/// The feed rejects the login: no such session.
 pub(crate) const REJECTED: &[u8] = b"\0\x02JS";
 
 pub(crate) const HEARTBEAT: &[u8] = b"\0\x01H";
@@ -52,13 +52,13 @@ pub(crate) const ADD_AT_9: &[u8] =
 /// The End of Snapshot of a GLIMPSE server, with 3.
 pub(crate) const END_3: &[u8] = b"\0\x16SG                   3";
 
-/// The same as in a day file.
+/// The messages as in a day file.
 pub(crate) const DAY: &[u8] = b"\0\x0cS\0\0\0\0\0\0\0\0\0\0O\
     \0\x27R\0\x01\0\0\0\0\0\0\0\0AAPL    QN\0\0\0dNCZ PNN1N\0\0\0\0N\
     \0\x24A\0\x01\0\0\0\0\0\0\0\0\0\0\0\0\0\0\0\x01B\0\0\0dAAPL    \0\x16\xe3\x60\
     \0\x24A\0\x01\0\0\0\0\0\0\0\0\0\0\0\0\0\0\0\x02B\0\0\0\xc8AAPL    \0\x16\xe3\x60";
 
-/// The third message on.
+/// The messages from the third one on.
 pub(crate) const DAY_FROM_3: &[u8] =
     b"\0\x24A\0\x01\0\0\0\0\0\0\0\0\0\0\0\0\0\0\0\x01B\0\0\0dAAPL    \0\x16\xe3\x60\
     \0\x24A\0\x01\0\0\0\0\0\0\0\0\0\0\0\0\0\0\0\x02B\0\0\0\xc8AAPL    \0\x16\xe3\x60";

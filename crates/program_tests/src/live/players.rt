@@ -1,44 +1,44 @@
-//! A client of a played feed: what it is sent, byte by byte, and when it is cut off.
+//! A client of a played feed: the bytes sent to it, and when it is cut off.
 use super::messages::{CLIENT_HEARTBEAT, LOGIN, LOGIN_2, LOGIN_OTHER, LOGIN_WRONG, LOGOUT};
 use super::steps::{Standing, config, how_it_stands};
 use crate::equal::{Host, TestResult, holds_in, same_in};
 use itch_live::{Gone, Player, laws};
-use library_tests::doubles::Refusing;
 use std::alloc::{Allocator, Global};
+use test_doubles::Refusing;
 
-/// What is done, and what has to come of it.
+/// An action, or an expected result.
 #[derive(Clone, Copy)]
 enum Turn<'a> {
-    /// At this moment from here on.
+    /// Sets the time.
     At(u64),
-    /// The client says this, in pieces of seven bytes, of which all is taken.
+    /// The client sends this, in pieces of seven bytes, and all of it is taken.
     Hear(&'a [u8]),
-    /// Message of this number is wanted, or none.
+    /// The message with this number is wanted, or none.
     Wanted(Option<u64>),
-    /// The message that is wanted is handed in: this one, or one of so many bytes.
+    /// Passes in the wanted message: this one, or one of that many bytes.
     Play(&'a [u8]),
     PlayLong(usize),
     End,
     Tick,
-    /// The same at this moment, which is that from here on.
+    /// The same after setting the time.
     TickAt(u64),
     /// Exactly this is pending.
     Pending(&'a [u8]),
-    /// So many bytes are pending.
+    /// This many bytes are pending.
     Waits(usize),
-    /// The socket takes so many bytes.
+    /// The socket takes that many bytes.
     Take(usize),
     Stands(Standing),
     /// Its login was rejected with this code, or with none.
     Rejected(Option<u8>),
-    /// It is played to from this number on, or is not.
+    /// It is played to from this number on, or not at all.
     From(Option<u64>),
     Leave,
 }
 
 static LONG: [u8; 65_534] = [b'x'; 65_534];
 
-// The client says this. Returns how many bytes were taken.
+// The client sends this. Returns how many bytes were taken.
 fn hear<A: Allocator>(player: &mut Player<A>, bytes: &[u8], now: u64) -> usize {
     let mut from = 0usize;
     for _call in 0..bytes.len() {
@@ -50,7 +50,7 @@ fn hear<A: Allocator>(player: &mut Player<A>, bytes: &[u8], now: u64) -> usize {
     from
 }
 
-// Hands in the message that is wanted, if there is one and this fits a packet.
+// Passes in the wanted message, if there is one and this fits a packet.
 fn play<A: Allocator>(player: &mut Player<A>, message: &[u8], now: u64) -> bool {
     let fits = player.wanted().is_some() && message.len() < 65_535;
     if fits {
@@ -106,7 +106,7 @@ fn take_turns<A: Allocator>(rt: &impl Host, player: &mut Player<A>, turns: &[Tur
     }
 }
 
-// A client of a feed of three messages, taken through these turns.
+// Takes a client of a feed of three messages through these turns.
 fn check<A: Allocator + Copy>(rt: &impl Host, memory: A, turns: &[Turn<'_>]) -> TestResult {
     let mut player = Player::new(memory, config(rt), 3, 0)?;
     take_turns(rt, &mut player, turns);
@@ -167,7 +167,7 @@ const LOGIN_4: &[u8] = b"\0\x2fLuser  secret                                 4";
 
 const LOGIN_5: &[u8] = b"\0\x2fLuser  secret                                 5";
 
-// From the third message on, and from the one after the last, where the feed goes on without an end.
+// From the third message on, and from the one after the last, with a feed that has no end.
 const FROM_3: &[Turn<'static>] = &[
     Turn::Hear(LOGIN_3),
     Turn::Take(33),
@@ -248,7 +248,7 @@ fn refused(rt: HostRuntime) -> TestResult {
     check(&rt, rt.alloc(), NONSENSE)
 }
 
-// 15 seconds without a word before the login; then with neither a word nor a byte taken. Each is a sign of life.
+// 15 seconds without a packet before the login; then with neither a packet nor a byte taken. Each of these is a sign of life.
 const SILENT: &[Turn<'static>] = &[
     Turn::TickAt(14_999),
     Turn::Hear(LOGIN_2),
@@ -318,7 +318,7 @@ fn played_in_order() {
     laws::played_in_order();
 }
 
-// A client with each of its allocations refused in turn; with memory it takes none later.
+// Refuses each allocation of a client in turn; with memory it allocates nothing later.
 fn refuse<A: Allocator + Copy>(rt: &impl Host, memory: A, refusing: &Refusing<Global>) -> u64 {
     for nth in 0..16 {
         refusing.arm(nth);

@@ -1,15 +1,15 @@
-//! Each allocation refused in turn: what was there before is there still, and the same call succeeds with memory.
+//! Each allocation refused in turn: the state is unchanged, and the same call succeeds with memory.
 use super::messages::{AAPL, ADD_1, EVENT, LOGIN, SNAPSHOT_2, WELCOME};
 use super::steps::{Brought, Standing, Step, config, desk, take_steps};
 use crate::equal::{Host, TestResult, holds_in, same_in};
 use itch_book::{IndexedBook, OrderBook};
 use itch_live::Desk;
-use library_tests::doubles::{FuseWriter, Refusing};
 use std::alloc::Global;
+use test_doubles::{FuseWriter, Refusing};
 
 type Index<'a> = IndexedBook<&'a Refusing<Global>>;
 
-// More allocations than a test makes: none is refused.
+// More allocations than any test makes: none is refused.
 const NONE: u64 = 1_000_000;
 
 const TWO_MESSAGES: &[Step<'static>] = &[
@@ -18,7 +18,7 @@ const TWO_MESSAGES: &[Step<'static>] = &[
     Step::Feed(AAPL, Brought::Taken(3)),
 ];
 
-// A desk with each of its allocations refused in turn. Returns how many were refused.
+// Creates a desk with each of its allocations refused in turn. Returns how many were refused.
 fn refuse_desk<B: OrderBook>(rt: &impl Host, memory: B::Alloc, refusing: &Refusing<Global>) -> u64 {
     for nth in 0..16 {
         refusing.arm(nth);
@@ -31,7 +31,7 @@ fn refuse_desk<B: OrderBook>(rt: &impl Host, memory: B::Alloc, refusing: &Refusi
     panic!(rt; "more than 16 allocations")
 }
 
-// A client is admitted so.
+// Admits a client in the same way.
 fn refuse_client<B: OrderBook>(
     rt: &impl Host,
     refusing: &Refusing<Global>,
@@ -49,7 +49,7 @@ fn refuse_client<B: OrderBook>(
     panic!(rt; "more than 16 allocations")
 }
 
-// It is answered so.
+// Answers it in the same way.
 fn refuse_answer<B: OrderBook>(
     rt: &impl Host,
     refusing: &Refusing<Global>,
@@ -104,7 +104,7 @@ fn a_desk_and_its_clients(rt: HostRuntime) -> TestResult {
     check_clients::<Index<'_>>(&rt, &refusing, &refusing)
 }
 
-// A message for which memory is refused is asked for again.
+// A message for which memory is refused is requested again.
 const REFUSED_AT_3: &[Step<'static>] = &[
     Step::Feed(ADD_1, Brought::NoMemory),
     Step::Next(Some(3)),

@@ -1,4 +1,4 @@
-//! The session of the feed: known beforehand, or named first by the feed or by a server of snapshots, and kept.
+//! The session of the feed: known beforehand, or first named by the feed or by a snapshot server, and kept.
 use super::messages::{
     AAPL, ACCEPTED_1, ACCEPTED_3, ADD_1, ADD_2, DAY, END_3, EVENT, FEED_FROM_1, FEED_FROM_3,
     FEED_FROM_3_BLANK, MONDAY_FROM_1, SNAPSHOTS_1, SNAPSHOTS_FROM_1, TUESDAY_1, TUESDAY_3,
@@ -9,8 +9,8 @@ use super::steps::{
 use crate::equal::{Host, TestResult, same_in};
 use itch_book::{IndexedBook, OrderBook};
 use itch_live::{Desk, Follower};
-use library_tests::doubles::FuseWriter;
 use std::alloc::Global;
+use test_doubles::FuseWriter;
 
 type Index = IndexedBook<Global>;
 
@@ -29,7 +29,7 @@ fn check<B: OrderBook>(
     take_steps(rt, &mut desk, &mut record, steps)
 }
 
-// The first login is for the session that is known, and what accepts it in another name is not taken.
+// The first login is for the known session, and nothing is taken from a server that accepts it in another name.
 const BEFOREHAND: &[Step<'static>] = &[
     Step::Session(Some(b"MONDAY    ")),
     Step::Connect(MONDAY_FROM_1),
@@ -51,7 +51,7 @@ fn known_beforehand(rt: HostRuntime) -> TestResult {
     check::<Index>(&rt, rt.alloc(), (Some("MONDAY"), None), false, BEFOREHAND)
 }
 
-// The session that a server of snapshots names first is the feed's: a feed of another day is not joined to the snapshot.
+// The session that a snapshot server names first is the feed's: a feed of another day is not joined to the snapshot.
 const NAMED: &[Step<'static>] = &[
     Step::Session(None),
     Step::Begin,
@@ -71,7 +71,7 @@ fn named_by_the_snapshot(rt: HostRuntime) -> TestResult {
     check::<Index>(&rt, rt.alloc(), (None, None), true, NAMED)
 }
 
-// A snapshot of another day than the one that is known is not taken.
+// A snapshot of another day than the known one is not taken.
 const ANOTHER_DAY: &[Step<'static>] = &[
     Step::Connect(MONDAY_FROM_1),
     Step::Feed(TUESDAY_1, TUESDAY),
@@ -88,7 +88,7 @@ fn a_snapshot_of_another_day(rt: HostRuntime) -> TestResult {
     check::<Index>(&rt, rt.alloc(), (Some("MONDAY"), None), true, ANOTHER_DAY)
 }
 
-// A server of snapshots with its own name for the session has to accept in that, and says nothing of the feed's.
+// A snapshot server with its own name for the session must accept in that name, which does not name the feed's session.
 const TWO_NAMES: &[Step<'static>] = &[
     Step::Connect(SNAPSHOTS_FROM_1),
     Step::Feed(ACCEPTED_1, Brought::OtherSession(*b"    MONDAY")),
@@ -134,7 +134,7 @@ fn check_connected<B: OrderBook>(rt: &impl Host, memory: B::Alloc) -> TestResult
     take_steps(rt, &mut desk, &mut record, GONE_ON)
 }
 
-// A desk whose follower is connected already goes on with that connection.
+// A desk whose follower is already connected continues with that connection.
 #[test]
 fn connected_before(rt: HostRuntime) -> TestResult {
     check_connected::<Index>(&rt, rt.alloc())

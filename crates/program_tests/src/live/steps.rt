@@ -1,4 +1,4 @@
-//! A desk that is taken through steps, each at its moment.
+//! Takes a desk through steps, each at its time.
 use super::messages::{ACCEPTED_1, ACCEPTED_3, FEED_FROM_1, FEED_FROM_3, LOGIN, WELCOME};
 use crate::equal::{Host, TestResult, holds_in, same_in};
 use itch_book::OrderBook;
@@ -6,52 +6,52 @@ use itch_codec::Alpha;
 use itch_join::{JoinFault, Joiner};
 use itch_live::{Desk, Follower, Gone, News, Sessions};
 use itch_soup::{Credentials, ServerConfig, Tick};
-use library_tests::doubles::FuseWriter;
 use std::alloc::AllocError;
 use std::test::Fail;
+use test_doubles::FuseWriter;
 
-/// What is done, and what has to come of it.
+/// An action, or an expected result.
 #[derive(Clone, Copy)]
 pub(crate) enum Step<'a> {
-    /// At this moment from here on.
+    /// Sets the time.
     At(u64),
     /// A connection to the feed begins with this login.
     Connect(&'a [u8]),
-    /// A connection to the feed begins with the first message, and is accepted so.
+    /// A connection to the feed begins with the first message, and is accepted from there.
     Begin,
     /// The same with the third message.
     GoOn,
     /// The feed sends this, in one piece and in pieces of one byte, and the last news is this one.
     Feed(&'a [u8], Brought),
-    /// What is due to the feed.
+    /// The action due towards the feed.
     FeedTick(Tick),
-    /// The same at this moment, which is that from here on.
+    /// The same after setting the time.
     FeedTickAt(u64, Tick),
     /// The number of the next message.
     Next(Option<u64>),
     /// The feed's session, as a server writes it.
     Session(Option<&'a [u8]>),
-    /// A client comes, and is given this place.
+    /// A client connects, and gets this place.
     Admit(Option<usize>),
-    /// A client says this, of which all is taken.
+    /// A client sends this, and all of it is taken.
     Hear(usize, &'a [u8]),
     /// A client logs in for all messages, and takes the answer to that.
     Login(usize),
-    /// Those who wait are answered.
+    /// All waiting clients are answered.
     Answer,
-    /// They are answered where all snapshots may have so many bytes.
+    /// They are answered, with that many bytes as the limit of all snapshots.
     AnswerWithin(u64),
-    /// The snapshots that are kept have so many bytes.
+    /// The kept snapshots have that many bytes.
     Kept(u64),
     /// Exactly this is pending for a client.
     Pending(usize, &'a [u8]),
-    /// The socket of a client takes so many bytes.
+    /// The socket of a client takes that many bytes.
     Take(usize, usize),
-    /// The clients are told the moment.
+    /// The clients get the time.
     Tick,
-    /// The same at this moment, which is that from here on.
+    /// The same after setting the time.
     TickAt(u64),
-    /// A client is there, is closing, or is gone.
+    /// A client is in this state.
     Stands(usize, Standing),
     /// The login of a client was accepted, or was not.
     Accepted(usize, bool),
@@ -63,7 +63,7 @@ pub(crate) enum Step<'a> {
     Recorded(&'a [u8]),
 }
 
-/// What the feed has brought.
+/// The news from the feed.
 #[derive(Clone, Copy, Debug, PartialEq, Eq)]
 pub(crate) enum Brought {
     Nothing,
@@ -88,7 +88,7 @@ pub(crate) enum Standing {
     Gone(Gone),
 }
 
-/// What news is.
+/// Returns the kind of a piece of news.
 pub(crate) fn what_came(news: &News) -> Brought {
     match news {
         News::Nothing => Brought::Nothing,
@@ -132,7 +132,7 @@ pub(crate) const UNKNOWN: Sessions = Sessions {
     glimpse: None,
 };
 
-/// These sessions are known beforehand.
+/// Returns these sessions, known beforehand.
 pub(crate) fn known(rt: &impl Host, feed: Option<&str>, glimpse: Option<&str>) -> Sessions {
     Sessions {
         feed: feed.map(|name| alpha(rt, name)),
@@ -140,7 +140,7 @@ pub(crate) fn known(rt: &impl Host, feed: Option<&str>, glimpse: Option<&str>) -
     }
 }
 
-/// A desk with two places, whose market is that of no messages, or none yet where it begins with a GLIMPSE server.
+/// Creates a desk with two places, whose market is that of no messages, or which has none yet if it begins with a GLIMPSE server.
 pub(crate) fn desk<B: OrderBook>(
     rt: &impl Host,
     memory: B::Alloc,
@@ -149,7 +149,7 @@ pub(crate) fn desk<B: OrderBook>(
     desk_of(rt, memory, UNKNOWN, glimpse, 2)
 }
 
-/// The same with so many places, and with these sessions.
+/// Creates a desk with that many places, and with these sessions.
 pub(crate) fn desk_of<B: OrderBook>(
     rt: &impl Host,
     memory: B::Alloc,
@@ -161,7 +161,7 @@ pub(crate) fn desk_of<B: OrderBook>(
     Desk::new(memory, follower, places)
 }
 
-/// What follows a feed with these sessions, whose market is that of no messages, or none yet.
+/// Creates a follower of a feed with these sessions, whose market is that of no messages, or which has none yet.
 pub(crate) fn follower_of<B: OrderBook>(
     rt: &impl Host,
     memory: B::Alloc,
@@ -176,7 +176,7 @@ pub(crate) fn follower_of<B: OrderBook>(
     Follower::new(memory, credentials(rt), sessions, joiner, 0)
 }
 
-/// How a client stands that has its place.
+/// Returns the state of a client that has its place.
 pub(crate) fn how_it_stands(is_gone: bool, why: Option<Gone>, is_closing: bool) -> Standing {
     match why {
         Some(reason) if is_gone => Standing::Gone(reason),
@@ -196,7 +196,7 @@ fn is_accepted_at<B: OrderBook>(desk: &Desk<B>, place: usize) -> bool {
     desk.guest(place).is_some_and(|guest| guest.is_accepted())
 }
 
-// Whether the feed's session is this one.
+// Returns whether the feed's session is this one.
 fn is_session<B: OrderBook>(desk: &Desk<B>, want: Option<&[u8]>) -> bool {
     match (desk.follower().session(), want) {
         (Some(session), Some(want)) => &session.bytes()[..] == want,
@@ -209,7 +209,7 @@ fn rejection_at<B: OrderBook>(desk: &Desk<B>, place: usize) -> Option<u8> {
     desk.guest(place)?.rejection_code()
 }
 
-/// The feed sends this in pieces of so many bytes. Returns the last news.
+/// The feed sends this in pieces of that many bytes. Returns the last news.
 pub(crate) fn feed<B: OrderBook>(
     follower: &mut Follower<B>,
     bytes: &[u8],
@@ -230,7 +230,7 @@ pub(crate) fn feed<B: OrderBook>(
     last
 }
 
-// A client says this. Returns how many bytes were taken.
+// A client sends this. Returns how many bytes were taken.
 fn hear<B: OrderBook>(desk: &mut Desk<B>, place: usize, bytes: &[u8], now: u64) -> usize {
     let mut from = 0usize;
     for _call in 0..bytes.len() {
@@ -267,7 +267,7 @@ fn begin<B: OrderBook>(
     same_in(rt, at, news, Brought::Accepted(next));
 }
 
-/// Takes a step of a desk at this moment. Returns the moment from then on.
+/// Takes a step of a desk at this time. Returns the time afterwards.
 pub(crate) fn take_step<B: OrderBook>(
     rt: &impl Host,
     desk: &mut Desk<B>,
@@ -306,7 +306,7 @@ pub(crate) fn take_step<B: OrderBook>(
     Ok(now)
 }
 
-// The same of a step of the clients.
+// Takes a step of the clients.
 fn take_client_step<B: OrderBook>(
     rt: &impl Host,
     desk: &mut Desk<B>,
@@ -335,7 +335,7 @@ fn take_client_step<B: OrderBook>(
     Ok(())
 }
 
-/// Takes a desk through these steps, from moment 0 on.
+/// Takes a desk through these steps, from time 0 on.
 pub(crate) fn take_steps<B: OrderBook>(
     rt: &impl Host,
     desk: &mut Desk<B>,
@@ -349,7 +349,7 @@ pub(crate) fn take_steps<B: OrderBook>(
     Ok(())
 }
 
-/// A desk of its own for these steps.
+/// Takes a new desk through these steps.
 pub(crate) fn check<B: OrderBook>(
     rt: &impl Host,
     memory: B::Alloc,

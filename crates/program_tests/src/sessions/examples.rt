@@ -1,9 +1,9 @@
-//! The examples of the crates' pages, run.
+//! Runs the examples of the crates' pages.
 
 use crate::equal::TestResult;
 use itch_codec::Alpha;
+use itch_sessions::sessions::{Login, default_session};
 use itchsnap_cli::input::Tally;
-use itchsnap_live::sessions::{Login, default_session};
 
 #[test]
 fn whole_messages_are_counted(rt: HostRuntime) -> TestResult {

@@ -1,18 +1,18 @@
-//! The write of each byte of a fetched snapshot failing, with no buffer before it, and the flush of an answer.
+//! The write of each byte of a fetched snapshot fails, with no buffer before it, and so does the flush of an answer.
 use crate::equal::{Host, TestResult, same, same_in};
 use itch_book::OrderBook;
 use itch_codec::{Alpha, Seq};
 use itch_commands::Book;
 use itch_frame::{BlockReader, CountedRead};
 use itch_market::Market;
+use itch_sessions::SessionFault;
+use itch_sessions::sessions::{Login, Sending, default_session, fetch, fetch_rest, serve_peer};
 use itch_snapshot::snapshot_len;
 use itch_soup::Credentials;
-use itchsnap_live::SessionFault;
-use itchsnap_live::sessions::{Login, Sending, default_session, fetch, fetch_rest, serve_peer};
-use library_tests::doubles::{FuseWriter, PieceReader};
 use std::alloc::{Allocator, Global};
 use std::io::{self, Write};
 use std::test::Fail;
+use test_doubles::{FuseWriter, PieceReader};
 
 const LOGIN: &[u8] = b"\0\x2fLuser  secret                                 1";
 
@@ -30,7 +30,7 @@ const SNAPSHOT: &[u8] = b"\0\x0cS\0\0\0\0\0\0\0\0\0\0O\
     \0\x24A\0\x01\0\0\0\0\0\0\0\0\0\0\0\0\0\0\0\x02B\0\0\0\xc8AAPL    \0\x16\xe3\x60\
     \0\x15G                   5";
 
-// What is answered to a login for the fourth message on, and its blocks.
+// The answer to a login for the fourth message on, and its blocks.
 const ANSWER_4: &[u8] = b"\0\x1fA  ITCHSNAP                   4\
     \0\x25SA\0\x01\0\0\0\0\0\0\0\0\0\0\0\0\0\0\0\x02B\0\0\0\xc8AAPL    \0\x16\xe3\x60\
     \0\x16SG                   5\0\x01Z";
@@ -53,7 +53,7 @@ fn credentials(rt: &impl Host) -> Credentials {
     login(rt).credentials(any)
 }
 
-// The status that a program ends with.
+// Returns the exit status of a program.
 fn status(answer: &Result<bool, SessionFault>) -> u8 {
     match answer {
         Ok(true) => 0,
@@ -62,7 +62,7 @@ fn status(answer: &Result<bool, SessionFault>) -> u8 {
     }
 }
 
-// The status of a fetch of the whole answer, which is written up to a write that fails.
+// Returns the exit status of a fetch of the complete answer, which is written up to a write that fails.
 fn fetch_whole(
     rt: &impl Host,
     credentials: &Credentials,
@@ -115,7 +115,7 @@ fn writes_of_a_rest(rt: HostRuntime) -> TestResult {
     Ok(())
 }
 
-// Takes all, and fails to hand it on.
+// Takes all bytes, and fails to flush them.
 #[derive(Drop)]
 struct Stuck;
 
@@ -129,7 +129,7 @@ impl Write for Stuck {
     }
 }
 
-// Serves a market of nothing, and returns whether that is a fault. It is kept over any book, so that what owns the market is proved once.
+// Serves an empty market, and returns whether that is a fault. It takes any book, so that code that owns the market is proved once.
 fn is_fault<R: CountedRead, A: Allocator, B: OrderBook, W: Write>(
     rt: &impl Host,
     alloc: B::Alloc,

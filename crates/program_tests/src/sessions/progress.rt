@@ -1,4 +1,4 @@
-//! What passes through a reader that is watched.
+//! The bytes that pass through a reader with progress reports.
 
 use crate::equal::{TestResult, same, same_in};
 use itchsnap_cli::input::{Amount, Progress, Tally, Watched};

@@ -1,4 +1,4 @@
-//! What the words of `live`, `follow` and `feed` ask for.
+//! The parsing of `live`, `follow` and `feed`.
 
 use super::{ask_for, asked, columns, words};
 use crate::equal::{TestResult, holds_in, same_in};
@@ -10,30 +10,30 @@ const FEED: &str =
 
 const LOGIN: &str = "LoginWords { user: \"user\", .. }";
 
-// More words of a live server, where it begins, and what it keeps.
+// More options of a live server, where it begins, and what it keeps.
 const LIVE: [(&str, &str, &str); 4] = [
     (
         "",
         "glimpse: None, address: 127.0.0.1:0",
-        "session: None, glimpse_session: None, clients: 64, clients_per_address: None, snapshot_memory: None, record: None, snapshots: None, stay: false",
+        "session: None, glimpse_session: None, clients: 64, clients_per_address: None, snapshot_memory: None, record: None, snapshots: None, stay: false, ready: First, status: None, log: Plain",
     ),
     (
         "--record day.itch --stay --clients 007 --clients-per-address 2",
         "glimpse: None, address: 127.0.0.1:0",
         "session: None, glimpse_session: None, clients: 7, clients_per_address: Some(2), snapshot_memory: None, \
-             record: Some(RecordWords { path: \"day.itch\", sync: EverySecond, is_optional: false }), snapshots: None, stay: true",
+             record: Some(RecordWords { place: File(\"day.itch\"), sync: EverySecond, is_optional: false }), snapshots: None, stay: true, ready: First, status: None, log: Plain",
     ),
     (
         "--record r --sync message --record-optional",
         "glimpse: None, address: 127.0.0.1:0",
         "session: None, glimpse_session: None, clients: 64, clients_per_address: None, snapshot_memory: None, \
-             record: Some(RecordWords { path: \"r\", sync: EveryMessage, is_optional: true }), snapshots: None, stay: false",
+             record: Some(RecordWords { place: File(\"r\"), sync: EveryMessage, is_optional: true }), snapshots: None, stay: false, ready: First, status: None, log: Plain",
     ),
     (
         "--bind ::1 --glimpse [::1]:65535 --snapshots s --every 1000",
         "glimpse: Some(Place { words: \"[::1]:65535\", host: \"::1\", port: 65535 }), address: [::1]:0",
         "session: None, glimpse_session: None, clients: 64, clients_per_address: None, snapshot_memory: None, record: None, \
-             snapshots: Some(SnapshotWords { folder: \"s\", every: 1000 }), stay: false",
+             snapshots: Some(SnapshotWords { folder: \"s\", every: 1000, keep: None }), stay: false, ready: First, status: None, log: Plain",
     ),
 ];
 
@@ -51,15 +51,23 @@ fn words_of_a_live_server_are_read(rt: HostRuntime) -> TestResult {
     Ok(())
 }
 
-// More words of a live server, and a part of what they ask for.
-const PARTS: [&str; 8] = [
+// More options of a live server, and a part of the resulting request.
+const PARTS: [&str; 16] = [
     "--feed g:2 => others: [Some(Place { words: \"g:2\", host: \"g\", port: 2 }), None, None, None, None, None, None] }",
     "--feed b:2 --feed c:3 --feed d:4 --feed e:5 --feed f:6 --feed g:7 --feed [::1]:8 => Some(Place { words: \"[::1]:8\", host: \"::1\", port: 8 })] }",
+    "--records days => record: Some(RecordWords { place: Folder(\"days\"), sync: EverySecond, is_optional: false })",
+    "--snapshots s --every 5 --keep 3 => snapshots: Some(SnapshotWords { folder: \"s\", every: 5, keep: Some(3) })",
+    "--ready first => ready: First,",
+    "--ready caught-up => ready: CaughtUp,",
     "--snapshot-memory 1 => snapshot_memory: Some(1),",
     "--snapshot-memory 1000000 => snapshot_memory: Some(1000000),",
     "--snapshot-memory 512K => snapshot_memory: Some(524288),",
     "--snapshot-memory 256M => snapshot_memory: Some(268435456),",
     "--snapshot-memory 2G => snapshot_memory: Some(2147483648),",
+    "--status 9100 => status: Some(Place { words: \"9100\", host: \"127.0.0.1\", port: 9100 })",
+    "--status [::1]:0 => status: Some(Place { words: \"[::1]:0\", host: \"::1\", port: 0 })",
+    "--log text => log: Text",
+    "--log json => log: Json",
     "--snapshot-memory 17179869183G => snapshot_memory: Some(18446744072635809792),",
 ];
 

@@ -1,4 +1,4 @@
-//! What the words of `serve` and `fetch` ask for.
+//! The parsing of `serve` and `fetch`.
 
 use super::{ask_for, asked, columns, words};
 use crate::equal::{TestResult, holds_in, same_in};
@@ -7,7 +7,7 @@ use itchsnap_cli::words::{Job, Password, read_job};
 use std::alloc::Global;
 use std::test::Fail;
 
-// The words of `serve` but for some, the file and the kind of file that they name, and where it listens.
+// The arguments of `serve` except some, the file and its kind, and the address on which it listens.
 const SERVERS: [&str; 5] = [
     "day.itch --port 65535 => file: Some(\"day.itch\"), kind: Day(Limit { after: None, until: None }), address: 127.0.0.1:65535",
     "day.itch --port 00 => file: Some(\"day.itch\"), kind: Day(Limit { after: None, until: None }), address: 127.0.0.1:0",
@@ -32,7 +32,7 @@ fn words_of_a_server_are_read(rt: HostRuntime) -> TestResult {
     Ok(())
 }
 
-// The server of a fetch with these words: its host, its port, its session and its time limit.
+// Returns the server of a fetch with these arguments: its host, its port, its session and its time limit.
 fn server(
     alloc: Global,
     line: &str,
@@ -80,7 +80,7 @@ fn words_of_a_client_are_read(rt: HostRuntime) -> TestResult {
     Ok(())
 }
 
-// The number of the first message that a fetch with these words asks for, if they have one, or none if they are no fetch.
+// Returns the number of the first message that a fetch with these arguments requests, if they have one; `None` if they are not a fetch.
 fn first_asked(alloc: Global, line: &str) -> Result<Option<Option<u64>>, Fail> {
     let line = format!(in alloc; "fetch --port 1 --user user --pass secret {line}")?;
     let words = words(alloc, line.as_str())?;

@@ -17,3 +17,6 @@ returns-in-ShowOrders g c = rw c.in-ShowOrders.is c.orders_blocks.ensures
 
 pub returns-in-Info : goal.returns-in-Info
 returns-in-Info g c = rw c.in-Info.is c.info_blocks.ensures
+
+pub returns-in-Cut : goal.returns-in-Cut
+returns-in-Cut g c = rw c.in-Cut.is c.cut_blocks.ensures

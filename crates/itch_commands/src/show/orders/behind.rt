@@ -6,19 +6,19 @@ use itch_book::{Order, OrderBook};
 use itch_codec::{Alpha, Message};
 use itch_market::Market;
 
-/// A live order that a message refers to, as it was before the message.
+/// A live order to which a message refers, as it was before the message.
 #[derive(Clone, Copy, Debug, PartialEq, Eq)]
 pub struct Behind {
     pub order: Order,
     /// The stock of its locate, which the directory always has.
     pub stock: Option<Alpha<8>>,
-    /// The shares that the message leaves of it.
+    /// The shares that are left of it after the message.
     pub left: u32,
 }
 
 impl Behind {
-    /// The order behind a message in the market before it: of an execution or a cancel the order that loses shares, of a delete the
-    /// one that ends, and of a replace the original one.
+    /// Returns the order behind a message in the market before it: for an execution or a cancel the order that loses shares, for a delete
+    /// the one that ends, and for a replace the original one.
     pub fn of<B: OrderBook>(market: &Market<B>, message: &Message<'_>) -> Option<Behind>
         ensures { result ≡ behind market.now message.now }
     {
@@ -35,7 +35,7 @@ impl Behind {
     }
 }
 
-// The order of a reference, of which these shares are taken; without a number it ends.
+// Returns the order of a reference, from which these shares are taken; without a number the order ends.
 fn order_behind<B: OrderBook>(
     market: &Market<B>,
     reference: u64,
@@ -51,7 +51,7 @@ fn order_behind<B: OrderBook>(
     })
 }
 
-// The stock of a locate, if the directory has one.
+// Returns the stock of a locate, if the directory has one.
 fn stock_at<B: OrderBook>(market: &Market<B>, locate: u16) -> Option<Alpha<8>>
     ensures { result ≡ stock_at market.now locate }
 {
@@ -61,7 +61,7 @@ fn stock_at<B: OrderBook>(market: &Market<B>, locate: u16) -> Option<Alpha<8>>
     }
 }
 
-// The shares that are left of an order of which these are taken, or which ends.
+// Returns the remaining shares of an order from which these are taken, or which ends.
 fn left_of(taken: Option<u32>, shares: u32) -> u32
     ensures { result ≡ left_of taken shares }
 {

@@ -11,7 +11,7 @@ use itch_codec::{
     Alpha, Header, Message, OrderCancel, OrderExecuted, OrderExecutedWithPrice, OrderReplace,
 };
 
-/// The line with the names of the columns.
+/// Returns the line with the names of the columns.
 pub fn columns() -> &'static [u8]
     ensures text { result.now ≡ order_columns }
     ensures short { length result.now < 65538 }
@@ -21,7 +21,7 @@ pub fn columns() -> &'static [u8]
     execution_price,cancelled_shares,new_order_reference_number,shares,price\n"
 }
 
-/// The columns of any message: its number, its type and its header.
+/// Returns the columns of any message: its number, its type and its header.
 pub fn message_columns(number: u64, message: &Message<'_>) -> Line
     ensures { result ≡ message_columns number message.now }
 {
@@ -34,7 +34,7 @@ pub fn message_columns(number: u64, message: &Message<'_>) -> Line
     line
 }
 
-// The columns of a header, if there is one.
+// Appends the columns of a header, if there is one.
 fn push_header(line: &mut Line, header: Option<Header>)
     requires { length line.old ≤ 100 }
     ensures { line.new ≡ line.old ++ header_columns header }
@@ -51,7 +51,7 @@ fn push_header(line: &mut Line, header: Option<Header>)
     }
 }
 
-/// The columns of an order.
+/// Returns the columns of an order.
 pub fn order_fields(behind: &Behind) -> Line
     ensures { result ≡ order_fields behind.now }
 {
@@ -72,7 +72,7 @@ pub fn order_fields(behind: &Behind) -> Line
     line
 }
 
-// An attribution as a field, which is empty without one.
+// Appends an attribution as a field, which is empty without one.
 fn push_attribution(line: &mut Line, mpid: &Option<Alpha<4>>)
     requires { length line.old ≤ 246 }
     ensures { line.new ≡ line.old ++ attribution_field mpid.now }
@@ -82,7 +82,7 @@ fn push_attribution(line: &mut Line, mpid: &Option<Alpha<4>>)
     }
 }
 
-/// The columns of one type of message, and the end of the line.
+/// Returns the columns of one type of message, and the end of the line.
 pub fn own_columns(message: &Message<'_>) -> Line
     ensures { result ≡ own_columns message.now }
 {
@@ -155,7 +155,7 @@ fn no_columns() -> Line
     line
 }
 
-// Any byte as a field.
+// Appends any byte as a field.
 fn push_code(line: &mut Line, byte: u8)
     requires { length line.old ≤ 252 }
     ensures text { line.new ≡ line.old ++ code_field byte }
@@ -168,7 +168,7 @@ fn push_code(line: &mut Line, byte: u8)
     }
 }
 
-// A hexadecimal digit.
+// Returns a hexadecimal digit.
 fn hex_digit(digit: u8) -> u8
     requires { digit < 16 }
     ensures { result ≡ hex_digit digit }

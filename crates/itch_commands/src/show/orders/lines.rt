@@ -1,4 +1,4 @@
-//! The line of a message with the order behind it.
+//! Writes the line of a message with the order behind it.
 ghost use Rattle.std.specs.Prelude.{◌≡◌, ◌+◌, ◌<◌, ◌≤◌, ◌++◌, ◌∷◌, [], length};
 ghost use Rattle.itch_codec.specs.Fields.{side_byte};
 ghost use Rattle.itch_commands.specs.OrderForms.{attribution_value, attribution_word, order_head, order_line, order_members, order_words, price_members, share_members, stock_text, without_last};
@@ -13,7 +13,7 @@ use crate::writing::write_text;
 use itch_codec::{Alpha, Message, Side, json, show as show_message, show_named};
 use itch_frame::CountedWrite;
 
-/// Writes what stands before all lines.
+/// Writes the heading of all lines.
 pub fn write_head<W: CountedWrite>(form: OrderForm, out: &mut W) -> Result<(), ToolFault>
     ensures { WritesText W.contents W.failures (order_head form) out.old result out.new }
 {
@@ -65,7 +65,7 @@ pub fn write_order<W: CountedWrite>(
     }
 }
 
-// The line of comma-separated values.
+// Writes the line of comma-separated values.
 fn write_fields<W: CountedWrite>(
     number: u64,
     message: &Message<'_>,
@@ -81,8 +81,8 @@ fn write_fields<W: CountedWrite>(
     write_both(fields.as_bytes(), own.as_bytes(), out)
 }
 
-// One text, and then another.
-fn write_both<W: CountedWrite>(first: &[u8], then: &[u8], out: &mut W) -> Result<(), ToolFault>
+/// One text, and then another.
+pub fn write_both<W: CountedWrite>(first: &[u8], then: &[u8], out: &mut W) -> Result<(), ToolFault>
     requires first { length first.now < 65538 }
     requires then { length then.now < 65538 }
     ensures { WritesText W.contents W.failures (first.now ++ then.now) out.old result out.new }
@@ -91,7 +91,7 @@ fn write_both<W: CountedWrite>(first: &[u8], then: &[u8], out: &mut W) -> Result
     write_text(then, out)
 }
 
-// A text without its last bytes.
+// Returns a text without its last bytes.
 fn without_last(most: usize, text: &[u8]) -> &[u8]
     ensures text { result.now ≡ without_last most text.now }
     ensures short { length result.now ≤ length text.now }
@@ -99,7 +99,7 @@ fn without_last(most: usize, text: &[u8]) -> &[u8]
     &text[..text.len().saturating_sub(most)]
 }
 
-// What stands after a message in a line of text.
+// Returns the part after a message in a line of text.
 fn order_words(behind: &Behind) -> Line
     ensures { result ≡ order_words behind.now }
 {
@@ -119,7 +119,7 @@ fn order_words(behind: &Behind) -> Line
     line
 }
 
-// The attribution at the end of a line of text, if there is one.
+// Appends the attribution at the end of a line of text, if there is one.
 fn push_attribution(line: &mut Line, mpid: &Option<Alpha<4>>)
     requires { length line.old ≤ 249 }
     ensures text { line.new ≡ line.old ++ attribution_word mpid.now }
@@ -132,7 +132,7 @@ fn push_attribution(line: &mut Line, mpid: &Option<Alpha<4>>)
     }
 }
 
-// The members that stand after those of a message, and the end of the object.
+// Returns the members after those of a message, and the end of the object.
 fn order_members(behind: &Behind) -> Line
     ensures { result ≡ order_members behind.now }
 {
@@ -169,7 +169,7 @@ fn push_share_members(line: &mut Line, behind: &Behind)
     line.text(b"}\n");
 }
 
-// The value of an attribution: a string, or null.
+// Appends the value of an attribution: a string, or null.
 fn push_json_attribution(line: &mut Line, mpid: &Option<Alpha<4>>)
     requires { length line.old ≤ 246 }
     ensures text { line.new ≡ line.old ++ attribution_value mpid.now }
@@ -185,7 +185,7 @@ fn push_json_attribution(line: &mut Line, mpid: &Option<Alpha<4>>)
     }
 }
 
-/// The characters of a stock without the spaces at its end; of no stock, none.
+/// Returns the characters of a stock without trailing spaces; none if there is no stock.
 pub fn stock_text(stock: &Option<Alpha<8>>) -> &[u8]
     ensures text { result.now ≡ stock_text stock.now }
     ensures short { length result.now ≤ 8 }
@@ -196,7 +196,7 @@ pub fn stock_text(stock: &Option<Alpha<8>>) -> &[u8]
     }
 }
 
-/// The letter of a side.
+/// Returns the letter of a side.
 pub fn side_text(side: Side) -> &'static [u8]
     ensures { result.now ≡ side_byte side ∷ [] }
 {

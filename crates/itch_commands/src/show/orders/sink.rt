@@ -1,4 +1,4 @@
-//! The lines of a day's messages with the orders behind them, as they come.
+//! Writes the lines of a day's messages with the orders behind them, one after another.
 ghost use Rattle.std.specs.Prelude.{◌≡◌};
 ghost use Rattle.itch_commands.specs.Choices.{Chosen};
 ghost use Rattle.itch_commands.specs.OrdersBehind.{chosen_behind, line_behind};
@@ -17,7 +17,7 @@ use itch_frame::CountedWrite;
 use itch_market::{Market, Refused};
 use std::io::Error;
 
-/// A market, and which of its messages are chosen by now.
+/// A market, and the choice of its messages.
 #[derive(Drop)]
 pub struct ChosenMarket<'a, B: OrderBook> {
     pub market: Market<B>,
@@ -32,7 +32,7 @@ pub struct OrderLines<'a, 'b, 'c, B: OrderBook, W: CountedWrite> {
     pub chosen: &'c mut ChosenMarket<'a, B>,
 }
 
-/// Why a message is not listed.
+/// The reason why a message is not listed.
 #[derive(Drop)]
 pub enum Unlisted {
     /// The market refuses it.
@@ -42,14 +42,14 @@ pub enum Unlisted {
 }
 
 impl<'a, 'b, 'c, B: OrderBook, W: CountedWrite> OrderLines<'a, 'b, 'c, B, W> {
-    /// Whether each of the stocks that are looked for has come.
+    /// Returns whether each of the stocks searched for has come.
     pub fn has_found_all(&self) -> bool
         ensures { result ≡ are_found (Chosen.stocks self.now.chosen.now.choice) }
     {
         self.chosen.choice.has_found_all()
     }
 
-    // The order behind a message, if the message is chosen.
+    // Returns the order behind a message, if the message is chosen.
     #[inline(always)]
     fn chosen_behind(&self, message: &Message<'_>) -> Option<Behind>
         ensures { result ≡ chosen_behind self.now.chosen.now.choice self.now.chosen.now.market message.now }

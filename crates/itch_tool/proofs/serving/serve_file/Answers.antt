@@ -1,5 +1,5 @@
 use Rattle.std.proofs.Common.{Ok, Err, refl, inl, inr, subst}
-use Rattle.itchsnap_live.specs.Sessions.{ServesMarket}
+use Rattle.itch_sessions.specs.Sessions.{ServesMarket}
 use Rattle.itch_tool.proofs.serving.serve_file.Goals as goal
 
 pub returns-in-Err : goal.returns-in-Err

@@ -1,4 +1,4 @@
--- The walk of `empty`, by hand: a struct that owns what it points to has no generated proof.
+-- The walk of `empty`, by hand: a struct that owns the target of its pointer has no generated proof.
 use Rattle.std.proofs.Common.{◌≡◌, [], ◌∷◌, Option, None, refl, lit<}
 use mir.Val.{Val}
 use base.Logic.{SProp, emp}

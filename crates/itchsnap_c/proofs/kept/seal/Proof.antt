@@ -1,4 +1,5 @@
--- The walk of `seal`, by hand: a cast of a pointer to another type has no generated proof, nor has a struct that owns what it points to.
+-- The walk of `seal`, by hand: a cast of a pointer to another type has no generated proof, and neither has a struct that owns the target of
+-- its pointer.
 use Rattle.std.proofs.Common.{◌≡◌, List, [], ◌∷◌, ◌++◌, Some, refl, sym, subst}
 use mir.Val.{Val, vptr}
 use base.Logic.{SProp, ent, emp, id⊢}

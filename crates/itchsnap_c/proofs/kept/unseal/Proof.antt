@@ -1,4 +1,4 @@
--- The walk of `unseal`, by hand for the reasons that `seal` has.
+-- The walk of `unseal`, by hand for the same reasons as `seal`.
 use Rattle.std.proofs.Common.{◌≡◌, List, [], ◌∷◌, ◌++◌, Some, IsSome, refl, sym, subst, lit<}
 use mir.Raw.{raw as bare}
 use mir.Val.{Val, vptr}

@@ -4,7 +4,7 @@ use Rattle.std.specs.Option.{option_copied}
 use Rattle.itchsnap_c.specs.Objects.{market_of}
 use Rattle.itchsnap_c.proofs.handle.Handle.look_up.Goals as goal
 
--- a call at what a reference shows, where there is one
+-- a call with the referenced value, if there is one
 call_at : {F T R : Type 0} (g : Once F (Bor T × Unit {0}) R) (f : F) (shown : Option (Bor T)) (wrong answer : R)
     → MatchOption shown (answer ≡ wrong) (λ p. g.post f (p, tt) answer) → MatchOption (option_copied shown) (answer ≡ wrong) (λ x. FnOnceReturnsAt g f x answer)
 call_at g f None wrong answer same = same

@@ -1,0 +1,55 @@
+//! The index of a folder of snapshots.
+
+use crate::checkpoint::Checkpoint;
+use crate::lines::Lines;
+use itch_day::{Limit, Mark};
+use std::alloc::Global;
+use std::io::{self, BufRead};
+
+/// The checkpoints that an index lists. What is no checkpoint is passed over.
+#[derive(Drop)]
+pub struct IndexReader<R> {
+    alloc: Global,
+    lines: Lines<R>,
+}
+
+impl<R: BufRead> IndexReader<R> {
+    pub fn new(alloc: Global, reader: R) -> IndexReader<R> {
+        IndexReader {
+            alloc,
+            lines: Lines::new(alloc, reader),
+        }
+    }
+
+    /// The next checkpoint, or none after the last one. An error is that of the file, or of memory that was refused.
+    pub fn next(&mut self) -> io::Result<Option<Checkpoint>> {
+        for _ in 0..u64::MAX {
+            let Some(line) = self.lines.next()? else {
+                break;
+            };
+            if let Some(checkpoint) = Checkpoint::read(self.alloc, line)? {
+                return Ok(Some(checkpoint));
+            }
+        }
+        Ok(None)
+    }
+}
+
+/// The checkpoint of an index with the most messages that is not beyond a point, or the beginning of the day.
+pub fn nearest<R: BufRead + Drop>(alloc: Global, index: R, point: Limit) -> io::Result<Checkpoint> {
+    let mut reader = IndexReader::new(alloc, index);
+    let mut nearest = Checkpoint::beginning();
+    let mut mark = Mark::new();
+    for _ in 0..u64::MAX {
+        let Some(checkpoint) = reader.next()? else {
+            break;
+        };
+        if let Some(found) = checkpoint.mark(point)
+            && found.is_nearer(&mark, point)
+        {
+            mark = found;
+            nearest = checkpoint;
+        }
+    }
+    Ok(nearest)
+}

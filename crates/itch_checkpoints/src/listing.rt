@@ -1,0 +1,89 @@
+//! The line of a snapshot in the index of its folder.
+ghost use Rattle.std.specs.Prelude.{◌≡◌, ◌++◌, decimal, IfOk, OnOk, option_map};
+ghost use Rattle.itch_checkpoints.specs.IndexLines.{digits_part, index_line, list_part, mark_part, number_or_null};
+
+use crate::fingerprint::Fingerprint;
+use itch_day::Mark;
+use itoa::Buffer;
+use std::alloc::{AllocError, Allocator};
+
+/// The line of the snapshot after the messages of a mark: an object of JSON with their number, the offset of the next message in
+/// the day file, the latest timestamp of theirs, the name of the snapshot's file, the fingerprint of the day file before the
+/// offset, and the list of the locates that the snapshot has, if it has only some.
+pub fn index_line<A: Allocator>(
+    alloc: A,
+    mark: Mark,
+    fingerprint: Fingerprint,
+    only: Option<&str>,
+) -> Result<Vec<u8, A>, AllocError>
+    ensures { IfOk result (λ line. line.items ≡ index_line mark fingerprint (option_map (λ list. list.now) only.entry)) }
+{
+    let mut line = Vec::new(alloc);
+    push_mark(&mut line, mark)?;
+    push_fingerprint(&mut line, fingerprint)?;
+    push_list(&mut line, only)?;
+    line.extend_from_slice(b"}\n")?;
+    Ok(line)
+}
+
+fn push_mark<A: Allocator>(line: &mut Vec<u8, A>, mark: Mark) -> Result<(), AllocError>
+    ensures { OnOk result (line.new.items ≡ line.old.items ++ mark_part mark) }
+{
+    push_field(line, b"{\"messages\":", mark.count)?;
+    push_field(line, b",\"offset\":", mark.offset)?;
+    line.extend_from_slice(b",\"timestamp\":")?;
+    push_or_null(line, mark.latest)?;
+    push_field(line, b",\"file\":\"", mark.count)?;
+    line.extend_from_slice(b".snap\"")?;
+    Ok(())
+}
+
+fn push_field<A: Allocator>(
+    line: &mut Vec<u8, A>,
+    name: &[u8],
+    number: u64,
+) -> Result<(), AllocError>
+    ensures { OnOk result (line.new.items ≡ line.old.items ++ name.now ++ decimal number) }
+{
+    line.extend_from_slice(name)?;
+    push_number(line, number)
+}
+
+fn push_number<A: Allocator>(line: &mut Vec<u8, A>, number: u64) -> Result<(), AllocError>
+    ensures { OnOk result (line.new.items ≡ line.old.items ++ decimal number) }
+{
+    line.extend_from_slice(Buffer::new().format(number).as_bytes())
+}
+
+fn push_or_null<A: Allocator>(line: &mut Vec<u8, A>, number: Option<u64>) -> Result<(), AllocError>
+    ensures { OnOk result (line.new.items ≡ line.old.items ++ number_or_null number) }
+{
+    match number {
+        Some(number) => push_number(line, number),
+        None => line.extend_from_slice(b"null"),
+    }
+}
+
+fn push_fingerprint<A: Allocator>(
+    line: &mut Vec<u8, A>,
+    fingerprint: Fingerprint,
+) -> Result<(), AllocError>
+    ensures { OnOk result (line.new.items ≡ line.old.items ++ digits_part fingerprint) }
+{
+    line.extend_from_slice(b",\"first\":\"")?;
+    line.extend_from_slice(&fingerprint.first)?;
+    line.extend_from_slice(b"\",\"last\":\"")?;
+    line.extend_from_slice(&fingerprint.last)?;
+    line.extend_from_slice(b"\"")
+}
+
+fn push_list<A: Allocator>(line: &mut Vec<u8, A>, only: Option<&str>) -> Result<(), AllocError>
+    ensures { OnOk result (line.new.items ≡ line.old.items ++ list_part (option_map (λ list. list.now) only.entry)) }
+{
+    let Some(list) = only else {
+        return Ok(());
+    };
+    line.extend_from_slice(b",\"only\":\"")?;
+    line.extend_from_slice(list.as_bytes())?;
+    line.extend_from_slice(b"\"")
+}

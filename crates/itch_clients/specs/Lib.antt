@@ -1,0 +1,4 @@
+pub mod Budgets
+pub mod Openings
+pub mod Paces
+pub mod Rooms

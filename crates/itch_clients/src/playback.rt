@@ -1,0 +1,102 @@
+//! A day file that is played to one client, which reads it by itself.
+
+use crate::pace::timestamp;
+use itch_frame::{BlockReader, Buffered};
+use itch_market::{ReplayEnd, Stop};
+use itch_sessions::SessionFault;
+use itch_sessions::sessions::PIECE;
+use std::alloc::Global;
+use std::fs;
+use std::io::{BufReader, Read};
+use std::rt::Files;
+
+/// The messages of a day file, one after another.
+#[derive(Drop)]
+pub struct Playback<F: Read + Drop> {
+    blocks: BlockReader<Buffered<F, Global>, Global>,
+    // The message at hand, with its number: 0 before the first one.
+    message: Vec<u8>,
+    number: u64,
+}
+
+impl<F: Read + Drop> Playback<F> {
+    /// The file of a path, before its first message.
+    pub fn open<R: Files<File = F> + AllocGlobal>(
+        rt: &R,
+        path: &str,
+    ) -> Result<Playback<F>, SessionFault> {
+        let alloc = rt.alloc();
+        let file = match fs::open(rt, path) {
+            Ok(file) => file,
+            Err(error) => return Err(SessionFault::of_system(error, SessionFault::Open(error))),
+        };
+        let Ok(buffered) = BufReader::with_capacity(alloc, PIECE, file) else {
+            return Err(SessionFault::OutOfMemory);
+        };
+        Ok(Playback {
+            blocks: BlockReader::new(alloc, Buffered::new(buffered))?,
+            message: Vec::new(alloc),
+            number: 0,
+        })
+    }
+
+    /// How many messages there are from here on.
+    pub fn count(self) -> Result<u64, SessionFault> {
+        let mut playback = self;
+        match playback.blocks.pass_messages(u64::MAX) {
+            (count, Ok(_)) => Ok(count),
+            (count, Err(fault)) => Err(stopped(count, Stop::Frame(fault))),
+        }
+    }
+
+    /// Moves on to a message, over at most so many, and says whether it is at hand. An earlier one is not gone back to.
+    pub fn move_to(&mut self, number: u64, most: usize) -> Result<bool, SessionFault> {
+        let before = number.saturating_sub(1);
+        if self.number < before {
+            self.pass_over((before - self.number).min(most as u64))?;
+        }
+        if self.number == before {
+            self.take_next()?;
+        }
+        Ok(self.number == number)
+    }
+
+    // Passes over so many messages.
+    fn pass_over(&mut self, most: u64) -> Result<(), SessionFault> {
+        let (count, passed) = self.blocks.pass_messages(most);
+        self.number = self.number.saturating_add(count);
+        match passed {
+            Ok(true) => Ok(()),
+            Ok(false) => Err(stopped(self.number, Stop::End)),
+            Err(fault) => Err(stopped(self.number, Stop::Frame(fault))),
+        }
+    }
+
+    // The next message is at hand.
+    fn take_next(&mut self) -> Result<(), SessionFault> {
+        match self.blocks.next_message() {
+            Ok(Some(payload)) => {
+                self.message.clear();
+                self.message.extend_from_slice(payload)?;
+                self.number = self.number.saturating_add(1);
+                Ok(())
+            }
+            Ok(None) => Err(stopped(self.number, Stop::End)),
+            Err(fault) => Err(stopped(self.number, Stop::Frame(fault))),
+        }
+    }
+
+    /// The message at hand.
+    pub fn message(&self) -> &[u8] {
+        self.message.as_slice()
+    }
+
+    /// Its timestamp.
+    pub fn time(&self) -> u64 {
+        timestamp(self.message.as_slice())
+    }
+}
+
+fn stopped(count: u64, stop: Stop) -> SessionFault {
+    SessionFault::Stopped(ReplayEnd { count, stop })
+}

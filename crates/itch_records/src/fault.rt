@@ -1,0 +1,348 @@
+//! Why a live server, or what follows a feed, has ended: its lines on standard error, and the program's status.
+ghost use Rattle.std.specs.Prelude.{◌≡◌};
+ghost use Rattle.itch_records.specs.LiveFaults.{live_status, record_status};
+
+use crate::day_files::DayPaths;
+use crate::watch::Change;
+use itch_codec::Alpha;
+use itch_live::Source;
+use itch_market::ReplayEnd;
+use itch_sessions::{Feeds, SessionFault};
+use std::alloc::AllocError;
+use std::error::Error;
+use std::fmt::{self, Display, Formatter};
+use std::io;
+
+/// Why a live server, or what follows a feed, has ended.
+///
+/// `Display` gives the first line for standard error, without its line feed; [`LiveFault::detail`] the second one.
+#[derive(Debug, Drop)]
+pub enum LiveFault {
+    /// A fault that other sessions have too.
+    Session(SessionFault),
+    /// The record cannot be continued.
+    Record(RecordFault),
+    /// The file beside the record that names its session cannot be read or written.
+    SessionFile(io::Error),
+    /// The status port cannot be listened on.
+    StatusPort(io::Error),
+    /// Another process uses a file of the server.
+    InUse(Owned),
+    /// A server accepted the login in another session than the one that was asked for.
+    OtherSession {
+        server: Source,
+        named: Alpha<10>,
+        wanted: Alpha<10>,
+    },
+    /// A message of the feed was refused: the market would no longer be the feed's.
+    Refused {
+        fault: SessionFault,
+        session: Alpha<10>,
+        /// The place of the server that sent it.
+        server: usize,
+    },
+    /// The snapshot is of one session, and the feed is in another.
+    GlimpseSession {
+        snapshot: Alpha<10>,
+        feed: Alpha<10>,
+    },
+}
+
+/// Why a live server has ended, and where the files of the day were, as far as that was known.
+#[derive(Debug, Drop)]
+pub struct DayFault {
+    pub fault: LiveFault,
+    pub paths: DayPaths,
+}
+
+/// What one process at a time may write to.
+#[derive(Clone, Copy, Debug, PartialEq, Eq)]
+pub enum Owned {
+    Record,
+    Snapshots,
+}
+
+/// The names that the second line of a fault may have, as they were written: the paths of the record and of the folder of snapshots, the status port,
+/// and the feed's servers.
+#[derive(Clone, Copy, Debug)]
+pub struct Names<'a> {
+    pub record: &'a str,
+    pub snapshots: &'a str,
+    pub status: &'a str,
+    pub feeds: Feeds<'a>,
+}
+
+/// Why a record cannot be continued.
+#[derive(Debug, Drop)]
+pub enum RecordFault {
+    /// A replay of its messages stopped before its end.
+    Refused(ReplayEnd),
+    /// Its session is not known: there is no session file beside it.
+    UnknownSession,
+    /// Its session file names no session.
+    BadSession,
+    /// It is of one session, and another one is named.
+    NotOf {
+        session: Alpha<10>,
+        named: Alpha<10>,
+    },
+    /// It is of one session, and the feed is in another.
+    OtherSession {
+        session: Alpha<10>,
+        named: Alpha<10>,
+    },
+    /// Its file was changed while messages were appended to it.
+    Changed(Change),
+}
+
+impl LiveFault {
+    /// The status that the program ends with.
+    pub fn status(&self) -> u8
+        ensures { result ≡ live_status self.now }
+    {
+        match self {
+            LiveFault::Session(fault) | LiveFault::Refused { fault, .. } => fault.status(),
+            LiveFault::Record(fault) => record_status(fault),
+            LiveFault::SessionFile(_) | LiveFault::StatusPort(_) | LiveFault::InUse(_) => 3,
+            LiveFault::OtherSession { .. } | LiveFault::GlimpseSession { .. } => 1,
+        }
+    }
+
+    /// The second line, if there is one.
+    pub fn detail<'a>(&self, names: Names<'a>) -> Option<Detail<'a>> {
+        let Names {
+            record,
+            snapshots,
+            status,
+            feeds,
+        } = names;
+        match self {
+            LiveFault::Session(_) => None,
+            LiveFault::Record(RecordFault::UnknownSession) => Some(Detail::NoSessionFile(record)),
+            LiveFault::Record(RecordFault::BadSession) => Some(Detail::SessionFile(record)),
+            LiveFault::Record(_) => Some(Detail::Path(record)),
+            LiveFault::SessionFile(error) => Some(Detail::SessionFileFailed(record, *error)),
+            LiveFault::StatusPort(error) => Some(Detail::Status(status, *error)),
+            LiveFault::InUse(Owned::Record) => Some(Detail::InUse(record)),
+            LiveFault::InUse(Owned::Snapshots) => Some(Detail::InUse(snapshots)),
+            LiveFault::Refused {
+                session,
+                server,
+                ..
+            } => {
+                let place = feeds.get(*server).unwrap_or(feeds.first);
+                Some(Detail::Feed(place.words, *session))
+            }
+            LiveFault::OtherSession { server, named, .. } => match server {
+                Source::Glimpse => Some(Detail::GlimpseSession(*named)),
+                Source::Live => None,
+            },
+            LiveFault::GlimpseSession { snapshot, .. } => Some(Detail::GlimpseSession(*snapshot)),
+        }
+    }
+
+    /// The same fault of a feed that was joined to a snapshot, where no session was named: then it is the snapshot's session that the feed is
+    /// not in.
+    pub fn after_glimpse(self) -> LiveFault {
+        if let LiveFault::OtherSession {
+            server: Source::Live,
+            named,
+            wanted,
+        } = &self
+        {
+            return LiveFault::GlimpseSession {
+                snapshot: *wanted,
+                feed: *named,
+            };
+        }
+        self
+    }
+
+    /// The system's error, where a write failed.
+    pub fn write_error(&self) -> Option<io::Error> {
+        match self {
+            LiveFault::Session(SessionFault::Write(error)) => Some(*error),
+            _ => None,
+        }
+    }
+
+    /// The same fault of a feed in this session, whose server has this place: that of a message which was refused names both.
+    pub fn of_message(self, session: Option<Alpha<10>>, server: usize) -> LiveFault {
+        let Some(session) = session else {
+            return self;
+        };
+        match self {
+            LiveFault::Session(fault) => of_session(fault, session, server),
+            _ => self,
+        }
+    }
+
+    /// The same fault of a feed whose messages are recorded: then it is the record's session that the feed is not in.
+    pub fn of_record(self) -> LiveFault {
+        if let LiveFault::OtherSession {
+            server: Source::Live,
+            named,
+            wanted,
+        } = &self
+        {
+            return LiveFault::Record(RecordFault::OtherSession {
+                session: *wanted,
+                named: *named,
+            });
+        }
+        self
+    }
+}
+
+fn of_session(fault: SessionFault, session: Alpha<10>, server: usize) -> LiveFault {
+    match &fault {
+        SessionFault::Stopped(_) => LiveFault::Refused {
+            fault,
+            session,
+            server,
+        },
+        _ => LiveFault::Session(fault),
+    }
+}
+
+fn record_status(fault: &RecordFault) -> u8
+    ensures { result ≡ record_status fault.now }
+{
+    match fault {
+        RecordFault::Refused(end) => end.stop.status(),
+        RecordFault::Changed(_) => 3,
+        _ => 1,
+    }
+}
+
+impl Display for LiveFault {
+    fn fmt<W: fmt::Write>(&self, f: &mut Formatter<W>) -> fmt::Result {
+        match self {
+            LiveFault::Session(fault) | LiveFault::Refused { fault, .. } => write!(f, "{fault}"),
+            LiveFault::Record(fault) => write!(f, "itchsnap: record: {fault}"),
+            LiveFault::SessionFile(_) | LiveFault::InUse(_) => f.write_str("itchsnap: cannot open"),
+            LiveFault::StatusPort(_) => f.write_str("itchsnap: socket failed"),
+            LiveFault::OtherSession {
+                server,
+                named,
+                wanted,
+            } => {
+                let named = named.text().trim();
+                let wanted = wanted.text().trim();
+                match server {
+                    Source::Glimpse => {
+                        write!(f, "itchsnap: glimpse: in session {named}, not in {wanted}")
+                    }
+                    Source::Live => write!(
+                        f,
+                        "itchsnap: feed: in session {named}, not in {wanted}"
+                    ),
+                }
+            }
+            LiveFault::GlimpseSession { snapshot, feed } => {
+                let snapshot = snapshot.text().trim();
+                let feed = feed.text().trim();
+                write!(
+                    f,
+                    "itchsnap: glimpse: of session {snapshot}, but the feed is in {feed}"
+                )
+            }
+        }
+    }
+}
+
+impl Display for RecordFault {
+    fn fmt<W: fmt::Write>(&self, f: &mut Formatter<W>) -> fmt::Result {
+        match self {
+            RecordFault::Refused(end) => {
+                let place = u128::from(end.count) + 1;
+                let stop = &end.stop;
+                write!(f, "message {place}: {stop}")
+            }
+            RecordFault::UnknownSession => f.write_str("its session is not known"),
+            RecordFault::BadSession => f.write_str("its session file names no session"),
+            RecordFault::NotOf { session, named } => {
+                let session = session.text().trim();
+                let named = named.text().trim();
+                write!(f, "of session {session}, not of {named}")
+            }
+            RecordFault::OtherSession { session, named } => {
+                let session = session.text().trim();
+                let named = named.text().trim();
+                write!(f, "of session {session}, but the feed is in {named}")
+            }
+            RecordFault::Changed(change) => write!(f, "{change}"),
+        }
+    }
+}
+
+impl Error for LiveFault {}
+
+impl From<SessionFault> for LiveFault {
+    ghost use Rattle.itch_records.specs.declared.fault.LiveFault.TheVariants.{Session};
+
+    ghost from_gives = { λ fault live. live ≡ Session fault };
+
+    fn from(fault: SessionFault) -> LiveFault {
+        LiveFault::Session(fault)
+    }
+}
+
+impl From<AllocError> for LiveFault {
+    ghost use Rattle.itch_sessions.specs.declared.session_fault.SessionFault.TheVariants.{OutOfMemory};
+    ghost use Rattle.itch_records.specs.declared.fault.LiveFault.TheVariants.{Session};
+
+    ghost from_gives = { λ _ live. live ≡ Session OutOfMemory };
+
+    fn from(_error: AllocError) -> LiveFault {
+        LiveFault::Session(SessionFault::OutOfMemory)
+    }
+}
+
+/// What the second line of a fault says.
+#[derive(Clone, Copy, Debug)]
+pub enum Detail<'a> {
+    /// What failed is the file of this path.
+    Path(&'a str),
+    /// What failed is the session file of the record of this path.
+    SessionFile(&'a str),
+    /// What failed is the session file of the record of this path, with the system's own error.
+    SessionFileFailed(&'a str, io::Error),
+    /// What failed is the status port of this name, with the system's own error.
+    Status(&'a str, io::Error),
+    /// The record of this path has no session file.
+    NoSessionFile(&'a str),
+    /// Another process holds the lock of this path.
+    InUse(&'a str),
+    /// What failed is the feed of this address, in this session.
+    Feed(&'a str, Alpha<10>),
+    /// A server of snapshots is in this session.
+    GlimpseSession(Alpha<10>),
+}
+
+impl Display for Detail<'_> {
+    fn fmt<W: fmt::Write>(&self, f: &mut Formatter<W>) -> fmt::Result {
+        match self {
+            Detail::Path(path) => f.write_str(path),
+            Detail::SessionFile(path) => write!(f, "{path}.session"),
+            Detail::SessionFileFailed(path, error) => write!(f, "{path}.session: {error}"),
+            Detail::Status(name, error) => write!(f, "{name}: {error}"),
+            Detail::NoSessionFile(path) => write!(
+                f,
+                "{path}: there is no {path}.session: name its session with --session, or begin a new record"
+            ),
+            Detail::InUse(path) => write!(f, "{path}: another process uses it"),
+            Detail::Feed(feed, session) => {
+                let session = session.text().trim();
+                write!(f, "{feed}, session {session}")
+            }
+            Detail::GlimpseSession(session) => {
+                let session = session.text().trim();
+                write!(
+                    f,
+                    "--glimpse-session {session} accepts a snapshot of that session"
+                )
+            }
+        }
+    }
+}

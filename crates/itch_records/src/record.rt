@@ -1,0 +1,397 @@
+//! The record of a live server: a day file that this process alone appends to, and the session that it is of.
+
+use crate::fault::{LiveFault, Owned, RecordFault};
+use crate::recording::Recording;
+use crate::replay::Replay;
+use crate::session_file::{read_session, write_session};
+use crate::step::record_fault;
+use crate::watch::{Change, Seen, change_of};
+use itch_codec::Alpha;
+use itch_day::Mark;
+use itch_frame::tally::Failures;
+use itch_sessions::SessionFault;
+use itch_sessions::log::Log;
+use itch_sessions::log::entry::{Event, Level, write_shown};
+use itch_sessions::log::form::LogForm;
+use itch_sessions::log::lines::Dropped;
+use itch_sessions::sessions::PIECE;
+use itch_status::Recorded;
+use std::fmt::{self, Display, Formatter};
+use std::fs::{self, File, OpenOptions, TryLockError};
+use std::io::{self, BufWriter, ErrorKind};
+use std::rt::{Clock, Files};
+
+/// The record is looked at, and synced, this often.
+const WATCH_MS: u64 = 1_000;
+
+/// When the record is synced to disk.
+#[derive(Clone, Copy, Debug, PartialEq, Eq)]
+pub enum SyncTime {
+    /// When the system writes it.
+    Never,
+    /// Once a second, if something was added.
+    EverySecond,
+    /// Whenever messages were added, before a client is sent them.
+    EveryMessage,
+}
+
+/// Where a live server records.
+#[derive(Clone, Copy, Debug, PartialEq, Eq)]
+pub enum RecordPlace<'a> {
+    /// In this day file, of one session.
+    File(&'a str),
+    /// In this folder, which has a day file for each session.
+    Folder(&'a str),
+}
+
+impl<'a> RecordPlace<'a> {
+    /// As it was named: the day file or the folder.
+    pub fn path(self) -> &'a str {
+        match self {
+            RecordPlace::File(path) | RecordPlace::Folder(path) => path,
+        }
+    }
+}
+
+/// The record of a live server.
+#[derive(Clone, Copy, Debug, PartialEq, Eq)]
+pub struct RecordWords<'a> {
+    /// Where each message is appended to a day file.
+    pub place: RecordPlace<'a>,
+    pub sync: SyncTime,
+    /// Whether the server goes on without a record that cannot be written.
+    pub is_optional: bool,
+}
+
+/// A record, or none.
+#[derive(Drop)]
+pub struct Record {
+    pub recording: Recording<File>,
+    kept: Option<Kept>,
+}
+
+// The file of a record.
+#[derive(Drop)]
+struct Kept {
+    path: String,
+    sync: SyncTime,
+    is_optional: bool,
+    // As it was opened, without what did not belong to it.
+    opened: Seen,
+    // The session of the messages that it has, where it has any, and whether the file beside it names that.
+    session: Option<Alpha<10>>,
+    is_named: bool,
+    // How many of the bytes that were added are on disk.
+    synced: u64,
+    watched_ms: u64,
+}
+
+impl Record {
+    /// No record.
+    pub fn none() -> Record {
+        Record {
+            recording: Recording::Nowhere(Failures::none()),
+            kept: None,
+        }
+    }
+
+    /// Opens a record to append to, for this process alone. It has to be of this session, if one is named.
+    pub fn open<R: Files<File = File> + AllocGlobal>(
+        rt: &R,
+        words: RecordWords<'_>,
+        path: String,
+        named: Option<Alpha<10>>,
+    ) -> Result<Record, LiveFault> {
+        let file = open_alone(rt, path.as_str())?;
+        let opened = seen(&file)?;
+        let beside = if opened.length == 0 {
+            None
+        } else {
+            read_session(rt, path.as_str())?
+        };
+        let session = session_of(opened.length, beside, named)?;
+        let Ok(file) = BufWriter::with_capacity(rt.alloc(), PIECE, file) else {
+            return Err(LiveFault::Session(SessionFault::OutOfMemory));
+        };
+        let recording = Recording::File {
+            file,
+            failures: Failures::none(),
+            added: 0,
+        };
+        let kept = Some(Kept {
+            path,
+            sync: words.sync,
+            is_optional: words.is_optional,
+            opened,
+            session,
+            is_named: beside.is_some(),
+            synced: 0,
+            watched_ms: 0,
+        });
+        Ok(Record { recording, kept })
+    }
+
+    /// A replay of the messages that it has after those of a mark.
+    pub fn replay<R: Files<File = File> + AllocGlobal>(
+        &self,
+        rt: &R,
+        mark: Mark,
+    ) -> Result<Option<Replay>, LiveFault> {
+        match &self.kept {
+            Some(kept) if kept.opened.length > 0 => {
+                let file = open_again(rt, kept.path.as_str())?;
+                Ok(Some(Replay::after(rt.alloc(), file, mark)?))
+            }
+            _ => Ok(None),
+        }
+    }
+
+    /// Drops what follows the whole messages, all of which were replayed. A record that is refused stays as it is.
+    pub fn cut<R: Eprint>(&mut self, log: &mut Log<'_, R>, whole: Mark) -> Result<(), LiveFault> {
+        let Recording::File { file, .. } = &self.recording else {
+            return Ok(());
+        };
+        if let Some(kept) = &mut self.kept
+            && whole.offset < kept.opened.length
+        {
+            cut(file.get_ref(), whole.offset)?;
+            log.say(&Dropped {
+                bytes: kept.opened.length - whole.offset,
+                messages: whole.count,
+            });
+            kept.opened.length = whole.offset;
+        }
+        Ok(())
+    }
+
+    /// Where it is, if there is one.
+    pub fn path(&self) -> Option<&str> {
+        match &self.kept {
+            Some(kept) => Some(kept.path.as_str()),
+            None => None,
+        }
+    }
+
+    /// How many bytes it has.
+    pub fn length(&self) -> u64 {
+        match &self.kept {
+            Some(kept) => kept.opened.length.saturating_add(self.recording.added()),
+            None => 0,
+        }
+    }
+
+    /// The session of the messages that it has, if it has any.
+    pub fn session(&self) -> Option<Alpha<10>> {
+        self.kept.as_ref()?.session
+    }
+
+    /// Whether the server goes on without it where it cannot be written.
+    pub fn is_optional(&self) -> bool {
+        match &self.kept {
+            Some(kept) => kept.is_optional,
+            None => true,
+        }
+    }
+
+    /// Notes the session of the messages that are to come: the file beside the record has it before the record has a message.
+    pub fn begin<R: Files<File = File> + AllocGlobal>(
+        &mut self,
+        rt: &R,
+        session: Alpha<10>,
+    ) -> Result<(), LiveFault> {
+        if let Some(kept) = &mut self.kept
+            && !kept.is_named
+        {
+            write_session(rt, kept.path.as_str(), &session)?;
+            kept.session = Some(session);
+            kept.is_named = true;
+        }
+        Ok(())
+    }
+
+    /// Hands what was added to the system, and waits until it is on disk where that is asked for.
+    pub fn flush(&mut self) -> io::Result<()> {
+        self.recording.flush()?;
+        match &self.kept {
+            Some(kept) if matches!(kept.sync, SyncTime::EveryMessage) => self.sync(),
+            _ => Ok(()),
+        }
+    }
+
+    // Waits until what was added is on disk.
+    fn sync(&mut self) -> io::Result<()> {
+        let added = self.recording.added();
+        if let Some(kept) = &mut self.kept
+            && added > kept.synced
+        {
+            self.recording.sync()?;
+            kept.synced = added;
+        }
+        Ok(())
+    }
+
+    /// Once a second: syncs what was added where that is asked for, and says what another process did to the file, if it did anything.
+    pub fn watch<R: Files<File = File>>(&mut self, rt: &R, now_ms: u64) -> Result<(), RecordLoss> {
+        let added = self.recording.added();
+        let Some(kept) = &mut self.kept else {
+            return Ok(());
+        };
+        if now_ms < kept.watched_ms.saturating_add(WATCH_MS) {
+            return Ok(());
+        }
+        kept.watched_ms = now_ms;
+        let written = Seen {
+            length: kept.opened.length.saturating_add(added),
+            ..kept.opened
+        };
+        let found = match fs::metadata(rt, kept.path.as_str()) {
+            Ok(metadata) => Some(Seen::of(&metadata)),
+            Err(error) if matches!(error.kind(), ErrorKind::NotFound) => None,
+            Err(error) => return Err(RecordLoss::System(error)),
+        };
+        if let Some(change) = change_of(written, found) {
+            return Err(RecordLoss::Changed(change));
+        }
+        if matches!(kept.sync, SyncTime::EverySecond)
+            && let Err(error) = self.sync()
+        {
+            return Err(RecordLoss::System(error));
+        }
+        Ok(())
+    }
+
+    /// Hands what was added to the system, and waits until it is on disk unless that is not asked for.
+    pub fn finish(&mut self) -> io::Result<()> {
+        self.recording.flush()?;
+        match &self.kept {
+            Some(kept) if matches!(kept.sync, SyncTime::Never) => Ok(()),
+            _ => self.sync(),
+        }
+    }
+
+    /// How many bytes it has, and how many of those that were added are not on disk, where there is a record.
+    pub fn figures(&self) -> Option<Recorded> {
+        let kept = self.kept.as_ref()?;
+        let added = self.recording.added();
+        Some(Recorded {
+            length: self.length(),
+            unsynced: added.saturating_sub(kept.synced),
+        })
+    }
+
+    /// Gives it up.
+    pub fn give_up(&mut self) {
+        *self = Record::none();
+    }
+}
+
+/// Why a record cannot be written any more.
+#[derive(Debug, Drop)]
+pub enum RecordLoss {
+    /// Another process did something to its file.
+    Changed(Change),
+    /// A call of the system failed.
+    System(io::Error),
+}
+
+impl RecordLoss {
+    /// The fault of a server that does not go on without its record, where the feed's next message has this number.
+    pub fn fault(self, next: Option<u64>) -> LiveFault {
+        match self {
+            RecordLoss::Changed(change) => LiveFault::Record(RecordFault::Changed(change)),
+            RecordLoss::System(error) => {
+                LiveFault::Session(record_fault(SessionFault::Write(error), next))
+            }
+        }
+    }
+}
+
+impl Display for RecordLoss {
+    fn fmt<W: fmt::Write>(&self, f: &mut Formatter<W>) -> fmt::Result {
+        match self {
+            RecordLoss::Changed(change) => write!(f, "record: given up: {change}"),
+            RecordLoss::System(error) => write!(f, "record: given up: {error}"),
+        }
+    }
+}
+
+impl Event for RecordLoss {
+    fn level(&self) -> Level {
+        Level::Error
+    }
+
+    fn name(&self) -> &'static str {
+        "record_given_up"
+    }
+
+    fn write_fields<W: fmt::Write>(&self, f: &mut Formatter<W>, form: LogForm) -> fmt::Result {
+        match self {
+            RecordLoss::Changed(change) => write_shown(f, form, "why", change),
+            RecordLoss::System(error) => write_shown(f, form, "why", error),
+        }
+    }
+}
+
+// The session of a record of so many bytes, where the file beside it names one, or the command line: where both do, they have to be the same. One
+// without a message is of no day.
+fn session_of(
+    length: u64,
+    beside: Option<Alpha<10>>,
+    named: Option<Alpha<10>>,
+) -> Result<Option<Alpha<10>>, LiveFault> {
+    if length == 0 {
+        return Ok(None);
+    }
+    match (beside, named) {
+        (None, None) => Err(LiveFault::Record(RecordFault::UnknownSession)),
+        (Some(session), None) | (None, Some(session)) => Ok(Some(session)),
+        (Some(session), Some(named)) => {
+            if session.text().trim() == named.text().trim() {
+                return Ok(Some(session));
+            }
+            Err(LiveFault::Record(RecordFault::NotOf { session, named }))
+        }
+    }
+}
+
+// Opens a file to append to, which no other process may open so.
+fn open_alone<R: Files<File = File>>(rt: &R, path: &str) -> Result<File, LiveFault> {
+    let mut how = OpenOptions::new();
+    how.append(true).create(true);
+    let file = match how.open(rt, path) {
+        Ok(file) => file,
+        Err(error) => return Err(open_fault(error)),
+    };
+    match file.try_lock() {
+        Ok(()) => Ok(file),
+        Err(TryLockError::WouldBlock) => Err(LiveFault::InUse(Owned::Record)),
+        Err(TryLockError::Error(error)) => Err(open_fault(error)),
+    }
+}
+
+// Opens it to read.
+fn open_again<R: Files<File = File>>(rt: &R, path: &str) -> Result<File, LiveFault> {
+    match fs::open(rt, path) {
+        Ok(file) => Ok(file),
+        Err(error) => Err(open_fault(error)),
+    }
+}
+
+fn seen(file: &File) -> Result<Seen, LiveFault> {
+    match file.metadata() {
+        Ok(metadata) => Ok(Seen::of(&metadata)),
+        Err(error) => Err(open_fault(error)),
+    }
+}
+
+fn cut(file: &File, length: u64) -> Result<(), LiveFault> {
+    match file.set_len(length) {
+        Ok(()) => Ok(()),
+        Err(error) => Err(open_fault(error)),
+    }
+}
+
+// The record cannot be opened.
+fn open_fault(error: io::Error) -> LiveFault {
+    LiveFault::Session(SessionFault::of_system(error, SessionFault::Open(error)))
+}

@@ -1,0 +1,252 @@
+//! Where a live server begins: before the first message, or with the newest snapshot of its folder that fits the record.
+
+use crate::fault::LiveFault;
+use itch_book::OrderBook;
+use itch_checkpoints::{Checkpoint, Unfit, fingerprint_before, nearest, why_unfit};
+use itch_day::{Limit, Mark};
+use itch_frame::{BlockReader, Buffered};
+use itch_join::Joiner;
+use itch_sessions::SessionFault;
+use itch_sessions::log::Log;
+use itch_sessions::log::entry::{Event, Level, write_number, write_shown, write_text};
+use itch_sessions::log::form::LogForm;
+use itch_sessions::sessions::PIECE;
+use itch_snapshot::SnapFault;
+use std::alloc::Global;
+use std::fmt::{self, Display, Formatter};
+use std::fs::{self, File};
+use std::io::{self, BufReader, ErrorKind};
+use std::rt::Files;
+
+/// The End of Snapshot of a market with no messages.
+const NOTHING_BEFORE: &[u8] = b"G                   1";
+
+/// So many snapshots that do not fit are passed over. Then the whole record is replayed.
+const MOST_UNFIT: usize = 16;
+
+/// A joiner that has the market before the first message.
+pub fn at_the_first<B: OrderBook>(joiner: &mut Joiner<B>) -> Result<(), SessionFault> {
+    match joiner.snapshot(NOTHING_BEFORE) {
+        Ok(_) => Ok(()),
+        Err(_) => Err(SessionFault::OutOfMemory),
+    }
+}
+
+/// A record that is to be replayed: its path, and how many bytes it has.
+#[derive(Clone, Copy)]
+pub struct Replayed<'a> {
+    pub path: &'a str,
+    pub length: u64,
+}
+
+/// A joiner with the market of the newest snapshot of a folder that fits the record, and the mark of its messages. A snapshot that
+/// does not fit is reported, and an older one is taken.
+pub fn newest<R: Files<File = File> + Eprint + AllocGlobal, B: OrderBook<Alloc = Global>>(
+    log: &mut Log<'_, R>,
+    folder: &str,
+    record: Replayed<'_>,
+) -> Result<Option<(Joiner<B>, Mark)>, LiveFault> {
+    let mut most = u64::MAX;
+    for _ in 0..MOST_UNFIT {
+        let rt = log.runtime();
+        let Some(checkpoint) = listed(rt, folder, Limit::counted(Some(most))) else {
+            break;
+        };
+        let messages = checkpoint.count;
+        match joined_at(rt, folder, record, &checkpoint) {
+            Ok(joined) => {
+                log.say(&Resumed { folder, messages });
+                return Ok(Some(joined));
+            }
+            Err(Unusable::OutOfMemory) => return Err(LiveFault::Session(SessionFault::OutOfMemory)),
+            Err(why) => log.say(&Skipped {
+                folder,
+                messages,
+                why,
+            }),
+        }
+        most = messages.saturating_sub(1);
+    }
+    Ok(None)
+}
+
+// The newest snapshot that the index of a folder lists, of those with no more messages than these. One that cannot be read lists none.
+fn listed<R: Files<File = File> + AllocGlobal>(
+    rt: &R,
+    folder: &str,
+    most: Limit,
+) -> Option<Checkpoint> {
+    let alloc = rt.alloc();
+    let path = format!(in alloc; "{folder}/index.jsonl").ok()?;
+    let index = fs::open(rt, path.as_str()).ok()?;
+    let buffered = BufReader::new(alloc, index).ok()?;
+    let checkpoint = nearest(alloc, buffered, most).ok()?;
+    if checkpoint.count == 0 {
+        return None;
+    }
+    Some(checkpoint)
+}
+
+// Why a snapshot is not used.
+#[derive(Debug, Drop)]
+enum Unusable {
+    // It does not fit the record.
+    Unfit(Unfit),
+    // Its line says not enough of the messages before it.
+    Unknown,
+    // Its file, or the record, cannot be read.
+    Unread(io::Error),
+    // Its file is no snapshot.
+    Broken(SnapFault),
+    // Its End of Snapshot has another number.
+    OtherNumber(u64),
+    OutOfMemory,
+}
+
+impl From<io::Error> for Unusable {
+    fn from(error: io::Error) -> Unusable {
+        match error.kind() {
+            ErrorKind::OutOfMemory => Unusable::OutOfMemory,
+            _ => Unusable::Unread(error),
+        }
+    }
+}
+
+impl Display for Unusable {
+    fn fmt<W: fmt::Write>(&self, f: &mut Formatter<W>) -> fmt::Result {
+        match self {
+            Unusable::Unfit(Unfit::Partial) => f.write_str("of some locates only"),
+            Unusable::Unfit(Unfit::Beyond) => f.write_str("beyond the end of the record"),
+            Unusable::Unfit(Unfit::OtherDay) => f.write_str("of another day than the record"),
+            Unusable::Unknown => f.write_str("without a fingerprint or a timestamp in the index"),
+            Unusable::Unread(error) => write!(f, "{error}"),
+            Unusable::Broken(fault) => write!(f, "{fault}"),
+            Unusable::OtherNumber(next) => write!(f, "its End of Snapshot has number {next}"),
+            Unusable::OutOfMemory => f.write_str("out of memory"),
+        }
+    }
+}
+
+// A joiner with the market of a snapshot, if that fits the record.
+fn joined_at<R: Files<File = File> + AllocGlobal, B: OrderBook<Alloc = Global>>(
+    rt: &R,
+    folder: &str,
+    record: Replayed<'_>,
+    checkpoint: &Checkpoint,
+) -> Result<(Joiner<B>, Mark), Unusable> {
+    if checkpoint.only.is_some() {
+        return Err(Unusable::Unfit(Unfit::Partial));
+    }
+    let until = Limit {
+        after: None,
+        until: Some(u64::MAX),
+    };
+    let Some(mark) = checkpoint.mark(until) else {
+        return Err(Unusable::Unknown);
+    };
+    if checkpoint.fingerprint.is_none() {
+        return Err(Unusable::Unknown);
+    }
+    let found = if mark.offset <= record.length {
+        let mut file = fs::open(rt, record.path)?;
+        Some(fingerprint_before(rt.alloc(), &mut file, mark.offset)?)
+    } else {
+        None
+    };
+    if let Some(why) = why_unfit(checkpoint.fingerprint, found) {
+        return Err(Unusable::Unfit(why));
+    }
+    Ok((joined(rt, folder, mark.count)?, mark))
+}
+
+// A joiner with the market of the snapshot of so many messages.
+fn joined<R: Files<File = File> + AllocGlobal, B: OrderBook<Alloc = Global>>(
+    rt: &R,
+    folder: &str,
+    messages: u64,
+) -> Result<Joiner<B>, Unusable> {
+    let alloc = rt.alloc();
+    let path = match format!(in alloc; "{folder}/{messages}.snap") {
+        Ok(path) => path,
+        Err(_) => return Err(Unusable::OutOfMemory),
+    };
+    let file = fs::open(rt, path.as_str())?;
+    let Ok(buffered) = BufReader::with_capacity(alloc, PIECE, file) else {
+        return Err(Unusable::OutOfMemory);
+    };
+    let Ok(mut blocks) = BlockReader::new(alloc, Buffered::new(buffered)) else {
+        return Err(Unusable::OutOfMemory);
+    };
+    let mut joiner: Joiner<B> = Joiner::new(alloc, 0);
+    if let Err(fault) = joiner.read_snapshot(&mut blocks) {
+        return Err(Unusable::Broken(fault));
+    }
+    match joiner.next() {
+        Some(next) if next == messages.saturating_add(1) => Ok(joiner),
+        next => Err(Unusable::OtherNumber(next.unwrap_or(0))),
+    }
+}
+
+// The market of a snapshot is gone on with.
+#[derive(Drop)]
+struct Resumed<'a> {
+    folder: &'a str,
+    messages: u64,
+}
+
+impl Display for Resumed<'_> {
+    fn fmt<W: fmt::Write>(&self, f: &mut Formatter<W>) -> fmt::Result {
+        let Resumed { folder, messages } = self;
+        write!(f, "record: replayed from {folder}/{messages}.snap on")
+    }
+}
+
+impl Event for Resumed<'_> {
+    fn level(&self) -> Level {
+        Level::Info
+    }
+
+    fn name(&self) -> &'static str {
+        "resumed"
+    }
+
+    fn write_fields<W: fmt::Write>(&self, f: &mut Formatter<W>, form: LogForm) -> fmt::Result {
+        write_text(f, form, "folder", self.folder)?;
+        write_number(f, form, "messages", self.messages)
+    }
+}
+
+// A snapshot is not used.
+#[derive(Drop)]
+struct Skipped<'a> {
+    folder: &'a str,
+    messages: u64,
+    why: Unusable,
+}
+
+impl Display for Skipped<'_> {
+    fn fmt<W: fmt::Write>(&self, f: &mut Formatter<W>) -> fmt::Result {
+        let Skipped {
+            folder,
+            messages,
+            why,
+        } = self;
+        write!(f, "snapshots: {folder}/{messages}.snap is not used: {why}")
+    }
+}
+
+impl Event for Skipped<'_> {
+    fn level(&self) -> Level {
+        Level::Warn
+    }
+
+    fn name(&self) -> &'static str {
+        "snapshot_skipped"
+    }
+
+    fn write_fields<W: fmt::Write>(&self, f: &mut Formatter<W>, form: LogForm) -> fmt::Result {
+        write_text(f, form, "folder", self.folder)?;
+        write_number(f, form, "messages", self.messages)?;
+        write_shown(f, form, "why", &self.why)
+    }
+}

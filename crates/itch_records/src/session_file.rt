@@ -1,0 +1,76 @@
+//! The file beside a record that names the feed's session: the messages of another day have the same numbers.
+
+use crate::fault::{LiveFault, RecordFault};
+use itch_codec::Alpha;
+use itch_sessions::{SessionFault, VERSION};
+use std::fs::{self, File};
+use std::io::{self, ErrorKind, Read, Write};
+use std::rt::Files;
+
+/// A longer file is no session file.
+const MOST_BYTES: u64 = 1_024;
+
+/// The session of the record of this path, or none where there is no file beside it.
+pub fn read_session<R: Files<File = File> + AllocGlobal>(
+    rt: &R,
+    path: &str,
+) -> Result<Option<Alpha<10>>, LiveFault> {
+    let name = format!(in rt.alloc(); "{path}.session")?;
+    let text = match read_text(rt, name.as_str()) {
+        Ok(text) => text,
+        Err(error) => match error.kind() {
+            ErrorKind::NotFound => return Ok(None),
+            ErrorKind::InvalidData => return Err(LiveFault::Record(RecordFault::BadSession)),
+            _ => return Err(file_fault(error)),
+        },
+    };
+    match session_in(text.as_str()) {
+        Some(session) => Ok(Some(session)),
+        None => Err(LiveFault::Record(RecordFault::BadSession)),
+    }
+}
+
+/// Writes the session of the record of this path. The file gets its name once it is on disk.
+pub fn write_session<R: Files<File = File> + AllocGlobal>(
+    rt: &R,
+    path: &str,
+    session: &Alpha<10>,
+) -> Result<(), LiveFault> {
+    let name = format!(in rt.alloc(); "{path}.session")?;
+    let beside = format!(in rt.alloc(); "{name}.part")?;
+    let session = session.text().trim();
+    let text = format!(in rt.alloc(); "{session}\nitchsnap {VERSION}\n")?;
+    match write_text(rt, beside.as_str(), name.as_str(), text.as_str()) {
+        Ok(()) => Ok(()),
+        Err(error) => Err(file_fault(error)),
+    }
+}
+
+// The session that the first line of a text names.
+fn session_in(text: &str) -> Option<Alpha<10>> {
+    let line = text.lines().next()?;
+    Alpha::from_text(line.trim()).ok()
+}
+
+fn read_text<R: Files<File = File> + AllocGlobal>(rt: &R, path: &str) -> io::Result<String> {
+    io::read_to_string(rt.alloc(), fs::open(rt, path)?.take(MOST_BYTES))
+}
+
+fn write_text<R: Files<File = File>>(
+    rt: &R,
+    beside: &str,
+    name: &str,
+    text: &str,
+) -> io::Result<()> {
+    let mut file = fs::create(rt, beside)?;
+    file.write_all(text.as_bytes())?;
+    file.sync_all()?;
+    fs::rename(rt, beside, name)
+}
+
+fn file_fault(error: io::Error) -> LiveFault {
+    match error.kind() {
+        ErrorKind::OutOfMemory => LiveFault::Session(SessionFault::OutOfMemory),
+        _ => LiveFault::SessionFile(error),
+    }
+}

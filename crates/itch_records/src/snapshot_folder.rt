@@ -1,0 +1,180 @@
+//! The files of a folder of snapshots: one for each snapshot, and their index.
+
+use itch_checkpoints::{Checkpoint, Fingerprint, IndexReader, Latest, index_line};
+use itch_day::Mark;
+use std::alloc::Global;
+use std::fs::{self, File, OpenOptions};
+use std::io::{self, BufRead, BufReader, BufWriter, ErrorKind, Write};
+use std::rt::Files;
+
+/// What a file of the folder is.
+#[derive(Clone, Copy, Debug, PartialEq, Eq)]
+pub enum FolderFile {
+    /// The snapshot of so many messages.
+    Snapshot(u64),
+    /// What was not written whole before it got its name.
+    Part,
+    Other,
+}
+
+/// What a file of this name is.
+pub fn file_of(name: &[u8]) -> FolderFile {
+    if name == b"index.jsonl.part".as_slice() {
+        return FolderFile::Part;
+    }
+    if let Some(stem) = name.strip_suffix(b".snap.part")
+        && number_of(stem).is_some()
+    {
+        return FolderFile::Part;
+    }
+    match name.strip_suffix(b".snap") {
+        Some(stem) => match number_of(stem) {
+            Some(messages) => FolderFile::Snapshot(messages),
+            None => FolderFile::Other,
+        },
+        None => FolderFile::Other,
+    }
+}
+
+// The number that these digits are, if they are the ones that it is written with.
+fn number_of(digits: &[u8]) -> Option<u64> {
+    if digits.first() == Some(&b'0') && digits.len() > 1 {
+        return None;
+    }
+    let digits = std::str::from_utf8(digits).ok()?;
+    if digits.starts_with('+') {
+        return None;
+    }
+    digits.parse().ok()
+}
+
+/// Removes what was not written whole, and returns how many messages each snapshot has that is there, the least number first.
+pub fn clean<R: Files<File = File> + AllocGlobal>(rt: &R, folder: &str) -> io::Result<Vec<u64>> {
+    let alloc = rt.alloc();
+    // With the dot, a link to a folder is the folder.
+    let itself = format!(in alloc; "{folder}/.")?;
+    let mut names = BufReader::new(alloc, rt.open_dir(itself.as_str())?)?;
+    let mut found = Vec::new(alloc);
+    let mut name = Vec::new(alloc);
+    for _ in 0..u64::MAX {
+        name.clear();
+        if names.read_until(0, &mut name)? == 0 {
+            break;
+        }
+        let _ = name.pop();
+        match file_of(&name) {
+            FolderFile::Snapshot(messages) => found.push(messages)?,
+            FolderFile::Part => remove_part(rt, folder, &name)?,
+            FolderFile::Other => {}
+        }
+    }
+    found.sort_unstable();
+    Ok(found)
+}
+
+fn remove_part<R: Files + AllocGlobal>(rt: &R, folder: &str, name: &[u8]) -> io::Result<()> {
+    let Ok(name) = std::str::from_utf8(name) else {
+        return Ok(());
+    };
+    let path = format!(in rt.alloc(); "{folder}/{name}")?;
+    fs::remove_file(rt, path.as_str())
+}
+
+/// Removes the snapshot of so many messages.
+pub fn remove<R: Files + AllocGlobal>(rt: &R, folder: &str, messages: u64) -> io::Result<()> {
+    let path = format!(in rt.alloc(); "{folder}/{messages}.snap")?;
+    match fs::remove_file(rt, path.as_str()) {
+        Err(error) if matches!(error.kind(), ErrorKind::NotFound) => Ok(()),
+        removed => removed,
+    }
+}
+
+/// Adds the line of a snapshot to the index.
+pub fn list<R: Files<File = File> + AllocGlobal>(
+    rt: &R,
+    folder: &str,
+    mark: Mark,
+    fingerprint: Fingerprint,
+) -> io::Result<()> {
+    let alloc = rt.alloc();
+    let path = format!(in alloc; "{folder}/index.jsonl")?;
+    let line = index_line(alloc, mark, fingerprint, None)?;
+    let mut how = OpenOptions::new();
+    how.append(true).create(true);
+    let mut file = how.open(rt, path.as_str())?;
+    let length = file.metadata()?.len();
+    match file.write_all(&line) {
+        Ok(()) => Ok(()),
+        Err(error) => {
+            // A line that was not written whole would spoil the next one.
+            let _ = file.set_len(length);
+            Err(error)
+        }
+    }
+}
+
+/// Which lines of the index are kept, by how many messages their snapshots have.
+#[derive(Clone, Copy)]
+pub enum KeptLines {
+    /// Those with at most so many.
+    UpTo(u64),
+    /// All but the one with so many.
+    AllBut(u64),
+}
+
+impl KeptLines {
+    fn has(self, count: u64) -> bool {
+        match self {
+            KeptLines::UpTo(most) => count <= most,
+            KeptLines::AllBut(removed) => count != removed,
+        }
+    }
+}
+
+/// Drops the other lines of the index, and those that are not of a snapshot of all locates. The index gets its name once it is on disk.
+pub fn keep_lines<R: Files<File = File> + AllocGlobal>(
+    rt: &R,
+    folder: &str,
+    kept: KeptLines,
+) -> io::Result<()> {
+    let alloc = rt.alloc();
+    let path = format!(in alloc; "{folder}/index.jsonl")?;
+    let beside = format!(in alloc; "{path}.part")?;
+    let index = match fs::open(rt, path.as_str()) {
+        Ok(index) => index,
+        Err(error) if matches!(error.kind(), ErrorKind::NotFound) => return Ok(()),
+        Err(error) => return Err(error),
+    };
+    let mut lines = IndexReader::new(alloc, BufReader::new(alloc, index)?);
+    let mut out = BufWriter::new(alloc, fs::create(rt, beside.as_str())?)?;
+    for _ in 0..u64::MAX {
+        let Some(checkpoint) = lines.next()? else {
+            break;
+        };
+        if kept.has(checkpoint.count)
+            && let Some((mark, fingerprint)) = whole(&checkpoint)
+        {
+            out.write_all(&index_line(alloc, mark, fingerprint, None)?)?;
+        }
+    }
+    out.flush()?;
+    out.get_ref().sync_all()?;
+    fs::rename(rt, beside.as_str(), path.as_str())
+}
+
+// What the line of a snapshot of all locates says of it, where it says all.
+fn whole(checkpoint: &Checkpoint) -> Option<(Mark, Fingerprint)> {
+    let Latest::Known(latest) = checkpoint.latest else {
+        return None;
+    };
+    let fingerprint = checkpoint.fingerprint?;
+    if checkpoint.only.is_some() {
+        return None;
+    }
+    let mark = Mark {
+        count: checkpoint.count,
+        offset: checkpoint.offset,
+        latest,
+    };
+    Some((mark, fingerprint))
+}

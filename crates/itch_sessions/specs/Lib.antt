@@ -1,0 +1,12 @@
+pub mod Departures
+pub mod LoginFiles
+pub mod Logins
+pub mod Outputs
+pub mod Padding
+pub mod Patience
+pub mod Routes
+pub mod SessionFaults
+pub mod Sessions
+pub mod Sides
+pub mod Sockets
+pub mod Users

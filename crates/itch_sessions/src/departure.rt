@@ -1,0 +1,125 @@
+//! How a client's connection ended, and its line.
+ghost use Rattle.std.specs.Prelude.{◌≡◌, ◌≤◌, ◌++◌, length, codes, decimal};
+ghost use Rattle.arrayvec.specs.ArrayVec.{array_vec_len};
+ghost use Rattle.itch_sessions.specs.Outputs.{WritesText};
+ghost use Rattle.itch_sessions.specs.Departures.{departure_line, departure_of, departure_words};
+
+use crate::line::{push, push_number};
+use crate::session_fault::SessionFault;
+use crate::sessions::write_text;
+use arrayvec::ArrayVec;
+use itch_frame::CountedWrite;
+use itch_live::Gone;
+
+/// How a client's connection ended.
+#[derive(Clone, Copy, Debug, PartialEq, Eq)]
+pub enum Departure {
+    /// It has the whole snapshot, so many packets of messages, the last of which is its End with this number.
+    Answered { next: u64, packets: u64 },
+    /// Its login was accepted from this number on, and so many messages were played to it.
+    Played { from: u64, packets: u64 },
+    /// Its login was rejected with this code.
+    Rejected(u8),
+    /// It logged out, or sent no more, before it had all.
+    Left,
+    /// It broke the protocol, or its socket failed.
+    Fault,
+    /// It was silent or took too little for 15 seconds.
+    CutOff,
+    /// It was the slowest while another one waited for room.
+    Slowest,
+}
+
+impl From<Gone> for Departure {
+    ghost use Rattle.itch_sessions.specs.Departures.{of_gone};
+
+    ghost from_gives = { λ gone departure. departure ≡ of_gone gone };
+
+    fn from(gone: Gone) -> Departure {
+        match gone {
+            Gone::Left => Departure::Left,
+            Gone::Fault => Departure::Fault,
+            Gone::Silent => Departure::CutOff,
+        }
+    }
+}
+
+/// How the connection of a client ended that is gone for this reason: a client that was rejected with a code, or was served, was so
+/// whatever came later.
+pub fn departure_of(code: Option<u8>, served: Option<Departure>, gone: Gone) -> Departure
+    ensures { result ≡ departure_of code served gone }
+{
+    match (code, served) {
+        (Some(code), _) => Departure::Rejected(code),
+        (None, Some(served)) => served,
+        (None, None) => Departure::from(gone),
+    }
+}
+
+/// Writes the line of a connection.
+pub fn write_departure<W: CountedWrite>(
+    out: &mut W,
+    number: u64,
+    departure: Departure,
+) -> Result<(), SessionFault>
+    ensures { WritesText W.contents W.failures (departure_line number departure) out.old result out.new }
+{
+    write_text(&line(number, departure), out)
+}
+
+fn line(number: u64, departure: Departure) -> ArrayVec<u8, 128>
+    ensures line { result.items ≡ departure_line number departure }
+    ensures short { array_vec_len result ≤ 128 }
+{
+    let mut line = ArrayVec::new();
+    push(&mut line, b"connection ");
+    push_number(&mut line, number);
+    push(&mut line, b": ");
+    push(&mut line, &words(departure));
+    push(&mut line, b"\n");
+    line
+}
+
+fn words(departure: Departure) -> ArrayVec<u8, 72>
+    ensures words { result.items ≡ departure_words departure }
+    ensures short { array_vec_len result ≤ 72 }
+{
+    match departure {
+        Departure::Answered { next, packets } => accepted(b"accepted at ", next, packets),
+        Departure::Played { from, packets } => accepted(b"accepted from ", from, packets),
+        Departure::Rejected(code) => {
+            let mut words = ArrayVec::new();
+            push(&mut words, b"rejected ");
+            push(&mut words, &[code]);
+            words
+        }
+        Departure::Left => plain(b"left"),
+        Departure::Fault => plain(b"fault"),
+        Departure::CutOff => plain(b"cut off"),
+        Departure::Slowest => plain(b"cut off as the slowest"),
+    }
+}
+
+fn accepted(how: &[u8], number: u64, packets: u64) -> ArrayVec<u8, 72>
+    requires { length how.now ≤ 14 }
+    ensures words { result.items ≡ how.now ++ decimal number ++ codes ", " ++ decimal packets ++ codes " packets" }
+    ensures short { array_vec_len result ≤ 72 }
+{
+    let mut words = ArrayVec::new();
+    push(&mut words, how);
+    push_number(&mut words, number);
+    push(&mut words, b", ");
+    push_number(&mut words, packets);
+    push(&mut words, b" packets");
+    words
+}
+
+fn plain(text: &[u8]) -> ArrayVec<u8, 72>
+    requires { length text.now ≤ 72 }
+    ensures words { result.items ≡ text.now }
+    ensures short { array_vec_len result ≤ 72 }
+{
+    let mut words = ArrayVec::new();
+    push(&mut words, text);
+    words
+}

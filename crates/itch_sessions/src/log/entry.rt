@@ -1,0 +1,155 @@
+//! What a line of the log says, as an event with fields.
+
+use crate::log::form::LogForm;
+use itch_status::UTC;
+use std::fmt::{self, Display, Formatter};
+use std::str;
+
+/// How much a line matters.
+#[derive(Clone, Copy, Debug, PartialEq, Eq)]
+pub enum Level {
+    Info,
+    Warn,
+    Error,
+}
+
+impl Level {
+    fn words(self) -> &'static str {
+        match self {
+            Level::Info => "info",
+            Level::Warn => "warn",
+            Level::Error => "error",
+        }
+    }
+}
+
+/// A line of the log, which is also an event with fields.
+pub trait Event: Display {
+    /// How much it matters.
+    fn level(&self) -> Level;
+
+    /// What has happened.
+    fn name(&self) -> &'static str;
+
+    /// Writes its fields.
+    fn write_fields<W: fmt::Write>(&self, f: &mut Formatter<W>, form: LogForm) -> fmt::Result;
+}
+
+/// Writes a field with a number.
+pub fn write_number<W: fmt::Write>(
+    f: &mut Formatter<W>,
+    form: LogForm,
+    key: &str,
+    number: u64,
+) -> fmt::Result {
+    write_key(f, form, key)?;
+    write!(f, "{number}")
+}
+
+/// Writes a field with milliseconds, which are shown as seconds.
+pub fn write_seconds<W: fmt::Write>(
+    f: &mut Formatter<W>,
+    form: LogForm,
+    key: &str,
+    ms: u64,
+) -> fmt::Result {
+    write_key(f, form, key)?;
+    let (seconds, rest) = (ms / 1_000, ms % 1_000);
+    write!(f, "{seconds}.{rest:03}")
+}
+
+/// Writes a field with a text of any kind.
+pub fn write_text<W: fmt::Write>(
+    f: &mut Formatter<W>,
+    form: LogForm,
+    key: &str,
+    text: &str,
+) -> fmt::Result {
+    write_key(f, form, key)?;
+    f.write_str("\"")?;
+    write_escaped(f, text)?;
+    f.write_str("\"")
+}
+
+/// Writes a field with what is shown without quotation marks and reverse solidi.
+pub fn write_shown<W: fmt::Write, D: Display>(
+    f: &mut Formatter<W>,
+    form: LogForm,
+    key: &str,
+    shown: &D,
+) -> fmt::Result {
+    write_key(f, form, key)?;
+    write!(f, "\"{shown}\"")
+}
+
+/// Writes a field with a letter.
+pub fn write_letter<W: fmt::Write>(
+    f: &mut Formatter<W>,
+    form: LogForm,
+    key: &str,
+    letter: u8,
+) -> fmt::Result {
+    write_key(f, form, key)?;
+    f.write_str("\"")?;
+    write_escaped_character(f, char::from(letter))?;
+    f.write_str("\"")
+}
+
+fn write_key<W: fmt::Write>(f: &mut Formatter<W>, form: LogForm, key: &str) -> fmt::Result {
+    match form {
+        LogForm::Json => write!(f, ",\"{key}\":"),
+        LogForm::Plain | LogForm::Text => write!(f, " {key}="),
+    }
+}
+
+fn write_escaped<W: fmt::Write>(f: &mut Formatter<W>, text: &str) -> fmt::Result {
+    for character in text.chars() {
+        write_escaped_character(f, character)?;
+    }
+    Ok(())
+}
+
+// Writes a character, with a reverse solidus before a quotation mark and a reverse solidus; a control character by its number.
+fn write_escaped_character<W: fmt::Write>(f: &mut Formatter<W>, character: char) -> fmt::Result {
+    match character {
+        '"' => f.write_str("\\\""),
+        '\\' => f.write_str("\\\\"),
+        _ if character < ' ' => {
+            let number = u32::from(character);
+            write!(f, "\\u{number:04x}")
+        }
+        _ => f.write_char(character),
+    }
+}
+
+/// An event at a moment, in a form.
+#[derive(Drop)]
+pub struct Line<'a, E> {
+    pub time: Option<[u8; UTC]>,
+    pub form: LogForm,
+    pub event: &'a E,
+}
+
+impl<E: Event> Display for Line<'_, E> {
+    fn fmt<W: fmt::Write>(&self, f: &mut Formatter<W>) -> fmt::Result {
+        let time = match &self.time {
+            Some(time) => str::from_utf8(time).unwrap_or("-"),
+            None => "-",
+        };
+        let (level, name) = (self.event.level().words(), self.event.name());
+        match self.form {
+            LogForm::Json => {
+                write!(
+                    f,
+                    "{{\"time\":\"{time}\",\"level\":\"{level}\",\"event\":\"{name}\""
+                )?;
+                self.event.write_fields(f, self.form)?;
+                f.write_str("}")
+            }
+            LogForm::Plain | LogForm::Text => {
+                write!(f, "{time} {level} {name}")?;
+                self.event.write_fields(f, self.form)
+            }
+        }
+    }
+}

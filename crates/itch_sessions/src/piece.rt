@@ -1,0 +1,81 @@
+//! Bytes of a socket that were read and not handed on yet.
+ghost use Rattle.std.specs.Prelude.{◌≡◌, ◌≤◌, [], length, drop, IfOk};
+
+use crate::socket::{Got, Socket};
+use std::alloc::{AllocError, Global};
+use std::io;
+use std::marker::Model;
+
+/// What is read at once, at most.
+const PIECE: usize = 1 << 16;
+
+/// Bytes of a socket that were read and not handed on yet.
+#[derive(Drop)]
+pub struct Piece {
+    buffer: Vec<u8>,
+    from: usize,
+    to: usize,
+}
+
+impl Model for Piece {
+    ghost use Rattle.std.specs.Prelude.{ℕ, ◌≤◌, List, vec_len};
+    ghost use Rattle.std.specs.List.{slice_range};
+
+    ghost Value = { List ℕ };
+
+    ghost view = { λ p. slice_range p.buffer.items p.from p.to };
+
+    ghost invariant = { λ p. (p.from ≤ p.to) × (p.to ≤ vec_len p.buffer) };
+}
+
+impl Piece {
+    /// No bytes yet. All memory is taken here, 65,536 bytes.
+    pub fn new(alloc: Global) -> Result<Piece, AllocError>
+        ensures { IfOk result (λ piece. piece ≡ []) }
+    {
+        Ok(Piece {
+            buffer: vec![in alloc; 0; PIECE]?,
+            from: 0,
+            to: 0,
+        })
+    }
+
+    /// The bytes that are to be handed on.
+    pub fn bytes(&self) -> &[u8]
+        ensures { result.now ≡ self.now }
+    {
+        &self.buffer[self.from..self.to]
+    }
+
+    pub fn is_empty(&self) -> bool {
+        self.from == self.to
+    }
+
+    /// Takes note that the first `count` bytes were handed on.
+    #[tactic(auto, using(crate::proofs::Ranges::front_passed))]
+    pub fn passed(&mut self, count: usize)
+        requires { count ≤ length self.old }
+        ensures { self.new ≡ drop count self.old }
+    {
+        self.from += count;
+    }
+
+    /// Forgets all bytes.
+    pub fn clear(&mut self)
+        ensures { self.new ≡ [] }
+    {
+        self.from = 0;
+        self.to = 0;
+    }
+
+    /// Reads what a socket has, in place of the bytes before.
+    pub fn fill(&mut self, socket: &mut Socket) -> io::Result<Got> {
+        self.clear();
+        let got = socket.read(&mut self.buffer[..])?;
+        if let Got::Bytes(count) = got {
+            self.from = 0;
+            self.to = count.min(self.buffer.len());
+        }
+        Ok(got)
+    }
+}

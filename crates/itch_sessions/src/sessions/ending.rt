@@ -1,0 +1,38 @@
+//! How a served connection ended, and its line.
+ghost use Rattle.std.specs.Prelude.{◌≡◌};
+ghost use Rattle.itch_sessions.specs.Outputs.{WritesText};
+ghost use Rattle.itch_sessions.specs.Sessions.{connection_line, departure_after};
+
+use crate::departure::{Departure, write_departure};
+use crate::session_fault::SessionFault;
+use itch_frame::CountedWrite;
+use itch_soup::Served;
+
+/// How a connection ended, or `None` if it had a fault.
+pub type Ending = Option<Served>;
+
+/// Writes the line of a connection.
+pub fn write_ending<W: CountedWrite>(
+    out: &mut W,
+    number: u64,
+    ending: &Ending,
+) -> Result<(), SessionFault>
+    ensures { WritesText W.contents W.failures (connection_line number ending.now) out.old result out.new }
+{
+    write_departure(out, number, departure_after(ending))
+}
+
+// The same as the end of any client's connection.
+fn departure_after(ending: &Ending) -> Departure
+    ensures { result ≡ departure_after ending.now }
+{
+    match ending {
+        Some(Served::Accepted { from, packets }) => Departure::Played {
+            from: from.value(),
+            packets: *packets,
+        },
+        Some(Served::Rejected(code)) => Departure::Rejected(*code),
+        Some(Served::Left) => Departure::Left,
+        None => Departure::Fault,
+    }
+}

@@ -1,0 +1,163 @@
+//! Whose connection it is, and what becomes of it.
+
+use crate::departure::Departure;
+use crate::log::entry::{
+    Event, Level, write_letter, write_number, write_seconds, write_shown, write_text,
+};
+use crate::log::form::LogForm;
+use std::fmt::{self, Display, Formatter};
+use std::net::IpAddr;
+use std::str;
+
+/// Whose connection it is.
+#[derive(Clone, Copy, Debug)]
+pub struct Who {
+    /// The connections are numbered from 1.
+    pub number: u64,
+    pub address: IpAddr,
+    /// The user name of its login, once it was read.
+    pub user: Option<User>,
+    /// When it connected, and how many bytes it was sent.
+    pub since_ms: u64,
+    pub sent: u64,
+}
+
+impl Who {
+    /// A connection that has not logged in yet.
+    pub fn new(number: u64, address: IpAddr, now_ms: u64) -> Who {
+        Who {
+            number,
+            address,
+            user: None,
+            since_ms: now_ms,
+            sent: 0,
+        }
+    }
+}
+
+/// A user name, with spaces at its end.
+#[derive(Clone, Copy, Debug)]
+pub struct User {
+    name: [u8; 6],
+}
+
+impl User {
+    /// The user of this name, or of its first six bytes.
+    pub fn new(text: &str) -> User {
+        let mut name = [b' '; 6];
+        for (to, from) in name.iter_mut().zip(text.as_bytes()) {
+            *to = *from;
+        }
+        User { name }
+    }
+
+    fn text(&self) -> &str {
+        str::from_utf8(&self.name).unwrap_or("").trim_end()
+    }
+}
+
+/// What has become of a connection.
+#[derive(Clone, Copy, Debug)]
+pub enum Happening {
+    Connected,
+    LoggedIn,
+    /// The first byte of its snapshot was sent.
+    FirstByte,
+    Ended(Departure),
+}
+
+/// What has become of whose connection, so many milliseconds after it was made.
+#[derive(Clone, Copy, Debug)]
+pub struct Visit {
+    pub who: Who,
+    pub happening: Happening,
+    pub passed_ms: u64,
+}
+
+impl Visit {
+    pub fn new(who: Who, happening: Happening, now_ms: u64) -> Visit {
+        Visit {
+            who,
+            happening,
+            passed_ms: now_ms.saturating_sub(who.since_ms),
+        }
+    }
+}
+
+impl Display for Visit {
+    fn fmt<W: fmt::Write>(&self, f: &mut Formatter<W>) -> fmt::Result {
+        let (name, number) = (self.name(), self.who.number);
+        write!(f, "{name} {number}")
+    }
+}
+
+impl Event for Visit {
+    fn level(&self) -> Level {
+        match self.happening {
+            Happening::Connected | Happening::LoggedIn | Happening::FirstByte => Level::Info,
+            Happening::Ended(departure) => level_of(departure),
+        }
+    }
+
+    fn name(&self) -> &'static str {
+        match self.happening {
+            Happening::Connected => "client_connected",
+            Happening::LoggedIn => "client_logged_in",
+            Happening::FirstByte => "client_first_byte",
+            Happening::Ended(_) => "client_ended",
+        }
+    }
+
+    fn write_fields<W: fmt::Write>(&self, f: &mut Formatter<W>, form: LogForm) -> fmt::Result {
+        write_number(f, form, "number", self.who.number)?;
+        write_shown(f, form, "address", &self.who.address)?;
+        if let Some(user) = &self.who.user {
+            write_text(f, form, "user", user.text())?;
+        }
+        match self.happening {
+            Happening::Connected => Ok(()),
+            Happening::LoggedIn | Happening::FirstByte => {
+                write_seconds(f, form, "seconds", self.passed_ms)
+            }
+            Happening::Ended(departure) => {
+                write_number(f, form, "bytes", self.who.sent)?;
+                write_seconds(f, form, "seconds", self.passed_ms)?;
+                write_departure(f, form, departure)
+            }
+        }
+    }
+}
+
+fn level_of(departure: Departure) -> Level {
+    match departure {
+        Departure::Answered { .. } | Departure::Played { .. } | Departure::Left => Level::Info,
+        _ => Level::Warn,
+    }
+}
+
+// Writes how a connection ended, and a number or a code with it.
+fn write_departure<W: fmt::Write>(
+    f: &mut Formatter<W>,
+    form: LogForm,
+    departure: Departure,
+) -> fmt::Result {
+    write_text(f, form, "reason", reason_of(departure))?;
+    match departure {
+        Departure::Answered { next, .. } => write_number(f, form, "next", next),
+        Departure::Played { from, .. } => write_number(f, form, "from", from),
+        Departure::Rejected(code) => write_letter(f, form, "code", code),
+        _ => Ok(()),
+    }
+}
+
+fn reason_of(departure: Departure) -> &'static str {
+    match departure {
+        Departure::Answered { .. } => "answered",
+        Departure::Played { .. } => "played",
+        Departure::Rejected(_) => "rejected",
+        Departure::Left => "left",
+        Departure::Fault => "fault",
+        Departure::CutOff => "cut off",
+        Departure::Slowest => "slowest",
+    }
+}

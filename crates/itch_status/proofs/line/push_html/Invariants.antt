@@ -1,0 +1,12 @@
+use Rattle.std.proofs.Common.{◌≡◌, ◌≤◌, ◌++◌, ◌+◌, ◌*◌, take}
+use Rattle.std.specs.List.{flat_map}
+use Rattle.arrayvec.specs.ArrayVec.{array_vec_len}
+use Rattle.itch_status.specs.Texts.{html_escaped}
+use Rattle.itch_status.proofs.line.push_html.Given as goal
+
+abbrev pub invariant-loop-byte : goal.invariant-loop-byte
+invariant-loop-byte g l =
+    record {
+      items : l.line.items ≡ l.fn.line.items ++ flat_map html_escaped (take l.byte-index l.bytes);
+      len : array_vec_len l.line ≤ array_vec_len l.fn.line + 5 * l.byte-index;
+    }

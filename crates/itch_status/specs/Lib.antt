@@ -1,0 +1,14 @@
+pub mod ChartTexts
+pub mod FigureTables
+pub mod HtmlTexts
+pub mod JsonTexts
+pub mod MetricTexts
+pub mod Pages
+pub mod PlainTexts
+pub mod Rates
+pub mod Readings
+pub mod Requests
+pub mod Responses
+pub mod States
+pub mod Texts
+pub mod Times

@@ -1,0 +1,26 @@
+-- What the beginning of a connection is answered, by the grammar of requests.
+use Rattle.std.specs.Prelude.{◌≡◌, ℕ, ◌<◌, ◌≤◌, ◌⊎◌, true, false, List, length}
+use Rattle.httparse.specs.Grammar.{RequestHead, ReadsRequest, HasNoRequest, NeverHasRequest, MayBecomeRequest}
+use Rattle.httparse.specs.Spans.{RequestExceeds}
+use Rattle.itch_status.specs.Pages.{answer_of}
+use Rattle.itch_status.specs.declared.refusal.Refusal.TheVariants as refusal
+use Rattle.itch_status.specs.declared.request.Answer.{Answer}
+use Rattle.itch_status.specs.declared.request.Answer.TheVariants as answer
+
+-- the bytes begin with a head that is answered so
+abbrev pub IsAnswered : List ℕ → Answer → Type 0
+IsAnswered bytes given = (head : RequestHead) × (rest : List ℕ) × ReadsRequest bytes head rest × (answer_of head ≡ given)
+
+-- More is to come while there is no head and one may still come, within 8 KiB. Bytes are bad where none can come, and too large where none has come in
+-- 8 KiB, or one has more than 64 fields. Otherwise the answer is that of the head.
+abbrev pub Answers : List ℕ → Answer → Type 0
+Answers bytes answer.More = (length bytes < 8192) × HasNoRequest bytes × MayBecomeRequest bytes
+Answers bytes (answer.Refused refusal.BadRequest true) = NeverHasRequest bytes
+Answers bytes (answer.Refused refusal.TooLarge true) = ((8192 ≤ length bytes) × HasNoRequest bytes) ⊎ RequestExceeds 64 bytes
+Answers bytes (answer.Refused refusal.NotFound body) = IsAnswered bytes (answer.Refused refusal.NotFound body)
+Answers bytes (answer.Refused refusal.MethodNotAllowed true) = IsAnswered bytes (answer.Refused refusal.MethodNotAllowed true)
+Answers bytes (answer.Refused refusal.TimedOut body) = ⊥
+Answers bytes (answer.Refused refusal.BadRequest false) = ⊥
+Answers bytes (answer.Refused refusal.TooLarge false) = ⊥
+Answers bytes (answer.Refused refusal.MethodNotAllowed false) = ⊥
+Answers bytes (answer.Page page body) = IsAnswered bytes (answer.Page page body)

@@ -1,0 +1,64 @@
+//! Why a feed is not followed.
+ghost use Rattle.std.specs.Prelude.{◌≡◌, ◌≤◌, length};
+ghost use Rattle.itch_status.specs.States.{cause_words};
+
+/// Why the last connection to a feed ended, or was not made.
+#[derive(Clone, Copy, Debug, PartialEq, Eq)]
+pub enum Cause {
+    /// No address was found for the server's name.
+    NotFound,
+    /// The server's machine refused the connection.
+    Refused,
+    /// There is no way to the server.
+    Unreachable,
+    /// The server reset the connection.
+    Reset,
+    /// The system gave up the connection.
+    TimedOut,
+    /// The server closed the connection, or ended its session before any message.
+    Closed,
+    /// The server sent nothing for 15 seconds.
+    Silent,
+    /// Another call of the system failed.
+    Failed,
+    /// The user name or the password is wrong.
+    WrongLogin,
+    /// The server does not have the session or the message.
+    NoSession,
+    /// The server rejected the login with another code.
+    Rejected,
+    /// The server accepted the login in another session.
+    OtherSession,
+    /// The server begins with a later message than the next one.
+    Gap,
+    /// Memory was refused for a message.
+    NoMemory,
+    /// The server broke the protocol.
+    Broken,
+}
+
+impl Cause {
+    /// The cause in words.
+    pub fn words(self) -> &'static str
+        ensures words { result.now ≡ cause_words self }
+        ensures short { length result.now ≤ 20 }
+    {
+        match self {
+            Cause::NotFound => "not found",
+            Cause::Refused => "refused",
+            Cause::Unreachable => "unreachable",
+            Cause::Reset => "reset",
+            Cause::TimedOut => "timed out",
+            Cause::Closed => "closed by the server",
+            Cause::Silent => "silent",
+            Cause::Failed => "socket failed",
+            Cause::WrongLogin => "rejected A",
+            Cause::NoSession => "rejected S",
+            Cause::Rejected => "rejected",
+            Cause::OtherSession => "in another session",
+            Cause::Gap => "gap",
+            Cause::NoMemory => "out of memory",
+            Cause::Broken => "broke the protocol",
+        }
+    }
+}

@@ -1,0 +1,112 @@
+//! The figures of a live server.
+ghost use Rattle.std.specs.Prelude.{◌≡◌, None};
+ghost use Rattle.itch_status.specs.declared.state.FeedState.TheVariants.{Connecting};
+ghost use Rattle.itch_status.specs.FigureTables.{is_ready, record_length, record_unsynced};
+
+use crate::cause::Cause;
+use crate::rate::Minute;
+use crate::state::FeedState;
+use itch_codec::Alpha;
+
+/// What a live server knows of itself at one moment.
+#[derive(Clone, Copy, Debug, PartialEq, Eq)]
+pub struct Figures {
+    pub state: FeedState,
+    /// Why the feed is not followed, where that is known.
+    pub cause: Option<Cause>,
+    /// The feed's session, once it is known.
+    pub session: Option<Alpha<10>>,
+    /// The number of the next message, once there is a market.
+    pub next: Option<u64>,
+    /// The messages that were received since the start, and in the last minute.
+    pub messages: u64,
+    pub minute: Minute,
+    /// The timestamp of the last message, in nanoseconds since midnight, and how long ago it was received.
+    pub market_ns: Option<u64>,
+    pub silence_ms: Option<u64>,
+    /// Which of the feed's servers is used, from 1, and how often a connection to one was lost, or was not made.
+    pub server: u64,
+    pub losses: u64,
+    /// The connections so far, those that have not logged in yet, the clients that wait for a snapshot, those that are sent one, and the
+    /// slots for both.
+    pub connections: u64,
+    pub opening: u64,
+    pub waiting: u64,
+    pub served: u64,
+    pub slots: u64,
+    /// The snapshots that were encoded, the bytes of those in use, and the bytes that clients were sent.
+    pub encoded: u64,
+    pub kept: u64,
+    pub sent: u64,
+    /// None where messages are not recorded.
+    pub recorded: Option<Recorded>,
+    /// How many messages the newest snapshot file has, if one was written, and how many files could not be written.
+    pub saved: Option<u64>,
+    pub missed: u64,
+    /// The lines of the log that could not be written.
+    pub lines_lost: u64,
+    /// How long ago the server started.
+    pub uptime_ms: u64,
+}
+
+/// A record: its bytes, and those that are not known to be on disk.
+#[derive(Clone, Copy, Debug, PartialEq, Eq)]
+pub struct Recorded {
+    pub length: u64,
+    pub unsynced: u64,
+}
+
+impl Figures {
+    /// Those of a server that has just begun: all are 0, or none.
+    pub fn new() -> Figures
+        ensures state { result.state ≡ Connecting }
+        ensures next { result.next ≡ None }
+    {
+        Figures {
+            state: FeedState::Connecting,
+            cause: None,
+            session: None,
+            server: 1,
+            losses: 0,
+            next: None,
+            messages: 0,
+            minute: Minute::new(),
+            market_ns: None,
+            silence_ms: None,
+            connections: 0,
+            opening: 0,
+            waiting: 0,
+            served: 0,
+            slots: 0,
+            encoded: 0,
+            kept: 0,
+            sent: 0,
+            recorded: None,
+            saved: None,
+            missed: 0,
+            lines_lost: 0,
+            uptime_ms: 0,
+        }
+    }
+
+    /// Whether a client that logs in now is served the feed's market: there is one, and the feed is followed, or has ended.
+    pub fn is_ready(&self) -> bool
+        ensures { result ≡ is_ready self.now }
+    {
+        self.next.is_some() && matches!(self.state, FeedState::Following | FeedState::Ended)
+    }
+
+    /// The bytes of the record, if there is one.
+    pub fn record_length(&self) -> Option<u64>
+        ensures { result ≡ record_length self.now }
+    {
+        Some(self.recorded?.length)
+    }
+
+    /// Its bytes that are not known to be on disk.
+    pub fn record_unsynced(&self) -> Option<u64>
+        ensures { result ≡ record_unsynced self.now }
+    {
+        Some(self.recorded?.unsynced)
+    }
+}

@@ -1,0 +1,38 @@
+//! The status of a live server over HTTP/1.1: which page a request asks for, and the bytes of each answer as a function of the server's figures.
+//!
+//! Nothing here has a socket or a clock. [`answer_to`] reads a request, [`respond`] makes the response to it from [`Figures`], and
+//! [`Minute`] counts messages per second. Requests are those of the grammar of `httparse`.
+#![tactic(auto)]
+
+mod cause;
+mod chart;
+mod figure;
+mod figures;
+mod html;
+mod json;
+mod line;
+mod lines;
+mod metrics;
+mod page;
+mod plain;
+mod rate;
+mod reading;
+mod refusal;
+mod request;
+mod response;
+mod shown;
+mod state;
+mod tally;
+mod time;
+
+pub use cause::Cause;
+pub use figures::{Figures, Recorded};
+pub use page::{Page, page_of};
+pub use rate::{Minute, SECONDS};
+pub use reading::{body_of, is_ready};
+pub use refusal::Refusal;
+pub use request::{Answer, LONGEST, answer_to, refused};
+pub use response::{refuse, respond};
+pub use state::FeedState;
+pub use tally::Tally;
+pub use time::{UTC, utc};

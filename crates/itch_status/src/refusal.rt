@@ -1,0 +1,35 @@
+//! Requests that are not answered with a page.
+ghost use Rattle.std.specs.Prelude.{◌≡◌};
+ghost use Rattle.itch_status.specs.Responses.{refusal_code};
+
+use http::StatusCode;
+
+/// Why a request is not answered with a page.
+#[derive(Clone, Copy, Debug, PartialEq, Eq)]
+pub enum Refusal {
+    /// It is not a request of HTTP/1.1 or 1.0.
+    BadRequest,
+    /// There is no page at its path.
+    NotFound,
+    /// It is neither a GET nor a HEAD.
+    MethodNotAllowed,
+    /// It was not complete in time.
+    TimedOut,
+    /// It is longer than 8 KiB, or has more than 64 fields.
+    TooLarge,
+}
+
+impl Refusal {
+    /// The status code of the response.
+    pub fn code(self) -> StatusCode
+        ensures { result ≡ refusal_code self }
+    {
+        match self {
+            Refusal::BadRequest => StatusCode::BAD_REQUEST,
+            Refusal::NotFound => StatusCode::NOT_FOUND,
+            Refusal::MethodNotAllowed => StatusCode::METHOD_NOT_ALLOWED,
+            Refusal::TimedOut => StatusCode::REQUEST_TIMEOUT,
+            Refusal::TooLarge => StatusCode::REQUEST_HEADER_FIELDS_TOO_LARGE,
+        }
+    }
+}

@@ -1,0 +1,75 @@
+//! What a request is answered, as far as it has come.
+ghost use Rattle.std.specs.Prelude.{◌≡◌};
+ghost use Rattle.itch_status.specs.Pages.{method_answer, page_answer, refused};
+ghost use Rattle.itch_status.specs.Requests.{Answers};
+
+use crate::page::{Page, page_of};
+use crate::refusal::Refusal;
+use httparse::spans::{EMPTY_HEADER_SPAN, parse_request};
+use httparse::{Error, Status};
+
+/// The most bytes of a request that are read.
+pub const LONGEST: usize = 8_192;
+
+/// The most fields that its head may have.
+const MOST_FIELDS: usize = 64;
+
+/// What a request is answered.
+#[derive(Clone, Copy, Debug, PartialEq, Eq)]
+pub enum Answer {
+    /// Nothing yet: its head is not complete.
+    More,
+    /// This page, with its body, or without it for HEAD.
+    Page { page: Page, has_body: bool },
+    /// No page, with a body that says so, or without it for HEAD.
+    Refused { refusal: Refusal, has_body: bool },
+}
+
+/// This refusal, with a body.
+pub fn refused(refusal: Refusal) -> Answer
+    ensures { result ≡ refused refusal }
+{
+    Answer::Refused {
+        refusal,
+        has_body: true,
+    }
+}
+
+/// What the request that these bytes begin with is answered. What follows its head is not looked at.
+pub fn answer_to(bytes: &[u8]) -> Answer
+    ensures { Answers bytes.now result }
+{
+    let mut fields = [EMPTY_HEADER_SPAN; MOST_FIELDS];
+    match parse_request(bytes, &mut fields) {
+        Ok(Status::Complete(head)) => answer_of(head.method.of(bytes), head.path.of(bytes)),
+        Ok(Status::Partial) if bytes.len() >= LONGEST => refused(Refusal::TooLarge),
+        Ok(Status::Partial) => Answer::More,
+        Err(Error::TooManyHeaders) => refused(Refusal::TooLarge),
+        Err(_) => refused(Refusal::BadRequest),
+    }
+}
+
+// What a request with this method and this target is answered.
+fn answer_of(method: &[u8], target: &[u8]) -> Answer
+    ensures { result ≡ method_answer method.now target.now }
+{
+    if method == b"GET".as_slice() {
+        page_answer(true, page_of(target))
+    } else if method == b"HEAD".as_slice() {
+        page_answer(false, page_of(target))
+    } else {
+        refused(Refusal::MethodNotAllowed)
+    }
+}
+
+fn page_answer(has_body: bool, page: Option<Page>) -> Answer
+    ensures { result ≡ page_answer has_body page }
+{
+    match page {
+        Some(page) => Answer::Page { page, has_body },
+        None => Answer::Refused {
+            refusal: Refusal::NotFound,
+            has_body,
+        },
+    }
+}

@@ -1,0 +1,205 @@
+//! What a live server opens, and waits for, before its first turn.
+
+use super::client_side::ClientSide;
+use super::day::Day;
+use super::{Accounts, FEED, LISTENER, Server, Serving};
+use crate::opened::{Begun, follower_of, listen, open_files, open_status};
+use crate::question::nameless_follower;
+use crate::start::Start;
+use itch_book::OrderBook;
+use itch_codec::Alpha;
+use itch_join::Joiner;
+use itch_live::{Desk, Follower};
+use itch_records::{DayBegun, DayPaths, LiveFault, RecordPlace, stem_of};
+use itch_sessions::log::Log;
+use itch_sessions::sessions::{Login, current_session};
+use itch_sessions::{Callers, Logins, Servers, SessionFault};
+use std::alloc::{AllocError, Global};
+use std::fs::File;
+use std::net::Net;
+use std::rt::{Clock, Files};
+use std::str;
+
+/// Opens what a server works on, and waits until the session of its feed is known. Its paths are known as soon as that is.
+pub(super) fn opened<'r, 'a, R, B: OrderBook<Alloc = Global>>(
+    rt: &'r R,
+    servers: Servers<'a>,
+    serving: &'a Serving<'a>,
+    accounts: Accounts<'a>,
+    paths: &mut DayPaths,
+) -> Result<Server<'r, 'a, R, B>, LiveFault>
+where
+    R: Net + Clock + Files<File = File> + Eprint + AllocGlobal,
+{
+    let mut log = Log::new(rt, serving.log)?;
+    let Accounts { users, own } = accounts;
+    let login = own.first();
+    let known: Option<Begun<B>> = if serving.has_days() && serving.session.is_none() {
+        None
+    } else {
+        Some(open_day(&mut log, serving, serving.session, paths)?)
+    };
+    let mut start = Start::new(rt, log, servers, own, serving.glimpse_session, FEED)?;
+    open_status(serving, &mut start)?;
+    let callers = listen(rt, &mut start, serving.address, LISTENER)?;
+    let begun = match known {
+        Some(begun) => begun,
+        None => open_found(&mut start, serving, &login, paths)?,
+    };
+    begin(rt.alloc(), serving, users, &login, start, callers, begun)
+}
+
+// Waits until the session of the feed is known. What a server works on is open.
+fn begin<'r, 'a, R, B: OrderBook<Alloc = Global>>(
+    alloc: Global,
+    serving: &'a Serving<'a>,
+    users: Logins<'a>,
+    login: &Login,
+    start: Start<'r, 'a, R>,
+    callers: Callers,
+    begun: Begun<B>,
+) -> Result<Server<'r, 'a, R, B>, LiveFault>
+where
+    R: Net + Clock + Files<File = File> + Eprint + AllocGlobal,
+{
+    let mut start = start;
+    let Begun {
+        files,
+        joiner,
+        session,
+    } = begun;
+    start.note_record(&files.record);
+    let mut follower = follower_of(alloc, serving, login, session, joiner)?;
+    session_of(&mut start, &mut follower)?;
+    let session = follower.session().unwrap_or(current_session());
+    let client_side = ClientSide::new(alloc, serving, users, callers, session)?;
+    let day = Day::new(files, follower.next());
+    let desk = Desk::new(alloc, follower, serving.clients)?;
+    Ok(server_of(serving, start, desk, client_side, day))
+}
+
+/// Opens the files of a day, which is said where each session has its own.
+pub(super) fn open_day<R, B: OrderBook<Alloc = Global>>(
+    log: &mut Log<'_, R>,
+    serving: &Serving<'_>,
+    session: Option<Alpha<10>>,
+    paths: &mut DayPaths,
+) -> Result<Begun<B>, LiveFault>
+where
+    R: Net + Clock + Files<File = File> + Eprint + AllocGlobal,
+{
+    let alloc = log.runtime().alloc();
+    *paths = paths_of(alloc, serving, session.as_ref())?;
+    let begun = open_files(log, serving, paths, session)?;
+    if serving.has_days() {
+        say_begun(log, &begun, paths);
+    }
+    Ok(begun)
+}
+
+// Says which session begins, and where it is recorded.
+fn say_begun<R: Clock + Eprint, B: OrderBook>(
+    log: &mut Log<'_, R>,
+    begun: &Begun<B>,
+    paths: &DayPaths,
+) {
+    let Some(session) = begun.session else {
+        return;
+    };
+    if let Some(record) = &paths.record {
+        let record = record.as_str();
+        log.say(&DayBegun { session, record });
+    }
+}
+
+// Opens the files of the day whose session the feed names. The feed is followed in a connection of its own from then on.
+fn open_found<R, B: OrderBook<Alloc = Global>>(
+    start: &mut Start<'_, '_, R>,
+    serving: &Serving<'_>,
+    login: &Login,
+    paths: &mut DayPaths,
+) -> Result<Begun<B>, LiveFault>
+where
+    R: Net + Clock + Files<File = File> + Eprint + AllocGlobal,
+{
+    let alloc = start.log.runtime().alloc();
+    let joiner: Joiner<B> = Joiner::new(alloc, 0);
+    let credentials = login.credentials(current_session());
+    let mut follower = nameless_follower(alloc, &credentials, joiner)?;
+    let session = session_of(start, &mut follower)?;
+    start.feed.begin_day(0);
+    open_day(&mut start.log, serving, Some(session), paths)
+}
+
+// The session that a feed names.
+fn session_of<R, B: OrderBook<Alloc = Global>>(
+    start: &mut Start<'_, '_, R>,
+    follower: &mut Follower<B>,
+) -> Result<Alpha<10>, LiveFault>
+where
+    R: Net + Clock + Files<File = File> + Eprint + AllocGlobal,
+{
+    match start.find_session(follower)? {
+        Some(session) => Ok(session),
+        None => Err(LiveFault::Session(SessionFault::TooMany)),
+    }
+}
+
+// A server that begins with this. Its paths are set by its caller.
+fn server_of<'r, 'a, R: Clock, B: OrderBook>(
+    serving: &'a Serving<'a>,
+    start: Start<'r, 'a, R>,
+    desk: Desk<B>,
+    client_side: ClientSide<'a>,
+    day: Day,
+) -> Server<'r, 'a, R, B> {
+    let Start {
+        log,
+        turns,
+        feed,
+        token: _,
+        spare,
+        status,
+        figures: _,
+    } = start;
+    Server {
+        serving,
+        log,
+        turns,
+        spare,
+        status,
+        feed,
+        desk,
+        client_side,
+        paths: DayPaths::none(),
+        day,
+        scout: None,
+    }
+}
+
+// The paths of a session's files: where each session has files of its own, these are named after it.
+fn paths_of(
+    alloc: Global,
+    serving: &Serving<'_>,
+    session: Option<&Alpha<10>>,
+) -> Result<DayPaths, AllocError> {
+    let stem = match session {
+        Some(session) => stem_of(alloc, session)?,
+        None => stem_of(alloc, &current_session())?,
+    };
+    let stem = str::from_utf8(&stem).unwrap_or("");
+    let record = match serving.place() {
+        Some(RecordPlace::File(path)) => Some(String::from_str(alloc, path)?),
+        Some(RecordPlace::Folder(folder)) => Some(format!(in alloc; "{folder}/{stem}.itch")?),
+        None => None,
+    };
+    let snapshots = match serving.snapshots {
+        Some(words) if serving.has_days() => {
+            let folder = words.folder;
+            Some(format!(in alloc; "{folder}/{stem}")?)
+        }
+        Some(words) => Some(String::from_str(alloc, words.folder)?),
+        None => None,
+    };
+    Ok(DayPaths { record, snapshots })
+}

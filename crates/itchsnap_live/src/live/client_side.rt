@@ -1,0 +1,163 @@
+//! Who calls a live server, and who is served.
+
+use super::{FIRST_CLIENT, Serving};
+use itch_book::OrderBook;
+use itch_clients::{Budget, Clients, Reception, SnapshotRoom};
+use itch_codec::{Alpha, Seq};
+use itch_live::Desk;
+use itch_sessions::{Callers, Logins, Spare};
+use mio::Registry;
+use mio::event::Event;
+use std::alloc::{AllocError, Global};
+use std::fs::File;
+use std::rt::Files;
+
+/// The clients of a live server, who may become one, and how much of the time their snapshots may take.
+#[derive(Drop)]
+pub(super) struct ClientSide<'a> {
+    pub users: Logins<'a>,
+    pub callers: Callers,
+    pub reception: Reception,
+    pub clients: Clients,
+    pub budget: Budget,
+}
+
+impl<'a> ClientSide<'a> {
+    /// Nobody yet. Logins are to this session.
+    pub(super) fn new(
+        alloc: Global,
+        serving: &Serving<'_>,
+        users: Logins<'a>,
+        callers: Callers,
+        session: Alpha<10>,
+    ) -> Result<ClientSide<'a>, AllocError> {
+        let first_token = FIRST_CLIENT.saturating_add(serving.clients);
+        let reception = Reception::new(alloc, session, Seq::new(1).unwrap(), first_token)?;
+        Ok(ClientSide {
+            users,
+            callers,
+            reception,
+            clients: free_places(alloc, serving)?,
+            budget: Budget::new(),
+        })
+    }
+
+    /// Whether nobody is there.
+    pub(super) fn is_empty(&self) -> bool {
+        self.clients.is_empty() && self.reception.is_empty()
+    }
+
+    /// Whether nobody is there whose login was right.
+    pub(super) fn has_no_client(&self) -> bool {
+        let (_opening, ready) = self.reception.counts();
+        self.clients.is_empty() && ready == 0
+    }
+
+    /// Whether there is something to read or to write before anything else is ready.
+    pub(super) fn is_busy<B: OrderBook>(&self, desk: &Desk<B>) -> bool {
+        self.clients.is_busy(desk) || self.reception.is_busy()
+    }
+
+    /// Takes note that the socket of this number is ready: that of a client, if the number is below those of the reception.
+    pub(super) fn note(&mut self, token: usize, is_client: bool, event: &Event) {
+        if is_client {
+            self.clients.note(token, event);
+        } else {
+            self.reception.note(token, event);
+        }
+    }
+
+    /// Accepts those who call.
+    pub(super) fn accept<R: Files<File = File>>(
+        &mut self,
+        rt: &R,
+        spare: &mut Spare,
+        registry: &Registry,
+        now_ms: u64,
+    ) {
+        self.reception
+            .accept(rt, &mut self.callers, spare, registry, now_ms);
+    }
+
+    /// Hands on what was said, and gives places to those who have logged in.
+    pub(super) fn hear<B: OrderBook>(
+        &mut self,
+        registry: &Registry,
+        desk: &mut Desk<B>,
+        now_ms: u64,
+    ) {
+        self.reception
+            .turn(self.users.list(), now_ms, self.clients.buffer());
+        self.clients
+            .seat(&mut self.reception, registry, desk, now_ms);
+        self.clients.hear(desk, now_ms);
+    }
+
+    /// Whether a snapshot may be encoded now for somebody who waits. `reads` says whether the feed has more to read.
+    pub(super) fn may_answer<B: OrderBook>(
+        &mut self,
+        desk: &Desk<B>,
+        reads: bool,
+        now_ms: u64,
+    ) -> bool {
+        if !self.clients.somebody_waits(desk) {
+            return false;
+        }
+        let idle = !reads && !self.clients.is_telling(desk);
+        self.budget.allows(now_ms, idle)
+    }
+
+    /// Takes note of how long the snapshot took, and makes room for those who still wait.
+    pub(super) fn spend<B: OrderBook>(
+        &mut self,
+        desk: &mut Desk<B>,
+        begun_ms: u64,
+        ended_ms: u64,
+        now_ms: u64,
+    ) {
+        self.budget.spend(begun_ms, ended_ms);
+        self.clients.make_room(&mut self.reception, desk, now_ms);
+    }
+
+    /// Writes what is pending, and closes the connections that are over.
+    pub(super) fn tell<B: OrderBook>(
+        &mut self,
+        registry: &Registry,
+        desk: &mut Desk<B>,
+        now_ms: u64,
+    ) {
+        self.clients.tell(&mut self.reception, desk, now_ms);
+        self.clients
+            .close(&mut self.reception, registry, desk, now_ms);
+    }
+
+    /// Cuts off all whose login was right: the session that they logged in to is over.
+    pub(super) fn cut_off<B: OrderBook>(&mut self, desk: &mut Desk<B>) {
+        self.clients.cut_off(&mut self.reception, desk);
+        self.reception.cut_off_ready();
+    }
+
+    /// Begins a session, with nobody at the places.
+    pub(super) fn begin_day(
+        &mut self,
+        alloc: Global,
+        serving: &Serving<'_>,
+        session: Alpha<10>,
+    ) -> Result<(), AllocError> {
+        self.clients = free_places(alloc, serving)?;
+        self.reception.begin(session);
+        Ok(())
+    }
+}
+
+// Free places for clients, with nobody at them.
+fn free_places(alloc: Global, serving: &Serving<'_>) -> Result<Clients, AllocError> {
+    let room = SnapshotRoom::new(serving.snapshot_memory);
+    Clients::new(
+        alloc,
+        serving.clients,
+        serving.clients_per_address,
+        room,
+        FIRST_CLIENT,
+    )
+}

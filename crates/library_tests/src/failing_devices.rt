@@ -1,6 +1,0 @@
-//! Devices that fail: each read and each write failing in turn, in pieces that cut every block.
-//!
-//! What was read before a failed read is kept, so that a call may go on; before a failed write exactly a beginning was written.
-mod replays;
-mod sessions;
-mod snapshots;

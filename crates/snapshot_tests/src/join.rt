@@ -1,0 +1,328 @@
+//! Joins by what their calls return and the markets that they lead to. The helpers take a joiner over any book.
+use crate::equal::{Host, TestResult, same, same_in, same_words};
+use itch_book::{IndexedBook, ListBook, OrderBook};
+use itch_codec::{CodecFault, Message, encode};
+use itch_join::{Cause, JoinFault, Joiner, Live, Snap, laws};
+use itch_market::{Market, Refusal};
+use itch_snapshot::SnapshotIter;
+use std::alloc::{AllocError, Global};
+use test_doubles::payloads::*;
+
+mod refused_memory;
+mod restricted;
+mod sink;
+
+// The snapshot of the messages before the sixth, without its End of Snapshot.
+const BEFORE_6: &[&[u8]] = &[EVENT, AAPL, ADD_1, ADD_2, SELL_3];
+
+// A joiner for which `cap` messages may wait. This helper and those of one call and its result have no contract, so that a proof of
+// a test need not carry what each call leaves.
+fn joiner<B: OrderBook>(memory: B::Alloc, cap: usize) -> Joiner<B> {
+    Joiner::new(memory, cap)
+}
+
+fn live<B: OrderBook>(
+    rt: &impl Host,
+    joiner: &mut Joiner<B>,
+    number: u64,
+    payload: &[u8],
+    want: Result<Live, JoinFault>,
+) {
+    same_in(rt, ("message", number), joiner.live(number, payload), want);
+}
+
+fn snapshot<B: OrderBook>(
+    rt: &impl Host,
+    joiner: &mut Joiner<B>,
+    payload: &[u8],
+    want: Result<Snap, JoinFault>,
+) {
+    same(rt, joiner.snapshot(payload), want);
+}
+
+// The number that comes next, which there is once there is a market, and how many messages wait.
+fn stands<B: OrderBook>(rt: &impl Host, joiner: &Joiner<B>, next: Option<u64>, waiting: usize) {
+    same(rt, joiner.next(), next);
+    same(rt, joiner.market().is_some(), next.is_some());
+    same(rt, joiner.waiting(), waiting);
+}
+
+// Takes messages of a snapshot, which none of them ends.
+fn read<B: OrderBook>(rt: &impl Host, joiner: &mut Joiner<B>, payloads: &[&[u8]]) {
+    for payload in payloads {
+        snapshot(rt, joiner, payload, Ok(Snap::More));
+    }
+}
+
+// The payloads of a market's snapshot, one after another.
+fn spelled<B: OrderBook>(alloc: Global, market: &Market<B>) -> Result<Vec<u8>, AllocError> {
+    let mut bytes = Vec::new(alloc);
+    for message in SnapshotIter::new(market) {
+        push(&mut bytes, &message)?;
+    }
+    Ok(bytes)
+}
+
+fn push(bytes: &mut Vec<u8>, message: &Message<'_>) -> Result<(), AllocError> {
+    bytes.extend_from_slice(encode(message).bytes())
+}
+
+// The snapshot of the joiner's market has these messages.
+fn check_market<B: OrderBook>(rt: &impl Host, joiner: &Joiner<B>, want: &[&[u8]]) -> TestResult {
+    let market = joiner.market().ok_or("a market")?;
+    let found = spelled(rt.alloc(), market)?;
+    let mut bytes = Vec::new(rt.alloc());
+    for payload in want {
+        bytes.extend_from_slice(payload)?;
+    }
+    same(rt, found.as_slice(), bytes.as_slice());
+    Ok(())
+}
+
+// A call of a joiner with its result, or what it holds by then.
+#[derive(Clone, Copy)]
+enum Step<'a> {
+    Live(u64, &'a [u8], Result<Live, JoinFault>),
+    Snapshot(&'a [u8], Result<Snap, JoinFault>),
+    // Messages of a snapshot, none of which ends it.
+    Read(&'a [&'a [u8]]),
+    Resume(Result<Option<u64>, JoinFault>),
+    Restart,
+    // The number that comes next, if there is a market, and how many messages wait.
+    Stands(Option<u64>, usize),
+    Waiting(usize),
+    // The snapshot of the market has these messages.
+    Market(&'a [&'a [u8]]),
+}
+
+fn take_step<B: OrderBook>(rt: &impl Host, joiner: &mut Joiner<B>, step: Step<'_>) -> TestResult {
+    match step {
+        Step::Live(number, payload, want) => live(rt, joiner, number, payload, want),
+        Step::Snapshot(payload, want) => snapshot(rt, joiner, payload, want),
+        Step::Read(payloads) => read(rt, joiner, payloads),
+        Step::Resume(want) => same(rt, joiner.resume(), want),
+        Step::Restart => joiner.restart(),
+        Step::Stands(next, waiting) => stands(rt, joiner, next, waiting),
+        Step::Waiting(want) => same(rt, joiner.waiting(), want),
+        Step::Market(want) => check_market(rt, joiner, want)?,
+    }
+    Ok(())
+}
+
+fn take_steps<B: OrderBook>(
+    rt: &impl Host,
+    joiner: &mut Joiner<B>,
+    steps: &[Step<'_>],
+) -> TestResult {
+    for step in steps {
+        take_step(rt, joiner, *step)?;
+    }
+    Ok(())
+}
+
+// A joiner for which `cap` messages may wait takes these steps.
+fn check<B: OrderBook>(
+    rt: &impl Host,
+    memory: B::Alloc,
+    cap: usize,
+    steps: &[Step<'_>],
+) -> TestResult {
+    let mut joiner: Joiner<B> = joiner(memory, cap);
+    take_steps(rt, &mut joiner, steps)
+}
+
+// The program's joiner takes these steps.
+fn check_indexed(rt: &impl Host, cap: usize, steps: &[Step<'_>]) -> TestResult {
+    check::<IndexedBook>(rt, rt.alloc(), cap, steps)
+}
+
+// Messages 7 and 8 come before the snapshot of the first five, and 9 when there is room for it.
+const JOINS_LATE: &[Step<'static>] = &[
+    Step::Live(8, DELETE_3, Ok(Live::Kept)),
+    Step::Live(7, REPLACE_1_BY_4, Ok(Live::Kept)),
+    Step::Live(9, NAMED_5, Err(JoinFault::Full { cap: 2 })),
+    Step::Read(BEFORE_6),
+    Step::Stands(None, 2),
+    Step::Resume(Ok(None)),
+    Step::Snapshot(END_6, Ok(Snap::Joined { next: 6 })),
+    Step::Live(6, EXECUTE_1, Ok(Live::Applied { next: 9 })),
+    Step::Live(6, EXECUTE_1, Ok(Live::Old)),
+    Step::Live(9, NAMED_5, Ok(Live::Applied { next: 10 })),
+    Step::Stands(Some(10), 0),
+    Step::Market(&[EVENT, AAPL, ADD_2, ADD_4, NAMED_5]),
+];
+
+#[test]
+fn joins_late(rt: HostRuntime) -> TestResult {
+    check::<IndexedBook>(&rt, rt.alloc(), 2, JOINS_LATE)?;
+    check::<ListBook>(&rt, rt.alloc(), 2, JOINS_LATE)
+}
+
+#[test]
+fn the_laws_of_joins() {
+    laws::lawful_market();
+    laws::late_joiner();
+    laws::at_most_cap_wait();
+    laws::last_result();
+    laws::snapshot_of_feed();
+    laws::whole_feed();
+    laws::restricted_feed();
+    laws::snapshot_for_a_set();
+    laws::any_snapshot_for_a_set();
+}
+
+// The snapshot of the first two messages.
+const READ_2: Step<'static> = Step::Read(&[EVENT, AAPL]);
+
+const JOINED_AT_3: Step<'static> = Step::Snapshot(END_3, Ok(Snap::Joined { next: 3 }));
+
+#[test]
+fn a_refused_message_halts_for_good(rt: HostRuntime) -> TestResult {
+    let halted = JoinFault::Halted {
+        number: 3,
+        cause: Cause::Rule(Refusal::UnknownLocate),
+    };
+    let steps = [
+        READ_2,
+        JOINED_AT_3,
+        Step::Live(4, ADD_2, Ok(Live::Kept)),
+        Step::Live(3, ADD_1_AT_9, Err(halted)),
+        Step::Live(3, ADD_1, Err(halted)),
+        Step::Live(0, ADD_1, Err(halted)),
+        Step::Live(1, EVENT, Err(halted)),
+        Step::Snapshot(END_3, Err(halted)),
+        Step::Resume(Err(halted)),
+        Step::Restart,
+        Step::Resume(Err(halted)),
+        Step::Stands(Some(3), 1),
+        Step::Market(&[EVENT, AAPL]),
+    ];
+    check_indexed(&rt, 1, &steps)
+}
+
+// The message that is refused waits, and one before it is delivered.
+#[test]
+fn a_waiting_message_halts(rt: HostRuntime) -> TestResult {
+    let halted = JoinFault::Halted {
+        number: 4,
+        cause: Cause::Codec(CodecFault::Empty),
+    };
+    let steps = [
+        READ_2,
+        JOINED_AT_3,
+        Step::Live(4, b"", Ok(Live::Kept)),
+        Step::Live(5, ADD_2, Ok(Live::Kept)),
+        Step::Live(3, ADD_1, Err(halted)),
+        Step::Stands(Some(4), 2),
+        Step::Market(&[EVENT, AAPL, ADD_1]),
+    ];
+    check_indexed(&rt, 2, &steps)
+}
+
+#[test]
+fn a_broken_snapshot_is_restarted(rt: HostRuntime) -> TestResult {
+    let broken = JoinFault::BadSnapshot {
+        place: 1,
+        cause: Cause::Rule(Refusal::UnknownLocate),
+    };
+    let bad = Err(JoinFault::BadNumber);
+    let steps = [
+        Step::Snapshot(ADD_1, Err(broken)),
+        Step::Snapshot(END_1, Err(broken)),
+        Step::Live(1, EVENT, Ok(Live::Kept)),
+        Step::Live(1, EVENT, Ok(Live::Kept)),
+        Step::Live(1, CLOSES, Err(JoinFault::Conflict { number: 1 })),
+        Step::Live(2, AAPL, Err(JoinFault::Full { cap: 1 })),
+        Step::Live(0, AAPL, bad),
+        Step::Live(10_000_000_000_000_000_000, AAPL, bad),
+        Step::Restart,
+        Step::Waiting(1),
+        Step::Snapshot(END_1, Ok(Snap::Joined { next: 2 })),
+        Step::Waiting(0),
+        Step::Snapshot(END_1, Err(JoinFault::Joined)),
+        Step::Restart,
+        Step::Resume(Ok(Some(2))),
+        Step::Market(&[EVENT]),
+    ];
+    check_indexed(&rt, 1, &steps)
+}
+
+// A thousand messages wait for a joiner, the last one first.
+fn check_thousand<B: OrderBook>(rt: &impl Host, memory: B::Alloc) {
+    let mut joiner: Joiner<B> = joiner(memory, 1000);
+    for back in 0..1000u64 {
+        live(rt, &mut joiner, 1000 - back, BROKEN_TRADE, Ok(Live::Kept));
+    }
+    snapshot(rt, &mut joiner, END_1, Ok(Snap::Joined { next: 1001 }));
+    same(rt, joiner.waiting(), 0);
+}
+
+#[test]
+fn a_thousand_messages_wait(rt: HostRuntime) {
+    check_thousand::<IndexedBook>(&rt, rt.alloc());
+}
+
+// No message may wait: a feed in order from its first message on.
+#[test]
+fn joins_a_feed_in_order(rt: HostRuntime) -> TestResult {
+    let steps = [
+        READ_2,
+        JOINED_AT_3,
+        Step::Live(1, EVENT, Ok(Live::Old)),
+        Step::Live(2, AAPL, Ok(Live::Old)),
+        Step::Live(4, ADD_2, Err(JoinFault::Full { cap: 0 })),
+        Step::Live(3, ADD_1, Ok(Live::Applied { next: 4 })),
+        Step::Market(&[EVENT, AAPL, ADD_1]),
+    ];
+    check_indexed(&rt, 0, &steps)
+}
+
+#[test]
+fn a_feed_with_nothing_new(rt: HostRuntime) -> TestResult {
+    let steps = [
+        READ_2,
+        JOINED_AT_3,
+        Step::Live(1, EVENT, Ok(Live::Old)),
+        Step::Stands(Some(3), 0),
+        Step::Market(&[EVENT, AAPL]),
+    ];
+    check_indexed(&rt, 0, &steps)
+}
+
+#[test]
+fn a_snapshot_without_its_end(rt: HostRuntime) -> TestResult {
+    let steps = [Step::Read(&[AAPL]), Step::Stands(None, 0)];
+    check_indexed(&rt, 0, &steps)
+}
+
+#[test]
+fn faults_have_words(rt: HostRuntime) -> TestResult {
+    let cause = Cause::Rule(Refusal::StockMismatch);
+    let bad = |place, cause| JoinFault::BadSnapshot { place, cause };
+    let (number, taken) = (3, true);
+    for (fault, words) in [
+        (JoinFault::Full { cap: 2 }, "2 messages wait already"),
+        (
+            JoinFault::Conflict { number: 7 },
+            "message 7 waits with other bytes",
+        ),
+        (JoinFault::BadNumber, "bad message number"),
+        (
+            JoinFault::Halted { number, cause },
+            "message 3: stock mismatch",
+        ),
+        (JoinFault::OutOfMemory { taken }, "out of memory"),
+        (JoinFault::Joined, "joined already"),
+        (
+            bad(1, Cause::Codec(CodecFault::Empty)),
+            "snapshot message 1: empty message",
+        ),
+        (
+            bad(2, Cause::TooMany),
+            "snapshot message 2: too many messages",
+        ),
+    ] {
+        same_words(&rt, &fault, words)?;
+    }
+    Ok(())
+}

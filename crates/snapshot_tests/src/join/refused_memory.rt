@@ -1,0 +1,309 @@
+//! Each growth of a joiner refused in turn, and the calls that take no memory.
+use super::{
+    BEFORE_6, JOINED_AT_3, READ_2, Step, check_market, joiner, live, read, snapshot, stands,
+    take_steps,
+};
+use crate::equal::{Host, TestResult, same};
+use itch_book::{IndexedBook, OrderBook};
+use itch_join::{Cause, JoinFault, Joiner, Live, Snap};
+use itch_market::Refusal;
+use std::alloc::Global;
+use std::test::Fail;
+use test_doubles::Refusing;
+use test_doubles::payloads::*;
+
+type Index<'a> = IndexedBook<&'a Refusing<Global>>;
+
+const NOT_TAKEN: JoinFault = JoinFault::OutOfMemory { taken: false };
+
+const TAKEN: JoinFault = JoinFault::OutOfMemory { taken: true };
+
+const HALTED_AT_5: JoinFault = JoinFault::Halted {
+    number: 5,
+    cause: Cause::Rule(Refusal::UnknownLocate),
+};
+
+// More allocations than a test makes: none is refused.
+const NONE: u64 = 1_000_000;
+
+// A message of the live feed with its nth allocation refused, where it makes that many. Returns whether memory was refused.
+fn live_short<B: OrderBook>(
+    rt: &impl Host,
+    refusing: &Refusing<Global>,
+    nth: u64,
+    joiner: &mut Joiner<B>,
+    (number, payload): (u64, &[u8]),
+    [done, refused]: [Result<Live, JoinFault>; 2],
+) -> bool {
+    refusing.arm(nth);
+    let result = joiner.live(number, payload);
+    let is_refused = refusing.has_refused();
+    same(rt, result, if is_refused { refused } else { done });
+    is_refused
+}
+
+// Delivers a message that has to wait with each of its allocations refused in turn, and then with memory. Returns how many
+// were refused.
+fn refuse_to_keep<B: OrderBook>(
+    rt: &impl Host,
+    refusing: &Refusing<Global>,
+    joiner: &mut Joiner<B>,
+    number: u64,
+    waiting: usize,
+) -> u64 {
+    let results = [Ok(Live::Kept), Err(NOT_TAKEN)];
+    for nth in 0..16 {
+        if !live_short(rt, refusing, nth, joiner, (number, BROKEN_TRADE), results) {
+            stands(rt, joiner, None, waiting.saturating_add(1));
+            return nth;
+        }
+        stands(rt, joiner, None, waiting);
+    }
+    panic!(rt; "more than 16 allocations")
+}
+
+fn check_keeping<B: OrderBook>(rt: &impl Host, refusing: &Refusing<Global>, memory: B::Alloc) {
+    let mut joiner: Joiner<B> = joiner(memory, 100);
+    for waiting in 0..40usize {
+        let number = waiting as u64 + 1;
+        assert!(rt; refuse_to_keep(rt, refusing, &mut joiner, number, waiting) > 0);
+    }
+}
+
+#[test]
+fn a_message_that_would_wait(rt: HostRuntime) {
+    let refusing = Refusing::new(rt.alloc(), 0);
+    check_keeping::<Index<'_>>(&rt, &refusing, &refusing);
+}
+
+// Takes a message of the snapshot with each of its allocations refused in turn, and then with memory. Returns how many were
+// refused.
+fn refuse_to_read<B: OrderBook>(
+    rt: &impl Host,
+    refusing: &Refusing<Global>,
+    joiner: &mut Joiner<B>,
+    payload: &[u8],
+) -> u64 {
+    for nth in 0..16 {
+        refusing.arm(nth);
+        let result = joiner.snapshot(payload);
+        if !refusing.has_refused() {
+            same(rt, result, Ok(Snap::More));
+            return nth;
+        }
+        same(rt, result, Err(NOT_TAKEN));
+    }
+    panic!(rt; "more than 16 allocations")
+}
+
+fn check_reading<B: OrderBook>(
+    rt: &impl Host,
+    refusing: &Refusing<Global>,
+    memory: B::Alloc,
+) -> TestResult {
+    let mut joiner: Joiner<B> = joiner(memory, 2);
+    let mut refused = 0u64;
+    for payload in BEFORE_6 {
+        refused = refused.saturating_add(refuse_to_read(rt, refusing, &mut joiner, payload));
+    }
+    assert!(rt; refused > 0);
+    refusing.arm(0);
+    snapshot(rt, &mut joiner, END_6, Ok(Snap::Joined { next: 6 }));
+    assert!(rt; !refusing.has_refused());
+    check_market(rt, &joiner, BEFORE_6)
+}
+
+#[test]
+fn a_message_of_the_snapshot(rt: HostRuntime) -> TestResult {
+    let refusing = Refusing::new(rt.alloc(), 0);
+    check_reading::<Index<'_>>(&rt, &refusing, &refusing)
+}
+
+// As many orders as there is room for, so that the replacement takes memory.
+const FOUR_ORDERS: &[&[u8]] = &[AAPL, ADD_1, ADD_2, SELL_3, NAMED_5];
+
+const LEFT: &[&[u8]] = &[AAPL, ADD_2, ADD_4, NAMED_5];
+
+// The seventh and the eighth message wait, and five are in the snapshot.
+const JOINED_AT_6: &[Step<'static>] = &[
+    Step::Live(8, DELETE_3, Ok(Live::Kept)),
+    Step::Live(7, REPLACE_1_BY_4, Ok(Live::Kept)),
+    Step::Read(FOUR_ORDERS),
+    Step::Snapshot(END_6, Ok(Snap::Joined { next: 6 })),
+];
+
+// Message 7, which waits already, is refused when it comes again, and then taken by `resume`.
+const REFUSED_AT_7: &[Step<'static>] = &[
+    Step::Live(7, REPLACE_1_BY_4, Err(TAKEN)),
+    Step::Stands(Some(7), 2),
+];
+
+const RESUMED_AT_7: &[Step<'static>] = &[
+    Step::Resume(Err(NOT_TAKEN)),
+    Step::Stands(Some(7), 2),
+    Step::Resume(Ok(Some(9))),
+    Step::Stands(Some(9), 0),
+];
+
+fn resume_at_7<B: OrderBook>(
+    rt: &impl Host,
+    refusing: &Refusing<Global>,
+    nth: u64,
+    joiner: &mut Joiner<B>,
+) -> TestResult {
+    stands(rt, joiner, Some(7), 2);
+    refusing.arm(nth);
+    take_steps(rt, joiner, REFUSED_AT_7)?;
+    refusing.arm(nth);
+    take_steps(rt, joiner, RESUMED_AT_7)
+}
+
+// Message 6 is applied, and memory is refused at 7, which waits as 8 does. Returns whether memory was refused.
+fn refuse_at_7<B: OrderBook>(
+    rt: &impl Host,
+    refusing: &Refusing<Global>,
+    nth: u64,
+    joiner: &mut Joiner<B>,
+) -> Result<bool, Fail> {
+    refusing.arm(NONE);
+    take_steps(rt, joiner, JOINED_AT_6)?;
+    let results = [Ok(Live::Applied { next: 9 }), Err(TAKEN)];
+    let is_refused = live_short(rt, refusing, nth, joiner, (6, EXECUTE_1), results);
+    if is_refused {
+        resume_at_7(rt, refusing, nth, joiner)?;
+    }
+    check_market(rt, joiner, LEFT)?;
+    Ok(is_refused)
+}
+
+// A joiner of its own for each allocation that is refused.
+fn refuse_waiting<B: OrderBook>(
+    rt: &impl Host,
+    memory: B::Alloc,
+    refusing: &Refusing<Global>,
+) -> Result<u64, Fail> {
+    for nth in 0..16 {
+        let mut joiner: Joiner<B> = joiner(memory, 2);
+        if !refuse_at_7(rt, refusing, nth, &mut joiner)? {
+            return Ok(nth);
+        }
+    }
+    panic!(rt; "more than 16 allocations")
+}
+
+#[test]
+fn a_waiting_message(rt: HostRuntime) -> TestResult {
+    let refusing = Refusing::new(rt.alloc(), NONE);
+    let refused = refuse_waiting::<Index<'_>>(&rt, &refusing, &refusing)?;
+    assert!(rt; refused > 0);
+    Ok(())
+}
+
+// A message that is next and does not wait is not taken, and is delivered again. Returns how many allocations were refused.
+fn refuse_at_3<B: OrderBook>(
+    rt: &impl Host,
+    refusing: &Refusing<Global>,
+    joiner: &mut Joiner<B>,
+) -> Result<u64, Fail> {
+    let results = [Ok(Live::Applied { next: 4 }), Err(NOT_TAKEN)];
+    for nth in 0..16 {
+        if !live_short(rt, refusing, nth, joiner, (3, ADD_1), results) {
+            return Ok(nth);
+        }
+        stands(rt, joiner, Some(3), 0);
+        check_market(rt, joiner, &[EVENT, AAPL])?;
+    }
+    panic!(rt; "more than 16 allocations")
+}
+
+fn check_next<B: OrderBook>(
+    rt: &impl Host,
+    refusing: &Refusing<Global>,
+    memory: B::Alloc,
+) -> TestResult {
+    let mut joiner: Joiner<B> = joiner(memory, 2);
+    take_steps(rt, &mut joiner, &[READ_2, JOINED_AT_3])?;
+    assert!(rt; refuse_at_3(rt, refusing, &mut joiner)? > 0);
+    check_market(rt, &joiner, &[EVENT, AAPL, ADD_1])
+}
+
+#[test]
+fn the_next_message(rt: HostRuntime) -> TestResult {
+    let refusing = Refusing::new(rt.alloc(), NONE);
+    check_next::<Index<'_>>(&rt, &refusing, &refusing)
+}
+
+// The joiner has joined all the same, and goes on.
+fn check_end<B: OrderBook>(
+    rt: &impl Host,
+    refusing: &Refusing<Global>,
+    memory: B::Alloc,
+) -> TestResult {
+    let mut joiner: Joiner<B> = joiner(memory, 2);
+    live(rt, &mut joiner, 3, ADD_1, Ok(Live::Kept));
+    read(rt, &mut joiner, &[EVENT, AAPL]);
+    refusing.arm(0);
+    let steps = [
+        Step::Snapshot(END_3, Err(TAKEN)),
+        Step::Stands(Some(3), 1),
+        Step::Snapshot(END_3, Err(JoinFault::Joined)),
+        Step::Resume(Ok(Some(4))),
+        Step::Market(&[EVENT, AAPL, ADD_1]),
+    ];
+    take_steps(rt, &mut joiner, &steps)
+}
+
+#[test]
+fn the_end_of_the_snapshot(rt: HostRuntime) -> TestResult {
+    let refusing = Refusing::new(rt.alloc(), NONE);
+    check_end::<Index<'_>>(&rt, &refusing, &refusing)
+}
+
+// No call takes memory before the second message.
+const BEFORE_MEMORY: &[Step<'static>] = &[
+    Step::Restart,
+    Step::Resume(Ok(None)),
+    Step::Stands(None, 0),
+    Step::Live(0, EVENT, Err(JoinFault::BadNumber)),
+    Step::Snapshot(EVENT, Ok(Snap::More)),
+];
+
+// The second message, and the fourth, which waits.
+const WITH_MEMORY: &[Step<'static>] = &[
+    Step::Snapshot(AAPL, Ok(Snap::More)),
+    Step::Live(4, CLOSES, Ok(Live::Kept)),
+];
+
+// No call takes memory after that.
+const AFTER_MEMORY: &[Step<'static>] = &[
+    Step::Live(4, CLOSES, Ok(Live::Kept)),
+    Step::Live(4, EVENT, Err(JoinFault::Conflict { number: 4 })),
+    Step::Live(5, EVENT, Err(JoinFault::Full { cap: 1 })),
+    Step::Snapshot(END_3, Ok(Snap::Joined { next: 3 })),
+    Step::Live(1, EVENT, Ok(Live::Old)),
+    Step::Live(3, EVENT, Ok(Live::Applied { next: 5 })),
+    Step::Live(5, ADD_1_AT_9, Err(HALTED_AT_5)),
+    Step::Resume(Err(HALTED_AT_5)),
+];
+
+fn check_without_memory<B: OrderBook>(
+    rt: &impl Host,
+    refusing: &Refusing<Global>,
+    memory: B::Alloc,
+) -> TestResult {
+    let mut joiner: Joiner<B> = joiner(memory, 1);
+    take_steps(rt, &mut joiner, BEFORE_MEMORY)?;
+    assert!(rt; !refusing.has_refused());
+    refusing.arm(NONE);
+    take_steps(rt, &mut joiner, WITH_MEMORY)?;
+    refusing.arm(0);
+    take_steps(rt, &mut joiner, AFTER_MEMORY)?;
+    assert!(rt; !refusing.has_refused());
+    Ok(())
+}
+
+#[test]
+fn calls_that_take_no_memory(rt: HostRuntime) -> TestResult {
+    let refusing = Refusing::new(rt.alloc(), 0);
+    check_without_memory::<Index<'_>>(&rt, &refusing, &refusing)
+}

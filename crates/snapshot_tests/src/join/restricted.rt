@@ -1,0 +1,63 @@
+//! Joiners restricted to a set of locates.
+use super::{Step, take_steps};
+use crate::equal::{Host, TestResult};
+use itch_book::{IndexedBook, OrderBook};
+use itch_codec::CodecFault;
+use itch_join::{Cause, JoinFault, Joiner, Live, Snap};
+use itch_market::{LocateSet, Refusal};
+use test_doubles::payloads::*;
+
+// A joiner of locate 1 for which `cap` messages may wait takes these steps.
+fn check<B: OrderBook>(
+    rt: &impl Host,
+    memory: B::Alloc,
+    cap: usize,
+    steps: &[Step<'_>],
+) -> TestResult {
+    let mut set = LocateSet::new(memory);
+    set.insert(1)?;
+    let mut joiner: Joiner<B> = Joiner::only(memory, cap, set);
+    take_steps(rt, &mut joiner, steps)
+}
+
+// What is at other locates is counted in the snapshot and in the feed, and follows no rule.
+#[test]
+fn counts_what_it_skips(rt: HostRuntime) -> TestResult {
+    let steps = [
+        Step::Live(8, ADD_2, Ok(Live::Kept)),
+        Step::Read(&[EVENT, ADD_1_AT_9, AAPL, MSFT]),
+        Step::Snapshot(END_6, Ok(Snap::Joined { next: 6 })),
+        Step::Live(7, ADD_1_AT_9, Ok(Live::Kept)),
+        Step::Live(6, ADD_1, Ok(Live::Applied { next: 9 })),
+        Step::Live(9, ADD_1_AT_9, Ok(Live::Applied { next: 10 })),
+        Step::Stands(Some(10), 0),
+        Step::Market(&[EVENT, AAPL, ADD_1, ADD_2]),
+    ];
+    check::<IndexedBook>(&rt, rt.alloc(), 2, &steps)
+}
+
+// This payload of message 4 halts it.
+fn check_halt(rt: &impl Host, payload: &[u8], cause: Cause) -> TestResult {
+    let halted = JoinFault::Halted { number: 4, cause };
+    let steps = [
+        Step::Read(&[EVENT, MSFT]),
+        Step::Snapshot(END_3, Ok(Snap::Joined { next: 3 })),
+        Step::Live(3, ADD_1_AT_9, Ok(Live::Applied { next: 4 })),
+        Step::Live(4, payload, Err(halted)),
+        Step::Stands(Some(4), 0),
+        Step::Market(&[EVENT]),
+    ];
+    check::<IndexedBook>(rt, rt.alloc(), 0, &steps)
+}
+
+// A payload without a message halts it, whatever the set, and a rule broken at its own locate.
+#[test]
+fn is_halted_by_what_it_does_not_skip(rt: HostRuntime) -> TestResult {
+    for (payload, cause) in [
+        (b"" as &[u8], Cause::Codec(CodecFault::Empty)),
+        (ADD_1, Cause::Rule(Refusal::UnknownLocate)),
+    ] {
+        check_halt(&rt, payload, cause)?;
+    }
+    Ok(())
+}

@@ -1,0 +1,29 @@
+//! Days that lie in memory.
+use crate::payloads::{AAPL, ADD_2, NAMED_1, REPLACE_1};
+use crate::{FuseWriter, PieceReader};
+use itch_book::OrderBook;
+use itch_frame::{BlockReader, write_block};
+use itch_market::{Market, Stop, replay};
+use std::alloc::Global;
+use std::test::Fail;
+
+/// A day whose last message puts a new order in place of one with attribution, of 158 bytes.
+pub const REPLACED: &[&[u8]] = &[AAPL, NAMED_1, ADD_2, REPLACE_1];
+
+/// A reader of blocks that lie in memory.
+pub type Blocks<'a> = BlockReader<PieceReader<'a>, Global>;
+
+/// The blocks of these payloads.
+pub fn blocks(alloc: Global, payloads: &[&[u8]]) -> Result<FuseWriter, Fail> {
+    let mut writer = FuseWriter::new(alloc, 64, None);
+    for payload in payloads {
+        write_block(&mut writer, payload)?;
+    }
+    Ok(writer)
+}
+
+/// Replays what a reader has left, and returns how many messages were applied, and why no further one was.
+pub fn replayed<B: OrderBook>(reader: &mut Blocks<'_>, market: &mut Market<B>) -> (u64, Stop) {
+    let end = replay(reader, market);
+    (end.count, end.stop)
+}

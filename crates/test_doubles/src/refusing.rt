@@ -1,0 +1,152 @@
+//! An allocator that refuses one allocation.
+
+ghost use Rattle.std.specs.Prelude.{◌≡◌, ◌≢◌, ℕ, true, false, Some};
+ghost use Rattle.std.specs.Fn.{iterate};
+ghost use Rattle.test_doubles.specs.Countdown.{goes_through, after_one};
+
+use std::alloc::{AllocError, Allocator};
+use std::cell::Cell;
+
+/// Passes each call on to another allocator, and refuses one allocation.
+///
+/// A `&Refusing<B>` is an allocator too, and `Copy`: a test keeps the allocator and lends it to what it tests.
+pub struct Refusing<B: Allocator> {
+    inner: B,
+    // How many allocations go through before the one that is refused, while it is not refused.
+    before: Cell<Option<u64>>,
+}
+
+impl<B: Allocator> Refusing<B> {
+    /// Lets `nth` allocations through, refuses the next one, and lets all later ones through.
+    pub fn new(inner: B, nth: u64) -> Refusing<B> {
+        Refusing {
+            inner,
+            before: Cell::new(Some(nth)),
+        }
+    }
+
+    /// Starts again: from here on `nth` allocations go through, and the next one is refused.
+    pub fn arm(&self, nth: u64) {
+        self.before.set(Some(nth));
+    }
+
+    /// Whether the allocation was refused. After `arm(0)`: whether there was any allocation.
+    pub fn has_refused(&self) -> bool {
+        self.before.get().is_none()
+    }
+}
+
+impl<B: Allocator> Drop for Refusing<B> {
+    fn drop(self) {
+        let Self {
+            inner: _,
+            before: _,
+        } = self;
+    }
+}
+
+/// Of allocations counted from 0, the `nth` is refused and every other one goes through.
+///
+/// This function does nothing: its clauses are the law.
+#[tactic(auto, using(crate::proofs::OneRefusal::refused_there, crate::proofs::OneRefusal::granted_elsewhere))]
+pub fn one_refusal()
+    ensures refused { (nth : ℕ) → goes_through (iterate after_one nth (Some nth)) ≡ false }
+    ensures others { (nth place : ℕ) → place ≢ nth → goes_through (iterate after_one place (Some nth)) ≡ true }
+{}
+
+// Whether the next allocation goes through, by how many do before the one that is refused.
+fn goes_through(before: Option<u64>) -> bool
+    ensures { result ≡ goes_through before }
+{
+    before != Some(0)
+}
+
+// How many go through before the refusal after one more allocation, or none where nothing is refused any more.
+fn after_one(before: Option<u64>) -> Option<u64>
+    ensures { result ≡ after_one before }
+{
+    before?.checked_sub(1)
+}
+
+// Whether an allocation goes through, which is counted.
+fn admits(before: &Cell<Option<u64>>) -> bool {
+    let now = before.get();
+    before.set(after_one(now));
+    goes_through(now)
+}
+
+unsafe impl<B: Allocator> Allocator for Refusing<B> {
+    ghost dealloc_token = { λ heap ty ptr. B.dealloc_token heap.inner ty ptr };
+
+    fn allocate(&self, size: usize, align: usize) -> Result<*mut u8, AllocError> {
+        if !admits(&self.before) {
+            return Err(AllocError);
+        }
+        self.inner.allocate(size, align)
+    }
+
+    unsafe fn deallocate(&self, ptr: *mut u8, size: usize, align: usize) {
+        self.inner.deallocate(ptr, size, align);
+    }
+}
+
+#[cfg(test)]
+mod tests {
+    use super::*;
+    use std::test::Fail;
+
+    // Which of eight allocations are refused.
+    fn refusals<A: Allocator>(alloc: A) -> [bool; 8] {
+        let mut refused = [false; 8];
+        for at in 0..8 {
+            let mut list: Vec<u8, &A> = Vec::new(&alloc);
+            refused[at] = list.push(1).is_err();
+        }
+        refused
+    }
+
+    // The allocation at a place of eight alone is refused, or none where the place is beyond them.
+    fn is_at(refused: [bool; 8], nth: u64) -> bool {
+        let mut place = 0u64;
+        for one in refused {
+            if one != (place == nth) {
+                return false;
+            }
+            place = place.saturating_add(1);
+        }
+        true
+    }
+
+    #[test]
+    fn refuses_one_allocation(rt: HostRuntime) -> Result<(), Fail> {
+        let alloc = Refusing::new(rt.alloc(), 2);
+        assert!(rt; is_at(refusals(&alloc), 2));
+        assert!(rt; alloc.has_refused());
+        for nth in 0..12u64 {
+            alloc.arm(nth);
+            assert!(rt; !alloc.has_refused());
+            assert!(rt; is_at(refusals(&alloc), nth));
+            assert!(rt; alloc.has_refused() == (nth < 8));
+        }
+        // Eight of the eleven before the last refusal have gone through.
+        assert!(rt; is_at(refusals(&alloc), 3));
+        assert!(rt; is_at(refusals(alloc), 8));
+        Ok(())
+    }
+
+    // A refusal below is passed on and not counted; what is refused is not asked for below.
+    #[test]
+    fn passes_a_refusal_on(rt: HostRuntime) -> Result<(), Fail> {
+        let inner = Refusing::new(rt.alloc(), 1);
+        let alloc = Refusing::new(&inner, 8);
+        assert!(rt; is_at(refusals(&alloc), 1));
+        assert!(rt; inner.has_refused());
+        assert!(rt; !alloc.has_refused());
+        inner.arm(7);
+        assert!(rt; is_at(refusals(&alloc), 0));
+        assert!(rt; alloc.has_refused());
+        assert!(rt; !inner.has_refused());
+        assert!(rt; is_at(refusals(&inner), 0));
+        Ok(())
+    }
+}

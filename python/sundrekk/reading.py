@@ -1,0 +1,145 @@
+"""Iterates over the messages of a day: those of some types, of some stocks, of some time."""
+from __future__ import annotations
+
+import struct
+from itertools import chain, repeat
+from typing import Any, Callable, Iterable, Iterator, List, NamedTuple, Optional, Set, Tuple, Union
+
+from . import _rows
+from ._buffers import locate_of, locates_of
+from ._rows import PAYLOAD, SIZE, Batch, Piece
+from .decoding import DECODERS, END_SIZE, HEADER_SIZE
+from .kinds import EndOfSnapshot, Message, Undecoded
+from .tables import Stock
+from .times import Time, first_at, nanoseconds
+
+# The locate of a message, and the two parts of its timestamp.
+LOCATE, TIME = struct.Struct(">H"), struct.Struct(">HI")
+# The length of a block, and where the payload of a row is in the blocks.
+LENGTH, OFFSET = struct.Struct(">H"), struct.Struct("=Q")
+DIRECTORY = ord("R")
+# Those of TotalView-ITCH 5.0, and that of End of Snapshot.
+TYPES = {chr(kind) for kind in DECODERS} | set("VWKJINOG")
+# Every byte that a type may be, first those of which a day has most messages.
+ALL = bytes(dict.fromkeys([*b"ADUEXFCPQ", *range(256)]))
+
+
+class Range(NamedTuple):
+    """From the first message at `since` or later to the one before the first at `until` or later, in nanoseconds since midnight."""
+
+    since: int
+    until: Optional[int]
+
+    @classmethod
+    def of(cls, since: Optional[Time], until: Optional[Time]) -> Range:
+        return cls(0 if since is None else nanoseconds(since), None if until is None else nanoseconds(until))
+
+
+class Span(NamedTuple):
+    """Where some blocks begin and end, the number of the last message before them, and the locates that are wanted there."""
+
+    begin: int
+    end: int
+    before: int
+    locates: Set[int]
+
+
+class Stocks:
+    """Which locates have one of these stocks, by the last Stock Directory message at each."""
+
+    def __init__(self, wanted: Union[Stock, Iterable[Stock]]) -> None:
+        listed = [wanted] if isinstance(wanted, (str, int)) else list(wanted)
+        self._names = {name.encode().ljust(8) for name in listed if isinstance(name, str)}
+        self._given = {locate_of(locate) for locate in listed if not isinstance(locate, str)}
+        self._named: Set[int] = set()
+
+    def pass_entry(self, blocks: memoryview, at: int) -> None:
+        """Passes the Stock Directory message whose payload begins here."""
+        locate, = LOCATE.unpack_from(blocks, at + 1)
+        has_name = bytes(blocks[at + HEADER_SIZE:at + HEADER_SIZE + 8]) in self._names
+        (self._named.add if has_name else self._named.discard)(locate)
+
+    def have(self, locate: int) -> bool:
+        return locate in self._named or locate in self._given
+
+    def spans(self, blocks: memoryview) -> Iterator[Span]:
+        """The blocks cut where the locates change that have these stocks."""
+        begin, before, locates = 0, 0, set(self._given)
+        for at, number in _entries(blocks) if self._names else ():
+            self.pass_entry(blocks, at)
+            if self._named | self._given != locates:
+                yield Span(begin, at - 2, before, locates)
+                begin, before, locates = at - 2, number - 1, self._named | self._given
+        yield Span(begin, len(blocks), before, locates)
+
+
+def _entries(blocks: memoryview) -> Iterator[Tuple[int, int]]:
+    """Where the payload of each Stock Directory message begins, and its number."""
+    for batch in _rows.batches(_rows.everywhere(blocks, b"R"), is_strict=False):
+        first = len(blocks) - len(batch.blocks)
+        yield from ((first + at, number) for at, number in zip(batch.numbers(1), batch.numbers(0)))
+
+
+def types_of(letters: Iterable[str]) -> bytes:
+    """The bytes of types of messages."""
+    if unknown := sorted(set(letters) - TYPES):
+        raise ValueError(f"no message has the type {', '.join(map(repr, unknown))}")
+    return "".join(sorted(set(letters))).encode()
+
+
+def is_late(blocks: memoryview, kind: int, at: int, end: int, time: Optional[int]) -> bool:
+    """Whether the message of a payload has a timestamp that is this time or later."""
+    if time is None or kind not in DECODERS or end - at < HEADER_SIZE:
+        return False
+    high, low = TIME.unpack_from(blocks, at + 5)
+    return bool(high << 32 | low >= time)
+
+
+def pieces(blocks: memoryview, types: bytes, stocks: Optional[Stocks], part: Range) -> Iterator[Piece]:
+    """The blocks of a part, with those of its messages that are wanted."""
+    begin = first_at(blocks, part.since) if part.since else 0
+    blocks = blocks if part.until is None else blocks[:first_at(blocks, part.until)]
+    before = _rows.count(blocks[:begin]) if begin != 0 else 0
+    if begin is None:
+        return
+    if stocks is None:
+        yield Piece(blocks[begin:], before, types, locates_of(()))
+        return
+    for span in stocks.spans(blocks):
+        if span.begin < begin:
+            span = span._replace(begin=begin, before=before)
+        if span.begin < span.end:
+            yield Piece(blocks[span.begin:span.end], span.before, types if span.locates else b"", locates_of(sorted(span.locates)))
+
+
+def messages(blocks: memoryview, types: Optional[bytes], stocks: Optional[Stocks], part: Range) -> Iterator[Message]:
+    """The messages of a part that have one of these types and one of these stocks."""
+    wanted = pieces(blocks, ALL if types is None else types, stocks, part)
+    return chain.from_iterable(_decoded(batch, piece.types) for piece in wanted for batch in _rows.batches(piece))
+
+
+def _decoded(batch: Batch, types: bytes) -> Iterator[Message]:
+    """The messages of rows, which are of these types."""
+    decode, rows, places = _decoders(batch), batch.rows, range(PAYLOAD, PAYLOAD + batch.count * SIZE, SIZE)
+    if len(types) == 1:
+        return map(decode[types[0]], repeat(rows), places, batch.numbers(0), batch.numbers(2))
+    return (decode[kind](rows, at, number, ns) for kind, at, number, ns in zip(batch.kinds(), places, batch.numbers(0), batch.numbers(2)))
+
+
+def _decoders(batch: Batch) -> List[Callable[[memoryview, int, int, int], Message]]:
+    """What decodes a row of each type, given the rows, where its payload begins there, its number, and its timestamp."""
+
+    def other(rows: memoryview, at: int, number: int, ns: int) -> Undecoded:
+        begin, = OFFSET.unpack_from(rows, at - PAYLOAD + OFFSET.size)
+        size, = LENGTH.unpack_from(batch.blocks, begin - 2)
+        return Undecoded(number, bytes(batch.blocks[begin:begin + size]))
+
+    found: List[Any] = [other] * 256
+    for kind, (_, decode) in DECODERS.items():
+        found[kind] = decode
+    found[ord("G")] = _end
+    return found
+
+
+def _end(rows: memoryview, at: int, number: int, ns: int) -> EndOfSnapshot:
+    return EndOfSnapshot(number, int(bytes(rows[at + 1:at + END_SIZE])))
