@@ -1,4 +1,4 @@
-"""`fetch` and `serve` in processes that are stopped and continued, as by a shell's job control: each session goes on with the time that is left.
+"""`fetch` and `serve` in processes that are stopped and continued, as by a shell's job control: each session continues with the time that is left.
 
 RUNS lists the runs. Each is a function that is given the program and yields the differences.
 """
