@@ -12,8 +12,8 @@ import threading
 
 from calls import told_once
 from common import differs, ended_in, file, split
-from living import (ENDED, LOGIN, WORDS, Feed, Running, acceptance, answer, connect, day_of, feeding, folder_with, packet, plays, received, recorded,
-                    told)
+from living import (ENDED, LOGIN, PATIENCE, WORDS, Feed, Running, acceptance, answer, connect, day_of, feeding, folder_with, packet, plays, received,
+                    recorded, told)
 from sessions import free_port
 from standby import waits_for
 from starts import nobody
@@ -163,22 +163,21 @@ def a_day_file_that_goes_away_is_played_to_those_who_have_it(program):
 
 
 def no_file_takes_the_place_of_a_closed_stream(program):
-    """Where standard output or standard error is closed at the start, the lines for it go nowhere, and not into the record. A client that is served
-    has its line on standard output."""
+    """Where standard output or standard error is closed at the start, the lines for it go nowhere, and not into the record: the line of a client that
+    is served, or those on the state of the feed. The other stream is a file. If it were a pipe, the program would open something else before the record."""
     day, wanted = day_of(20)
-    for closed in "2>&-", ">&-":
+    for closed, begins in ("2>&-", b"connection 1: "), (">&-", b"listening on "):
         end, port = threading.Event(), free_port()
-        with folder_with() as folder, Feed(plays(day, wait=end, held=ENDED)) as feed:
-            words = "--feed", f"127.0.0.1:{feed.port}", "--port", port, *WORDS, "--record", folder / "record"
-            with Running("sh", "-c", f'exec "$0" "$@" {closed}', program, "live", *words, listens=False) as server:
+        with folder_with() as folder, Feed(plays(day, wait=end, held=ENDED)) as feed, open(folder / "lines", "wb") as lines:
+            words = "--feed", f"127.0.0.1:{feed.port}", "--port", str(port), *WORDS, "--record", "record"
+            command = "sh", "-c", f'exec "$0" "$@" {closed}', program, "live", *words
+            with subprocess.Popen(command, cwd=folder, stdin=subprocess.DEVNULL, stdout=lines, stderr=lines) as server:
                 waits_for(lambda: told_once(port) == answer(wanted))
-                server.has_lines(0 if closed == ">&-" else 1)
                 end.set()
-                status, output, lines = server.ended()
-            session = (folder / "record.session").read_text().splitlines()
-            yield from differs(closed, (status, (folder / "record").read_bytes() == day, session[:1], len(session)), (0, True, ["ITCHSNAP"], 2))
-            yield from differs(f"{closed}: standard output", output != b"", closed == "2>&-")
-            yield from differs(f"{closed}: standard error", lines != [], closed == ">&-")
+                status = server.wait(PATIENCE)
+            yield from differs(closed, (status, (folder / "record").read_bytes() == day), (0, True))
+            yield from differs(f"{closed}: the session", (folder / "record.session").read_text().splitlines()[:1], ["ITCHSNAP"])
+            yield from differs(f"{closed}: the other stream", (folder / "lines").read_bytes()[:len(begins)], begins)
 
 
 def refused_to_play(folder, program, file, **streams):
