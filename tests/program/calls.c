@@ -33,6 +33,7 @@ CALL(rename, (const char *from, const char *to), (from, to))
 CALL(shutdown, (int socket, int how), (socket, how))
 CALL(socket, (int family, int type, int protocol), (family, type, protocol))
 CALL(statx, (int folder, const char *path, int flags, unsigned mask, struct statx *found), (folder, path, flags, mask, found))
+CALL(unlink, (const char *path), (path))
 
 int open(const char *path, int flags, ...) {
     static int (*next)(const char *, int, ...);

@@ -207,7 +207,7 @@ def what_gets_its_name_is_on_disk(program):
 
 
 def an_index_that_gets_its_name_is_on_disk(program):
-    """Where it cannot be synced without the line of an old snapshot, both stay, and that is said."""
+    """Where it cannot be synced without the line of an old snapshot, both stay, and that is said. Nothing is left of what was written of it."""
     day, _ = day_of(60)
     # One sync of the session file, one of each snapshot, and then that of the index.
     with shim() as library, folder_with() as folder, Feed(plays(day, then=ENDED)) as feed:
@@ -218,8 +218,8 @@ def an_index_that_gets_its_name_is_on_disk(program):
         said = [it for it in lines if not it.startswith("feed: ")]
         yield from differs("said", (status, said), (0, [f"snapshots: cannot remove an old one in {folder}/snapshots: {REASON}\n"]))
         listed = [line.split(",")[0] for line in (folder / "snapshots/index.jsonl").read_text().splitlines()]
-        left = sorted(it.name for it in (folder / "snapshots").glob("*.snap"))
-        yield from differs("kept", (left, len(listed)), (["40.snap", "80.snap"], 2))
+        left = sorted(it.name for it in (folder / "snapshots").iterdir())
+        yield from differs("kept", (left, len(listed)), (["40.snap", "80.snap", "index.jsonl"], 2))
 
 
 def a_connection_that_cannot_be_made_has_its_own_cause(program):
@@ -249,7 +249,7 @@ def a_feed_goes_on_where_a_call_fails(program):
             return differences, failed.exists()
 
     with shim() as library:
-        yield from failing_in_turn(attempt, "accept4 bind epoll_create1 epoll_ctl getsockname listen open setsockopt socket".split())
+        yield from failing_in_turn(attempt, "accept4 bind epoll_create1 epoll_ctl getsockname listen open setsockopt socket statx".split())
 
 
 def a_follower_goes_on_where_a_call_fails(program):

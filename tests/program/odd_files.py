@@ -8,9 +8,14 @@ import json
 import os
 import shutil
 import subprocess
+import threading
 
+from calls import told_once
 from common import differs, ended_in, file, split
-from living import ENDED, LOGIN, WORDS, Feed, acceptance, connect, day_of, feeding, folder_with, packet, plays, received, recorded, told
+from living import (ENDED, LOGIN, PATIENCE, WORDS, Feed, Running, acceptance, answer, connect, day_of, feeding, folder_with, packet, plays, received,
+                    recorded, told)
+from sessions import free_port
+from standby import waits_for
 from starts import nobody
 
 DAY = file("START_STAMPED AAPL_STAMPED BUY_1_STAMPED BUY_7_OF_300 EXECUTE_7 CANCEL_7 AAPL_LATE")
@@ -158,15 +163,55 @@ def a_day_file_that_goes_away_is_played_to_those_who_have_it(program):
 
 
 def no_file_takes_the_place_of_a_closed_stream(program):
-    """Where standard output or standard error is closed at the start, the lines for it go nowhere, and not into the record."""
+    """Where standard output or standard error is closed at the start, the lines for it go nowhere, and not into the record: the line of a client that
+    is served, or those on the state of the feed. The other stream is a file. If it were a pipe, the program would open something else before the record."""
+    day, wanted = day_of(20)
+    for closed, begins in ("2>&-", b"connection 1: "), (">&-", b"listening on "):
+        end, port = threading.Event(), free_port()
+        with folder_with() as folder, Feed(plays(day, wait=end, held=ENDED)) as feed, open(folder / "lines", "wb") as lines:
+            words = "--feed", f"127.0.0.1:{feed.port}", "--port", str(port), *WORDS, "--record", "record"
+            command = "sh", "-c", f'exec "$0" "$@" {closed}', program, "live", *words
+            with subprocess.Popen(command, cwd=folder, stdin=subprocess.DEVNULL, stdout=lines, stderr=lines) as server:
+                waits_for(lambda: told_once(port) == answer(wanted))
+                end.set()
+                status = server.wait(PATIENCE)
+            yield from differs(closed, (status, (folder / "record").read_bytes() == day), (0, True))
+            yield from differs(f"{closed}: the session", (folder / "record.session").read_text().splitlines()[:1], ["ITCHSNAP"])
+            yield from differs(f"{closed}: the other stream", (folder / "lines").read_bytes()[:len(begins)], begins)
+
+
+def refused_to_play(folder, program, file, **streams):
+    """What `feed` of a file ended with."""
+    words = "--port", "0", *WORDS
+    done = subprocess.run([program, "feed", file, *words], cwd=folder, capture_output=True, timeout=10, **streams)
+    return done.returncode, done.stdout, done.stderr
+
+
+def a_file_that_can_be_read_only_once_is_not_played(program):
+    """A pipe that nobody writes to, one with a day, standard input that is a pipe, and a device: the refusal comes before it listens."""
+    def refusal(name):
+        return 3, b"", f"itchsnap: cannot open\n  {name}: seek on unseekable file\n".encode()
+
+    with folder_with() as folder:
+        os.mkfifo(folder / "silent")
+        got = refused_to_play(folder, program, "silent", stdin=subprocess.DEVNULL)
+        yield from differs("a pipe that nobody writes to", got, refusal("silent"))
+        with piped(folder / "pipe", DAY):
+            got = refused_to_play(folder, program, "pipe", stdin=subprocess.DEVNULL)
+            yield from differs("a pipe", got, refusal("pipe"))
+        yield from differs("standard input", refused_to_play(folder, program, "/dev/stdin", input=DAY), refusal("/dev/stdin"))
+        yield from differs("a device", refused_to_play(folder, program, "/dev/null", stdin=subprocess.DEVNULL), refusal("/dev/null"))
+
+
+def a_file_is_played_as_standard_input_too(program):
+    """Each client has all of it, by the path of the system for standard input."""
     day, _ = day_of(20)
-    for closed in "2>&-", ">&-":
-        command = "sh", "-c", f'exec "$0" "$@" {closed}', program
-        with folder_with() as folder, Feed(plays(day, then=ENDED)) as feed:
-            words = "--feed", f"127.0.0.1:{feed.port}", "--port", "0", *WORDS, "--record", "record"
-            done = subprocess.run([*command, "live", *words], cwd=folder, stdin=subprocess.DEVNULL, stdout=subprocess.DEVNULL,
-                                  stderr=subprocess.DEVNULL, timeout=60)
-            yield from differs(closed, (done.returncode, (folder / "record").read_bytes() == day), (0, True))
+    whole = acceptance(1) + b"".join(map(packet, split(day))) + ENDED
+    words = "--port", "0", "--session", "ITCHSNAP", *WORDS
+    with folder_with(day=day) as folder:
+        command = "sh", "-c", 'day=$1; shift; exec "$0" "$@" <"$day"', program, folder / "day", "feed", "/dev/stdin", *words
+        with Running(*command) as server:
+            yield from differs("told", [told(server.port, LOGIN) == whole for _ in range(2)], [True] * 2)
 
 
 RUNS = [
@@ -176,5 +221,7 @@ RUNS = [
     a_shell_takes_the_hint_for_a_packed_file,
     a_record_that_may_not_be_read_stays_as_it_is,
     no_file_takes_the_place_of_a_closed_stream,
+    a_file_that_can_be_read_only_once_is_not_played,
+    a_file_is_played_as_standard_input_too,
     a_day_file_that_goes_away_is_played_to_those_who_have_it,
 ]

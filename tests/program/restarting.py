@@ -11,9 +11,11 @@ import threading
 import time
 from pathlib import Path
 
+from calls import shim
 from common import differs, ended_in, split
 from living import (BEAT, ENDED, LOGIN, PATIENCE, SESSION, WORDS, Feed, acceptance, answer, connect, day_of, fetch, folder_with, live, number_of, packet, plays, received,
                     recorded, snapshot_after, without_first_beats)
+from standby import waits_for
 
 COUNT, EVERY = 5_000, 1_000
 DAY, WHOLE = day_of(COUNT)
@@ -32,6 +34,11 @@ def files(folder, name="snapshots"):
 def counts(folder, name="snapshots"):
     """How many messages the snapshots of the index have, in its order."""
     return [json.loads(line)["messages"] for line in (folder / name / "index.jsonl").read_text().splitlines()]
+
+
+def counts_so_far(folder):
+    """The same once there is an index, and none before."""
+    return counts(folder) if (folder / "snapshots/index.jsonl").exists() else []
 
 
 def wanted_files(*of):
@@ -237,6 +244,45 @@ def the_oldest_snapshots_of_an_earlier_run_are_removed_first(program):
         yield from snapshots_differ(program, folder, *range(4_100 - every * (keep - 1), 4_101, every))
 
 
+def obstacle(folder, kind):
+    """What makes the removal of old snapshots fail while it is there: the system refuses to remove a file (calls.c), or the index cannot be written."""
+    if kind == "file":
+        return folder / "fails", "Input/output error (os error 5)"
+    return folder / "snapshots/index.jsonl.part", "Is a directory (os error 21)"
+
+
+def an_old_snapshot_that_cannot_be_removed_is_tried_again(program):
+    """After each later one, until it can be; each time that is said."""
+    for kind in "file", "index":
+        fails, works = threading.Event(), threading.Event()
+
+        def script(peer, login):
+            peer.sendall(acceptance(1) + b"".join(map(packet, BLOCKS[:20])))
+            fails.wait(PATIENCE)
+            peer.sendall(b"".join(map(packet, BLOCKS[20:60])))
+            works.wait(PATIENCE)
+            peer.sendall(b"".join(map(packet, BLOCKS[60:80])) + ENDED)
+
+        with shim() as library, folder_with() as folder, Feed(script) as feed:
+            (folder / "snapshots").mkdir()
+            path, why = obstacle(folder, kind)
+            words = "--record", folder / "record", "--snapshots", folder / "snapshots", "--every", "20", "--keep", "1"
+            environment = {"LD_PRELOAD": str(library), "FAIL": "unlink:while", "FAILING": str(folder / "fails")}
+            said = f"snapshots: cannot remove an old one in {folder}/snapshots: {why}\n"
+            with live(program, feed.port, *words, **environment) as server:
+                waits_for(lambda: counts_so_far(folder) == [20])
+                path.mkdir()
+                fails.set()
+                waits_for(lambda: server.lines.count(said) == 2)
+                left = [it.name for it in (folder / "snapshots").glob("*.snap")]
+                yield from differs(f"{kind}, left meanwhile", sorted(left), ["20.snap", "40.snap", "60.snap"])
+                path.rmdir()
+                works.set()
+                status, _, lines = server.ended()
+            yield from differs(f"{kind}, ended", (status, lines.count(said)), (0, 2))
+            yield from snapshots_differ(program, folder, 80)
+
+
 def a_folder_may_be_a_link(program):
     """To one on another disk."""
     with folder_with() as folder:
@@ -339,6 +385,7 @@ RUNS = [
     missing_snapshots_are_written_during_the_replay,
     the_last_snapshots_are_kept,
     the_oldest_snapshots_of_an_earlier_run_are_removed_first,
+    an_old_snapshot_that_cannot_be_removed_is_tried_again,
     a_folder_may_be_a_link,
     nothing_is_left_of_a_snapshot_for_which_there_is_no_room,
     clients_wait_until_it_has_caught_up,

@@ -7,7 +7,7 @@ use itch_sessions::SessionFault;
 use itch_sessions::sessions::PIECE;
 use std::alloc::Global;
 use std::fs;
-use std::io::{BufReader, Read};
+use std::io::{self, BufReader, ErrorKind, Read};
 use std::rt::Files;
 
 /// The messages of a day file, one after another.
@@ -20,13 +20,14 @@ pub struct Playback<F: Read + Drop> {
 }
 
 impl<F: Read + Drop> Playback<F> {
-    /// The file of a path, before its first message.
+    /// The file of a path, before its first message. A pipe or a device is refused: it would give its bytes only once, and each client reads
+    /// the file from its beginning.
     pub fn open<R: Files<File = F> + AllocGlobal>(
         rt: &R,
         path: &str,
     ) -> Result<Playback<F>, SessionFault> {
         let alloc = rt.alloc();
-        let file = match fs::open(rt, path) {
+        let file = match open_again(rt, path) {
             Ok(file) => file,
             Err(error) => return Err(SessionFault::of_system(error, SessionFault::Open(error))),
         };
@@ -95,6 +96,15 @@ impl<F: Read + Drop> Playback<F> {
     pub fn time(&self) -> u64 {
         timestamp(self.message.as_slice())
     }
+}
+
+// Opens a file that can be opened and read any number of times. A pipe must not be opened: that waits until somebody writes to it.
+fn open_again<R: Files>(rt: &R, path: &str) -> io::Result<R::File> {
+    let metadata = fs::metadata(rt, path)?;
+    if !metadata.is_file() && !metadata.is_dir() {
+        return Err(io::Error::from(ErrorKind::NotSeekable));
+    }
+    fs::open(rt, path)
 }
 
 fn stopped(count: u64, stop: Stop) -> SessionFault {

@@ -259,19 +259,19 @@ impl Saver {
         Ok(())
     }
 
-    // Removes the oldest snapshots until no more are left than are kept.
+    // Removes the oldest snapshots until no more are left than are kept. One that cannot be removed is tried again after the next snapshot.
     fn remove_oldest<R: Files<File = File> + AllocGlobal>(&mut self, rt: &R) -> io::Result<()> {
         let Some(keep) = self.keep else {
             return Ok(());
         };
         let keep = usize::try_from(keep).unwrap_or(usize::MAX);
         for _ in keep..self.files.len() {
-            if self.files.is_empty() {
+            let Some(&oldest) = self.files.first() else {
                 break;
-            }
-            let oldest = self.files.remove(0);
+            };
             keep_lines(rt, self.folder.as_str(), KeptLines::AllBut(oldest))?;
             remove(rt, self.folder.as_str(), oldest)?;
+            let _ = self.files.remove(0);
         }
         Ok(())
     }

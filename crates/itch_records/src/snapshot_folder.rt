@@ -145,8 +145,27 @@ pub fn keep_lines<R: Files<File = File> + AllocGlobal>(
         Err(error) if matches!(error.kind(), ErrorKind::NotFound) => return Ok(()),
         Err(error) => return Err(error),
     };
+    let written = match write_kept(rt, index, beside.as_str(), kept) {
+        Ok(()) => fs::rename(rt, beside.as_str(), path.as_str()),
+        Err(error) => Err(error),
+    };
+    if written.is_err() {
+        // The record needs the room of what was written.
+        let _ = fs::remove_file(rt, beside.as_str());
+    }
+    written
+}
+
+// Writes the lines of an index that are kept to the file at a path, and waits until it is on disk.
+fn write_kept<R: Files<File = File> + AllocGlobal>(
+    rt: &R,
+    index: File,
+    path: &str,
+    kept: KeptLines,
+) -> io::Result<()> {
+    let alloc = rt.alloc();
     let mut lines = IndexReader::new(alloc, BufReader::new(alloc, index)?);
-    let mut out = BufWriter::new(alloc, fs::create(rt, beside.as_str())?)?;
+    let mut out = BufWriter::new(alloc, fs::create(rt, path)?)?;
     for _ in 0..u64::MAX {
         let Some(checkpoint) = lines.next()? else {
             break;
@@ -158,8 +177,7 @@ pub fn keep_lines<R: Files<File = File> + AllocGlobal>(
         }
     }
     out.flush()?;
-    out.get_ref().sync_all()?;
-    fs::rename(rt, beside.as_str(), path.as_str())
+    out.get_ref().sync_all()
 }
 
 // What the line of a snapshot of all locates says of it, where it says all.

@@ -5,6 +5,7 @@
 //! `itch_clients`, and `status` asks a live server over HTTP.
 #![tactic(auto)]
 
+mod answers;
 mod at;
 mod beginning;
 mod checkpoints;

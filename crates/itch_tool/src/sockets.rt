@@ -1,5 +1,6 @@
 //! Runs the two ends of a session over sockets.
 
+use crate::answers::Answers;
 use crate::beginning::Beginning;
 use crate::failure::Failure;
 use crate::opened::open;
@@ -65,7 +66,7 @@ pub fn run_fetch<R>(
     output: Option<&str>,
 ) -> Result<bool, Failure>
 where
-    R: Files + Print + AllocGlobal + Net<Stream = TcpStream>,
+    R: Files + Print + AllocGlobal + Clock + Net<Stream = TcpStream>,
 {
     let login = read_login(rt, login)?;
     let Some(path) = output else {
@@ -87,10 +88,11 @@ fn fetch_to<R, W: Write + Drop>(
     writer: W,
 ) -> Result<bool, SessionFault>
 where
-    R: Files + AllocGlobal + Net<Stream = TcpStream>,
+    R: Files + AllocGlobal + Clock + Net<Stream = TcpStream>,
 {
     let stream = connect(rt, server)?;
-    let Ok(buffered) = BufReader::with_capacity(rt.alloc(), PIECE, &stream) else {
+    let answers = Answers::new(&stream, limit_of(server), rt);
+    let Ok(buffered) = BufReader::with_capacity(rt.alloc(), PIECE, answers) else {
         return Err(SessionFault::OutOfMemory);
     };
     let mut reader = BlockReader::new(rt.alloc(), Buffered::new(buffered))?;
@@ -143,17 +145,20 @@ fn connect_as_told<N: Net<Stream = TcpStream>>(
     server: &Server<'_>,
 ) -> io::Result<TcpStream> {
     let address = (server.host, server.port);
-    let Some(seconds) = server.timeout else {
+    let Some(limit) = limit_of(server) else {
         let stream = TcpStream::connect(net, address)?;
         stream.set_nodelay(true)?;
         return Ok(stream);
     };
-    let limit = Duration::from_secs(seconds);
     let stream = connect_within(net, address, limit)?;
     stream.set_nodelay(true)?;
-    stream.set_read_timeout(Some(limit))?;
     stream.set_write_timeout(Some(limit))?;
     Ok(stream)
+}
+
+// Returns how long a server may be silent, if there is a time limit.
+fn limit_of(server: &Server<'_>) -> Option<Duration> {
+    server.timeout.map(Duration::from_secs)
 }
 
 // Tries each address of a host in turn, for the given time each. Returns the last error if none answers.

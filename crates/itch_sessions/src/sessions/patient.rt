@@ -63,10 +63,17 @@ impl<'a, S, C: Clock> Patient<'a, S, C> {
 impl<S: Read + OpenStream, C: Clock> Read for Patient<'_, S, C> {
     ghost remaining = { λ p. S.remaining p.stream };
 
+    // A read with a time limit ends with `Interrupted` when the process is stopped and continued. It is tried again for the time that is left.
     fn read(&mut self, buf: &mut [u8]) -> io::Result<usize> {
-        let left = self.left()?;
-        self.stream.set_read_timeout(Some(left))?;
-        self.stream.read(buf)
+        for _ in 0..u64::MAX {
+            let left = self.left()?;
+            self.stream.set_read_timeout(Some(left))?;
+            match self.stream.read(buf) {
+                Err(error) if matches!(error.kind(), ErrorKind::Interrupted) => {}
+                read => return read,
+            }
+        }
+        Err(io::Error::from(ErrorKind::TimedOut))
     }
 }
 
