@@ -1,4 +1,4 @@
--- What reading a snapshot leaves, if memory does not run out.
+-- The unfinished snapshot after some messages, if memory does not run out.
 use Rattle.std.specs.Prelude.{ℕ, ◌+◌, List, [], ◌∷◌, map}
 use Rattle.itch_codec.specs.Messages.{spelling}
 use Rattle.itch_market.specs.Content.{Content, laid}
@@ -21,6 +21,6 @@ abbrev pub half_after : Rules → HalfRead → List (List ℕ) → HalfRead
 half_after R half [] = half
 half_after R half (p ∷ ps) = half_after R (half_next R half p (half_case R half p)) ps
 
--- after the snapshot list of a market, its End of Snapshot not yet read
+-- after the snapshot list of a market, before its End of Snapshot
 abbrev pub half_of_snapshot : Rules → Content → HalfRead
 half_of_snapshot R m = half_after R unread (map spelling (snap m))
