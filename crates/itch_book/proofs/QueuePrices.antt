@@ -98,7 +98,7 @@ prices_worsen s (x ∷ xs) h = (
   Worsen-filter s (other_than x.price) (prices xs) (prices_worsen s xs h.1),
 )
 
--- after a price come exactly the worse ones
+-- the prices after a price are exactly the worse ones
 worse_after : (s : Side) (before rest : List ℕ) (p : ℕ) → Worsen s (before ++ p ∷ rest) → filter (is_worse s (Some p)) (before ++ p ∷ rest) ≡ rest
 worse_after s [] rest p h = let own = not_itself s p in simp own (filter_all (is_worse s (Some p)) rest h.0)
 worse_after s (q ∷ before) rest p h =

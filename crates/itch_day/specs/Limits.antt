@@ -5,7 +5,7 @@ use Rattle.itch_codec.specs.Headers.{time_of}
 use Rattle.itch_codec.specs.declared.message.Message.{Message}
 use Rattle.itch_day.specs.declared.limit.Limit.{Limit}
 
--- the limit after this number of messages, or that of the whole file
+-- the limit after this number of messages, or that of the complete file
 abbrev pub counted : Option ℕ → Limit
 counted after = record { after = after; until = None }
 

@@ -4,7 +4,7 @@ ghost use Rattle.itch_day.specs.Limits.{counted, is_late, most_of};
 
 use itch_codec::Message;
 
-/// The end of the requested part of a file: whichever limit comes first. Without a limit it is the whole file.
+/// The end of the requested part of a file: the first of its limits that is reached. Without a limit the part is the complete file.
 #[derive(Clone, Copy, Debug, PartialEq, Eq)]
 pub struct Limit {
     /// Ends the part after this number of messages.
@@ -14,14 +14,14 @@ pub struct Limit {
 }
 
 impl Limit {
-    /// Returns the limit of the whole file.
+    /// Returns the limit of the complete file.
     pub fn whole() -> Limit
         ensures { result ≡ counted None }
     {
         Limit::counted(None)
     }
 
-    /// Returns the limit after this number of messages, or that of the whole file.
+    /// Returns the limit after this number of messages, or that of the complete file.
     pub fn counted(after: Option<u64>) -> Limit
         ensures { result ≡ counted after }
     {

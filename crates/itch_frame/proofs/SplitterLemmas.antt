@@ -72,7 +72,7 @@ need-append [] more long = absurd (omega arith)
 need-append (x ∷ []) more long = absurd (omega arith)
 need-append (x ∷ y ∷ payload) more long = refl
 
--- the needed number of bytes, if there are that many, is a block
+-- the first bytes, up to the needed number, are a block if there are enough
 pub first_needed : (bytes : List ℕ) → 2 ≤ length bytes → need bytes ≤ length bytes → need bytes ≤ 65537 → ((k : ℕ) → get_or bytes k 0 < 256)
     → IsBlock (take (need bytes) bytes)
 first_needed bytes long within bound fits =

@@ -78,7 +78,7 @@ fn room<A: Allocator>(alloc: A) -> Result<Vec<u8, A>, AllocError>
     Vec::with_capacity(alloc, LONGEST)
 }
 
-/// Returns how many more bytes the current block needs, according to the bytes so far: first the two length bytes.
+/// Returns how many more bytes the current block needs, according to the bytes so far: the two length bytes come first.
 pub(crate) fn lacking(held: &[u8]) -> usize
     ensures count { result ≡ need held.now - length held.now }
     ensures bound { need held.now ≤ 65537 }
