@@ -46,7 +46,7 @@ Open rest = (0 < length rest) × HasNoBlock rest
 abbrev pub IsFull : List ℕ → Type 0
 IsFull payload = (0 < length payload) × IsPayload payload
 
--- the bytes of a day file: the blocks of these payloads, none of them empty, and then the end of the day or an unfinished block
+-- the bytes are the blocks of these payloads, none of them empty, and then the end of the day or an unfinished block
 pub record Day (bytes : List ℕ) (payloads : List (List ℕ)) (rest : List ℕ) : Type 0 where
   pub whole : bytes ≡ blocks payloads ++ rest
   pub each : AllByRecursion IsFull payloads

@@ -36,7 +36,7 @@ use Rattle.itch_join.proofs.LawfulRules.{market_lawful, faultless, reasonless}
 use Rattle.itch_join.proofs.Premises.{laid_empty, take_short, reads_on, ends_so, meets}
 use Rattle.itch_join.proofs.RestrictedFeeds.{led, restricted}
 
--- equal markets are equal after the restriction
+-- markets that are the same remain so after the restriction
 pub same_only : (wanted : ℕ → Bool) (m n : Content) → IsGood m → IsGood n → Same m n → Same (only wanted m) (only wanted n)
 same_only wanted m n good fine same =
     same_snap (only wanted m) (only wanted n) (only_good wanted m good) (only_good wanted n fine)

@@ -41,7 +41,7 @@ abbrev pub LeadsTo : Rules → ℕ → List Event → State → Type 0
 LeadsTo R cap [] now = now ≡ new
 LeadsTo R cap (x ∷ past) now = Step R cap x.before x.call now × LeadsTo R cap past x.before
 
--- the same, if the deliveries belong to one feed
+-- the same for calls whose deliveries belong to one feed
 abbrev pub History : Rules → ℕ → List (List ℕ) → List Event → State → Type 0
 History R cap feed [] now = now ≡ new
 History R cap feed (x ∷ past) now = Step R cap x.before x.call now × Fits R feed x.before x.call × History R cap feed past x.before

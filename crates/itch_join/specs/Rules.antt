@@ -23,7 +23,7 @@ pub record Rules : Type 0 where
   -- the number in it, if it is End of Snapshot
   pub end_number : List ℕ → Option ℕ
 
--- Equal markets refuse the same messages for the same causes, and remain equal. A good market remains good.
+-- Markets that are the same refuse the same messages for the same causes, and remain the same. A good market remains good.
 pub record AreLawful (R : Rules) : Type 0 where
   pub refused_same : (m n : Content) (p : List ℕ) → IsGood m → IsGood n → Same m n → R.refused m p ≡ R.refused n p
   pub effect_same : (m n : Content) (p : List ℕ) → IsGood m → IsGood n → AreBytes p → Same m n → R.refused m p ≡ None → Same (R.effect m p) (R.effect n p)
@@ -65,7 +65,7 @@ market_rules = record {
   end_number = closing_number;
 }
 
--- the same if only some locates are wanted: a message that is skipped must be valid, but it has no reason and no effect
+-- the rules if only some locates are wanted: a message that is skipped must be valid, but it has no reason and no effect
 abbrev pub rules_of : (ℕ → Bool) → Rules
 rules_of wanted = record {
   refused = λ m p. if is_skipped wanted p then None else market_rules.refused m p;

@@ -18,8 +18,8 @@ ghost use Rattle.itch_join.specs.Deliveries.{Event, LeadsTo, History, IsOfFeed, 
 ghost use Rattle.itch_join.specs.Premise.{half_after, half_of_snapshot};
 ghost use Rattle.itch_join.specs.Stands.{Stands, LastIsRight, AreAllAccepted, IsAtEnd};
 
-/// The rules of markets are lawful: equal markets refuse the same messages for the same causes, and remain equal. So are the rules in which
-/// only some locates are wanted; if all locates are wanted, they are the rules of markets.
+/// The rules of markets are lawful: markets that are the same refuse the same messages for the same causes, and remain the same. So are the
+/// rules in which only some locates are wanted; if all locates are wanted, they are the rules of markets.
 pub fn lawful_market()
     ensures market { AreLawful market_rules }
     ensures only { (wanted : ℕ → Bool) → AreLawful (rules_of wanted) }

@@ -354,7 +354,7 @@ plain_effect m (is.BrokenTrade x) good = refl
 plain_effect m (is.End next) good = refl
 plain_effect m (is.Other payload) good = refl
 
--- messages with the same plain message change equal markets in the same way
+-- messages with the same plain message have the same effect on markets that are the same
 pub plain_same : (m n : Content) (x y : Message) → IsGood m → IsGood n → Same m n → IsMessage x → reason m x ≡ None → plain m x ≡ plain n y
     → Same (effect m x) (effect n y)
 plain_same m n x y good fine same fits none alike =
