@@ -21,7 +21,7 @@ pub struct Figures {
     /// The number of messages received since the start, and in the last minute.
     pub messages: u64,
     pub minute: Minute,
-    /// The timestamp of the last message, in nanoseconds since midnight, and the time since it was received.
+    /// The timestamp of the last message, in nanoseconds since midnight, and the time since it was received, in milliseconds.
     pub market_ns: Option<u64>,
     pub silence_ms: Option<u64>,
     /// The number of the feed's server in use, from 1, and how often a connection to a server was lost or failed.
@@ -45,7 +45,7 @@ pub struct Figures {
     pub missed: u64,
     /// The number of lines of the log that could not be written.
     pub lines_lost: u64,
-    /// The time since the server started.
+    /// The time since the server started, in milliseconds.
     pub uptime_ms: u64,
 }
 

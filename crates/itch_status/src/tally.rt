@@ -11,7 +11,7 @@ pub struct Tally {
     pub next: Option<u64>,
     pub messages: u64,
     pub minute: Minute,
-    /// The time when the last message was received.
+    /// The time when the last message was received, in milliseconds.
     pub received_ms: Option<u64>,
 }
 
@@ -46,7 +46,7 @@ impl Tally {
         }
     }
 
-    /// Returns the time since the last message was received.
+    /// Returns the time since the last message was received, in milliseconds, or `None` if none was received.
     pub fn silence_ms(&self, now_ms: u64) -> Option<u64>
         ensures { result ≡ option_map (λ received. now_ms - received) self.now.received_ms }
     {
