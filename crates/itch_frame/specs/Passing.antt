@@ -32,7 +32,7 @@ module _ {R : Type 0} (remaining : R → Option (List ℕ)) (failures : R → Fa
     pub bytes : Consumes (bytes_left remaining old) (bytes_left remaining new) (blocks payloads)
     pub uncounted : failures new.reader ≡ failures old.reader
 
-  -- the requested number of messages came off the front; or fewer, and then the messages ended or a read failed
+  -- the requested number of messages came off the front; or fewer, and then the messages ended or there was a fault
   abbrev pub PassesMessages : ℕ → Reading R → ℕ → Result Bool FrameFault → Reading R → Type 0
   PassesMessages most old count (Ok true) new = (count ≡ most) × PassedOver old count new
   PassesMessages most old count (Ok false) new = (count < most) × ((mid : Reading R) × PassedOver old count mid × PassesMessage mid (Ok false) new)
