@@ -121,8 +121,7 @@ fn a_part_goes_on_where_the_one_before_it_stopped(rt: HostRuntime) -> TestResult
     Ok(())
 }
 
-// A sink that accepts each odd message from its payload alone, and the others decoded. It counts the former, and checks that all come in
-// order.
+// A sink that takes each odd message from its payload, and the others decoded. It counts the former, and checks that all come in order.
 #[derive(Drop)]
 struct Hasty {
     at_once: u64,
@@ -170,8 +169,7 @@ impl Sink for Hasty {
     }
 }
 
-// Reads a part of the day through a buffer of this size, and checks that `taken` messages arrive in order, `at_once` of them by their payload
-// alone.
+// Reads a part of the day through a buffer of this size, and checks that `taken` messages arrive in order, `at_once` of them undecoded.
 fn takes_together(
     rt: &impl Host,
     capacity: usize,
@@ -194,8 +192,8 @@ fn takes_together(
     Ok(())
 }
 
-// The message of the first block is decoded, because its block is read. No message is taken by its payload alone if a block does not fit the
-// buffer, or if the time of each message is needed.
+// The message of the first block is decoded, because its block is read. All messages are decoded if a block does not fit the buffer, or if
+// the time of each message is needed.
 #[test]
 fn messages_at_hand_are_taken_together(rt: HostRuntime) -> TestResult {
     for (capacity, after, until, taken, at_once) in [

@@ -96,8 +96,8 @@ impl ClientSide {
         self.link.try_to_write();
     }
 
-    /// Writes pending bytes, up to [`SHARE`], and returns how many were written. When the client has received everything, the sending half of
-    /// the connection is shut down.
+    /// Writes pending bytes, up to 1 MiB, and returns how many were written. When the client has received everything, the sending half of the
+    /// connection is shut down.
     pub fn tell<B: OrderBook>(&mut self, desk: &mut Desk<B>, place: usize, now_ms: u64) -> u64 {
         let mut sent = 0u64;
         for _ in 0..SHARE {

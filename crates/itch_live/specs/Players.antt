@@ -76,7 +76,7 @@ first_of (Playing first) = Some first
 first_of (Ended first) = Some first
 first_of progress = None
 
--- the progress after the end of the session, if the session was going on
+-- the progress after the end of the session, if the session has not ended yet
 abbrev pub after_end : Progress → Progress
 after_end (Playing first) = Ended first
 after_end progress = progress

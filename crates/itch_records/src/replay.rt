@@ -20,8 +20,8 @@ use std::io::{BufReader, Seek, SeekFrom};
 /// A replay pauses after this many messages, which take a few milliseconds.
 const PART: u64 = 8_192;
 
-/// Returns the message at which a replay at message `count` pauses: after [`PART`] more messages, or when the next snapshot is due, if
-/// `every` is not 0.
+/// Returns the message at which a replay at message `count` pauses: after 8,192 more messages, or when the next snapshot is due, if `every`
+/// is not 0.
 pub fn next_stop(every: u64, count: u64) -> u64
     ensures { result ≡ next_stop every count }
 {

@@ -77,8 +77,7 @@ impl Display for Listening {
 }
 
 /// Serves a market to `count` connections, one after another, and writes a line for each: how it was answered, or that it had a fault. A
-/// fault ends only that connection. A peer has 15 seconds for its login, and 15 seconds for its answer plus one more second for each 64 KiB
-/// of it.
+/// fault ends only that connection. A peer has 15 seconds for its login, and 15 seconds for its answer plus one more second per 64 KiB.
 ///
 /// The caller keeps the snapshot below 10^19 - 1 messages, as counted by `snapshot_len`.
 ///
