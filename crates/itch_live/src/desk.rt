@@ -24,8 +24,8 @@ use std::rc::Rc;
 
 /// A live server without its sockets: it follows a feed, and has a fixed number of places for clients.
 ///
-/// The caller passes in the bytes that arrive, writes [`Desk::pending`] as far as each socket accepts it, and reports the number of bytes
-/// written by [`Desk::took`]. A call for one client does not affect the others.
+/// The caller passes in the bytes that arrive, writes [`Desk::pending`] as far as each socket accepts it, and calls [`Desk::took`] with the
+/// number of bytes written. A call for one client does not affect the others.
 #[derive(Drop)]
 pub struct Desk<B: OrderBook> {
     alloc: B::Alloc,
@@ -153,7 +153,7 @@ impl<B: OrderBook> Desk<B> {
         }
     }
 
-    /// Reports that the socket of the client at a place accepted the first `count` of the pending bytes at this time.
+    /// Records that the socket of the client at a place accepted the first `count` of the pending bytes at this time.
     pub fn took(&mut self, place: usize, count: usize, now_ms: u64)
         requires { count ≤ length (places.pending_of (places.guest_at self.old.seats place)) }
         ensures { self.new ≡ record self.old { seats = places.took_at self.old.seats place count now_ms } }
@@ -161,7 +161,7 @@ impl<B: OrderBook> Desk<B> {
         took_at(&mut self.seats, place, count, now_ms)
     }
 
-    /// Reports the time to all clients. A client without progress for 15 seconds is disconnected; see [`Guest::tick`].
+    /// Checks the timeouts of all clients at this time. A client without progress for 15 seconds is disconnected; see [`Guest::tick`].
     pub fn tick(&mut self, now_ms: u64)
         ensures { self.new ≡ record self.old { seats = places.ticked now_ms self.old.seats } }
     {

@@ -22,7 +22,7 @@ const SILENCE_MS: u64 = 15_000;
 /// A server that has been silent for longer than this sends a heartbeat.
 const IDLE_MS: u64 = 1_000;
 
-/// Taking this many bytes, or all remaining ones, counts as progress.
+/// Accepting this many bytes, or all remaining ones, counts as progress.
 const SHARE: usize = 65_536;
 
 /// One client of a live server: what it has sent, and what it is to receive.
@@ -180,7 +180,7 @@ impl<A: Allocator> Guest<A> {
         self.note.bytes()
     }
 
-    /// Reports that the client's socket accepted the first `count` of the pending bytes at this time.
+    /// Records that the client's socket accepted the first `count` of the pending bytes at this time.
     pub fn took(&mut self, count: usize, now_ms: u64)
         requires { count ≤ length (guests.pending self.old) }
         ensures { self.new ≡ guests.took self.old count now_ms }
@@ -200,8 +200,8 @@ impl<A: Allocator> Guest<A> {
         }
     }
 
-    /// Reports the time. A client without progress for 15 seconds is disconnected. A client that waits for its snapshot and was sent nothing
-    /// for more than a second is sent a heartbeat.
+    /// Checks the timeouts at this time. A client without progress for 15 seconds is disconnected. A client that waits for its snapshot and
+    /// was sent nothing for more than a second is sent a heartbeat.
     ///
     /// Until the login is accepted, each packet from the client is progress. A waiting client is disconnected only if its socket accepts
     /// nothing of the Login Accepted packet or of a heartbeat for 15 seconds. After that, progress means that the socket accepted another
@@ -231,7 +231,7 @@ impl<A: Allocator> Guest<A> {
         self.note.is_empty() && self.is_waiting() && now_ms.saturating_sub(self.sent) > IDLE_MS
     }
 
-    /// Reports that the client is gone. The reason is [`Gone::Left`], unless it was gone before.
+    /// Records that the client is gone. The reason is [`Gone::Left`], unless it was gone before.
     pub fn leave(&mut self)
         ensures { self.new ≡ guests.left self.old }
     {

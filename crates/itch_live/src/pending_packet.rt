@@ -68,7 +68,7 @@ impl PendingPacket {
         &self.bytes[self.sent..]
     }
 
-    /// Reports that the socket accepted the first `count` of these bytes.
+    /// Records that the socket accepted the first `count` of these bytes.
     pub fn took(&mut self, count: usize)
         requires { count ≤ length self.old }
         ensures { self.new ≡ drop count self.old }

@@ -19,8 +19,8 @@ const IDLE_MS: u64 = 1_000;
 
 /// One client of a live feed (SoupBinTCP 3.00): it receives the messages of a day, starting at the number in its login.
 ///
-/// The caller passes in message n while [`Player::wanted`] returns n, writes [`Player::pending`] as far as the socket accepts it, and reports
-/// the number of bytes written by [`Player::took`]. [`Player::new`] allocates all memory: 65,537 bytes for input and 131,076 for output.
+/// The caller passes in message n while [`Player::wanted`] returns n, writes [`Player::pending`] as far as the socket accepts it, and calls
+/// [`Player::took`] with the number of bytes written. [`Player::new`] allocates all memory: 65,537 bytes for input and 131,076 for output.
 #[derive(Drop)]
 pub struct Player<A: Allocator> {
     total: u64,
@@ -164,8 +164,8 @@ impl<A: Allocator> Player<A> {
         }
     }
 
-    /// Reports the time. A client that has sent nothing and accepted nothing for 15 seconds is disconnected. Any other client is sent a
-    /// heartbeat if nothing is pending and nothing was sent for more than a second.
+    /// Checks the timeouts at this time. A client that has sent nothing and accepted nothing for 15 seconds is disconnected. Any other client
+    /// is sent a heartbeat if nothing is pending and nothing was sent for more than a second.
     pub fn tick(&mut self, now_ms: u64)
         ensures { self.new ≡ players.ticked self.old now_ms }
     {
@@ -187,7 +187,7 @@ impl<A: Allocator> Player<A> {
         self.outbox.bytes()
     }
 
-    /// Reports that the client's socket accepted the first `count` of the pending bytes at this time.
+    /// Records that the client's socket accepted the first `count` of the pending bytes at this time.
     pub fn took(&mut self, count: usize, now_ms: u64)
         requires { count ≤ length (players.pending self.old) }
         ensures { self.new ≡ players.took self.old count now_ms }
@@ -199,7 +199,7 @@ impl<A: Allocator> Player<A> {
         }
     }
 
-    /// Reports that the client is gone. The reason is [`Gone::Left`], unless it was gone before.
+    /// Records that the client is gone. The reason is [`Gone::Left`], unless it was gone before.
     pub fn leave(&mut self)
         ensures { self.new ≡ players.left self.old }
     {

@@ -50,7 +50,7 @@ pub(crate) fn hear_at<A: Allocator>(
     piece.len()
 }
 
-/// Reports that the socket of the client at a place accepted the next bytes.
+/// Records that the socket of the client at a place accepted the next bytes.
 pub(crate) fn took_at<A: Allocator>(seats: &mut [Seat<A>], place: usize, count: usize, now_ms: u64)
     requires { count ≤ length (places.pending_of (places.guest_at seats.old place)) }
     ensures { seats.new ≡ places.took_at seats.old place count now_ms }
@@ -62,7 +62,7 @@ pub(crate) fn took_at<A: Allocator>(seats: &mut [Seat<A>], place: usize, count: 
     }
 }
 
-/// Reports the time to each client.
+/// Checks the timeouts of each client.
 pub(crate) fn tick_all<A: Allocator>(seats: &mut [Seat<A>], now_ms: u64)
     ensures { seats.new ≡ places.ticked now_ms seats.old }
 {

@@ -5,7 +5,7 @@ use Rattle.itch_live.specs.declared.gone.Gone.TheVariants as gone
 use Rattle.itch_sessions.specs.declared.departure.Departure.{Departure}
 use Rattle.itch_sessions.specs.declared.departure.Departure.TheVariants.{Answered, Played, Rejected, Left, Fault, CutOff, Slowest}
 
--- how the connection of a client ended that is gone for this reason
+-- how a client's connection ended if the client is gone for this reason
 abbrev pub of_gone : Gone → Departure
 of_gone gone.Left = Left
 of_gone gone.Fault = Fault

@@ -80,7 +80,7 @@ impl Callers {
         }
         match self.listener.accept() {
             Ok((stream, address)) => {
-                // Every write is as large as possible, so the system need not hold back data to merge it.
+                // Every write is as large as possible already, so the system need not hold back data to merge it with later data.
                 let _ = stream.set_nodelay(true);
                 Caller::Stream(stream, address.ip())
             }

@@ -45,7 +45,7 @@ impl From<Gone> for Departure {
     }
 }
 
-/// Returns how the connection of a client ended that is gone for this reason. A rejection takes precedence, and then a complete answer,
+/// Returns how a client's connection ended if the client is gone for this reason. A rejection takes precedence, and then a complete answer,
 /// whatever happened later.
 pub fn departure_of(code: Option<u8>, served: Option<Departure>, gone: Gone) -> Departure
     ensures { result ≡ departure_of code served gone }

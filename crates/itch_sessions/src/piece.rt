@@ -55,7 +55,7 @@ impl Piece {
         self.from == self.to
     }
 
-    /// Reports that the first `count` bytes were passed on.
+    /// Records that the first `count` bytes were passed on.
     #[tactic(auto, using(crate::proofs::Ranges::front_passed))]
     pub fn passed(&mut self, count: usize)
         requires { count ≤ length self.old }

@@ -98,7 +98,7 @@ impl<'a> Route<'a> {
         }
     }
 
-    /// Reports that a login was accepted there at this time.
+    /// Records that a login was accepted there at this time.
     pub fn accept(&mut self, now_ms: u64) {
         self.accepted_ms = Some(now_ms);
     }
@@ -108,7 +108,7 @@ impl<'a> Route<'a> {
         self.spot = Spot::FIRST;
     }
 
-    /// Reports that the connection is lost, or could not be made. Returns how many milliseconds to wait before the next one.
+    /// Records that the connection is lost, or could not be made. Returns how many milliseconds to wait before the next one.
     pub fn lose(&mut self, live: bool, now_ms: u64) -> u64 {
         let stayed_ms = match self.accepted_ms.take() {
             Some(accepted_ms) => now_ms.saturating_sub(accepted_ms),

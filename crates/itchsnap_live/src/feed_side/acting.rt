@@ -45,7 +45,8 @@ impl FeedSide<'_> {
         Ok(())
     }
 
-    // The login was accepted from a number on. If this is not the next number, messages are missing, and the connection is made again.
+    // Handles a login that was accepted from a number on. If this is not the next number, messages are missing, and the connection is made
+    // again.
     fn accept<R: Eprint, B: OrderBook>(
         &mut self,
         log: &mut Log<'_, R>,
@@ -77,8 +78,8 @@ impl FeedSide<'_> {
         }
     }
 
-    // The server has ended its session. If it has sent no message yet, the connection is made again, and also if a snapshot server has not
-    // sent its End of Snapshot.
+    // Handles the end of the server's session. The connection is made again if the server has sent no message yet, or if a snapshot server
+    // has not sent its End of Snapshot.
     fn end<R: Eprint, B: OrderBook>(
         &mut self,
         log: &mut Log<'_, R>,
@@ -112,8 +113,8 @@ impl FeedSide<'_> {
         Ok(())
     }
 
-    // The server is in another session. If it was accepted before, the connection is made again: the clients keep the market of the session
-    // that they logged in to.
+    // Handles a server that is in another session. If it was accepted before, the connection is made again, and the clients keep the market
+    // of the session that they logged in to.
     fn refuse<R: Eprint, B: OrderBook>(
         &mut self,
         log: &mut Log<'_, R>,
