@@ -21,7 +21,7 @@ impl Budget {
         }
     }
 
-    /// Returns whether a snapshot may be encoded now. `idle` means that no client is waiting for bytes meanwhile.
+    /// Returns whether a snapshot may be encoded now. `idle` means that there is no other work.
     pub fn allows(&self, now_ms: u64, idle: bool) -> bool
         ensures { result ≡ may_encode self.now.ended_ms self.now.took_ms now_ms idle }
     {

@@ -239,8 +239,8 @@ impl Clients {
         }
     }
 
-    /// Makes room after those clients that could be answered were. If one has waited for half a second, the client disconnected is the one
-    /// that has been receiving its snapshot for longest, at less than a megabyte per second, together with all clients that receive the same
+    /// Makes room for clients that still wait after the others were answered. If one has waited for half a second, this disconnects the
+    /// client that has been receiving its snapshot for longest at less than a megabyte per second, and all others that receive the same
     /// snapshot as slowly.
     pub fn make_room<B: OrderBook>(
         &mut self,
