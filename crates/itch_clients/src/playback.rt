@@ -20,8 +20,7 @@ pub struct Playback<F: Read + Drop> {
 }
 
 impl<F: Read + Drop> Playback<F> {
-    /// The file of a path, before its first message. A pipe or a device is refused: it would give its bytes only once, and each client reads
-    /// the file from its beginning.
+    /// Opens the file at a path, before its first message. A pipe or a device is refused, because each client reads the file from its beginning.
     pub fn open<R: Files<File = F> + AllocGlobal>(
         rt: &R,
         path: &str,
@@ -106,7 +105,7 @@ impl<F: Read + Drop> Playback<F> {
     }
 }
 
-// Opens a file that can be opened and read any number of times. A pipe must not be opened: that waits until somebody writes to it.
+// Opens a file that can be read any number of times. A pipe must not be opened: this would wait for a writer.
 fn open_again<R: Files>(rt: &R, path: &str) -> io::Result<R::File> {
     let metadata = fs::metadata(rt, path)?;
     if !metadata.is_file() && !metadata.is_dir() {

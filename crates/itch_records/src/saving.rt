@@ -271,7 +271,7 @@ impl Saver {
         Ok(())
     }
 
-    // Removes the oldest snapshots until no more are left than are kept. One that cannot be removed is tried again after the next snapshot.
+    // Removes the oldest snapshots until only the requested number is left. If one cannot be removed, it is tried again after the next snapshot.
     fn remove_oldest<R: Files<File = File> + AllocGlobal>(&mut self, rt: &R) -> io::Result<()> {
         let Some(keep) = self.keep else {
             return Ok(());

@@ -167,13 +167,13 @@ pub fn keep_lines<R: Files<File = File> + AllocGlobal>(
         Err(error) => Err(error),
     };
     if written.is_err() {
-        // The record needs the room of what was written.
+        // The record needs the space of the incomplete file.
         let _ = fs::remove_file(rt, beside.as_str());
     }
     written
 }
 
-// Writes the lines of an index that are kept to the file at a path, and waits until it is on disk.
+// Writes the kept lines of an index to the file at a path, and waits until it is on disk.
 fn write_kept<R: Files<File = File> + AllocGlobal>(
     rt: &R,
     index: File,

@@ -63,7 +63,7 @@ impl<'a, S, C: Clock> Patient<'a, S, C> {
 impl<S: Read + OpenStream, C: Clock> Read for Patient<'_, S, C> {
     ghost remaining = { λ p. S.remaining p.stream };
 
-    // A read with a time limit ends with `Interrupted` when the process is stopped and continued. It is tried again for the time that is left.
+    // A read with a time limit ends with `Interrupted` if the process is stopped and continued. It is repeated with the remaining time.
     fn read(&mut self, buf: &mut [u8]) -> io::Result<usize> {
         for _ in 0..u64::MAX {
             let left = self.left()?;
