@@ -42,7 +42,7 @@ impl<A: Allocator> Finder<A> {
     #[inline(always)]
     fn pass(&mut self, message: &Message<'_>) -> Result<(), NotPassed>
         ensures number { self.new.number ≡ self.old.number }
-        ensures { Collects self.old.number message.now self.old.replacements.items result self.new.replacements.items }
+        ensures collects { Collects self.old.number message.now self.old.replacements.items result self.new.replacements.items }
     {
         let replacement = Replacement::of(message);
         if names(self.number, message) {
@@ -59,7 +59,7 @@ impl<A: Allocator> Finder<A> {
     #[inline(never)]
     fn push(&mut self, replacement: Replacement) -> Result<(), NotPassed>
         ensures number { self.new.number ≡ self.old.number }
-        ensures { MatchResult result (λ _. self.new.replacements.items ≡ self.old.replacements.items ++ replacement ∷ [])
+        ensures pushed { MatchResult result (λ _. self.new.replacements.items ≡ self.old.replacements.items ++ replacement ∷ [])
             (λ why. why ≡ NotPassed.OutOfMemory) }
     {
         match self.replacements.push(replacement) {
