@@ -1,5 +1,5 @@
 -- The numbers of an order, by the list of its replacements.
-use Rattle.std.proofs.Common.{◌≡◌, ℕ, zero, suc, ◌+◌, ◌<◌, ◌≤◌, List, [], ◌∷◌, ◌++◌, length, drop, get_or, Option, None, Some, refl, sym, ap, ◌∙◌, arith}
+use Rattle.std.proofs.Common.{◌≡◌, ℕ, zero, suc, ◌+◌, ◌-◌, ◌<◌, ◌≤◌, List, [], ◌∷◌, ◌++◌, length, drop, get_or, Option, None, Some, refl, sym, ap, ◌∙◌, arith}
 use Rattle.itch_codec.specs.declared.message.Message.{Message}
 use Rattle.itch_history.specs.Histories.{before_replacement, first_by, first_number, listed, replacement_of, replacements_of}
 use Rattle.itch_history.specs.declared.chain.Replacement.{Replacement}
@@ -36,8 +36,13 @@ pub back_more : (rs : List Replacement) (default : Replacement) (index number : 
 unfolding first_by
 back_more [] default index number within = absurd (omega (arith, within))
 back_more (r ∷ rs) default zero number within = refl
-back_more (r ∷ rs) default (suc index) number within = back_more rs default index number (omega (arith, within))
+back_more (r ∷ rs) default (suc index) number within =
+    let same : suc index + 1 ≡ suc (index + 1) = omega arith in
+    ap (λ k. before_replacement (Some (get_or rs index default)) (first_by (drop k (r ∷ rs)) number)) same ∙ back_more rs default index number (omega (arith, within))
 
--- all are gone back over
-pub back_done : (rs : List Replacement) (number : ℕ) → first_by (drop 0 rs) number ≡ first_by rs number
-back_done rs number = refl
+pub back_on : (rs : List Replacement) (default : Replacement) (index number first : ℕ) → 0 < index → index ≤ length rs → first ≡ first_by (drop index rs) number
+    → before_replacement (Some (get_or rs (index - 1) default)) first ≡ first_by (drop (index - 1) rs) number
+back_on rs default index number first some within is =
+    let same : index ≡ index - 1 + 1 = omega (arith, some) in
+    ap (before_replacement (Some (get_or rs (index - 1) default))) (is ∙ ap (λ k. first_by (drop k rs) number) same)
+    ∙ back_more rs default (index - 1) number (omega (arith, some, within))
