@@ -1,11 +1,9 @@
 -- The numbers of an order in a day whose order reference numbers are unique.
-use Rattle.std.proofs.Common.{◌≡◌, ◌≢◌, ℕ, ◌==◌, ◌||◌, Bool, true, false, List, [], ◌∷◌, ◌++◌, Option, None, Some, if◌then◌else◌, refl, sym, ap, subst, ◌∙◌, append-nil, eq-eqb, ne_eqb, eqb-true, arith}
-use Rattle.std.proofs.lemmas.Bool.{eqb-false}
+use Rattle.std.proofs.Common.{◌≡◌, ℕ, ◌==◌, ◌||◌, Bool, true, false, List, [], ◌∷◌, ◌++◌, Option, None, Some, if◌then◌else◌, refl, sym, ap, subst, ◌∙◌, append-nil, eq-eqb, ne_eqb, eqb-true}
 use Rattle.std.specs.List.{AllByRecursion}
-use Rattle.itch_codec.specs.Headers.{reference_of}
 use Rattle.itch_codec.specs.declared.message.Message.{Message}
 use Rattle.itch_codec.specs.declared.message.Message.TheVariants as is
-use Rattle.itch_history.specs.Histories.{after_replacement, before_replacement, first_number, gives, is_about, is_number, last_number, names, number_after, number_before, replacement_of}
+use Rattle.itch_history.specs.Histories.{after_replacement, before_replacement, first_number, gives, is_about, last_number, names, number_after, number_before, replacement_of}
 use Rattle.itch_history.specs.Lives.{AreDone, IsAlone, IsDone, StaysAlone}
 use Rattle.itch_history.specs.declared.chain.Replacement.{Replacement}
 
@@ -100,6 +98,20 @@ forth (Some r) number other = by_test (r.reference == number) refl where
   by_test : (gives : Bool) → (r.reference == number) ≡ gives → after_replacement (Some r) (before_replacement (Some r) number) ≡ number
   by_test true given = rw given (rw (eq-eqb r.original r.original refl) (eqb-true r.reference number given))
   by_test false given = rw given (rw (ne_eqb r.original number (other r refl)) refl)
+
+-- a message gives an order the same number by its number before the message
+onward_one : (r : Option Replacement) (number : ℕ) → after_replacement r (before_replacement r number) ≡ after_replacement r number
+onward_one None number = refl
+onward_one (Some r) number = by_test (r.reference == number) refl where
+  by_original : (ends : Bool) → (r.original == number) ≡ ends → r.reference ≡ number → r.reference ≡ (if r.original == number then r.reference else number)
+  by_original true ended same = rw ended refl
+  by_original false ended same = rw ended same
+  by_test : (gives : Bool) → (r.reference == number) ≡ gives → after_replacement (Some r) (before_replacement (Some r) number) ≡ after_replacement (Some r) number
+  by_test true given = rw given (rw (eq-eqb r.original r.original refl) (by_original (r.original == number) refl (eqb-true r.reference number given)))
+  by_test false given = rw given refl
+
+pub onward : (message : Message) (number : ℕ) → number_after message (number_before message number) ≡ number_after message number
+onward message number = onward_one (replacement_of message) number
 
 done_by : (r : Option Replacement) (one : Replacement) (messages : List Message) → r ≡ Some one → AllByRecursion (IsDone r) messages → AllByRecursion (λ later. names one.original later ≡ false) messages
 done_by r one messages is done = subst (λ (x : Option Replacement). AllByRecursion (IsDone x) messages) is done

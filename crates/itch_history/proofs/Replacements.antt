@@ -1,5 +1,5 @@
 -- The numbers of an order, by the list of its replacements.
-use Rattle.std.proofs.Common.{◌≡◌, ℕ, zero, suc, ◌+◌, ◌-◌, ◌<◌, ◌≤◌, List, [], ◌∷◌, ◌++◌, length, drop, get_or, Option, None, Some, refl, sym, ap, ◌∙◌, arith}
+use Rattle.std.proofs.Common.{◌≡◌, ℕ, zero, suc, ◌+◌, ◌-◌, ◌<◌, ◌≤◌, List, [], ◌∷◌, ◌++◌, length, drop, get_or, Option, None, Some, refl, ap, ◌∙◌, arith}
 use Rattle.itch_codec.specs.declared.message.Message.{Message}
 use Rattle.itch_history.specs.Histories.{before_replacement, first_by, first_number, listed, replacement_of, replacements_of}
 use Rattle.itch_history.specs.declared.chain.Replacement.{Replacement}

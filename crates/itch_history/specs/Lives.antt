@@ -1,5 +1,5 @@
 -- Days whose order reference numbers are unique, as the standard says.
-use Rattle.std.specs.Prelude.{◌≡◌, ◌≢◌, ℕ, Bool, false, List, [], ◌∷◌, ⊤, Option, None, Some}
+use Rattle.std.specs.Prelude.{◌≡◌, ◌≢◌, ℕ, false, List, [], ◌∷◌, ⊤, Option, None, Some}
 use Rattle.std.specs.List.{AllByRecursion}
 use Rattle.itch_codec.specs.declared.message.Message.{Message}
 use Rattle.itch_history.specs.Histories.{names, number_after, replacement_of}

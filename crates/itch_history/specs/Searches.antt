@@ -1,5 +1,5 @@
 -- The search for the first number of an order's history, and where it stops: at the first message that names the order.
-use Rattle.std.specs.Prelude.{◌≡◌, ℕ, ◌-◌, ◌<◌, ◌≤◌, ◌^◌, Bool, true, false, List, ◌++◌, length, map, Option, None, Some, IsSome, Result, Ok, Err}
+use Rattle.std.specs.Prelude.{◌≡◌, ℕ, ◌-◌, ◌<◌, ◌≤◌, ◌^◌, true, false, List, ◌++◌, length, map, Option, None, Some, IsSome, Result, Ok, Err}
 use Rattle.std.specs.List.{AllByRecursion}
 use Rattle.std.specs.Io.KnownBytes.{Consumes}
 use Rattle.itch_codec.specs.Messages.{fault, message_of}
@@ -12,7 +12,7 @@ use Rattle.itch_day.specs.Parts.{Counts, Leaves, StopsAt}
 use Rattle.itch_day.specs.declared.limit.Limit.{Limit}
 use Rattle.itch_day.specs.declared.stop.Stop.{Stop}
 use Rattle.itch_day.specs.declared.stop.Stop.TheVariants as stop
-use Rattle.itch_history.specs.Histories.{first_by, first_number, listed, names, number_before, replacement_of}
+use Rattle.itch_history.specs.Histories.{first_number, listed, names, number_before, replacement_of}
 use Rattle.itch_history.specs.declared.chain.Replacement.{Replacement}
 use Rattle.itch_history.specs.declared.fault.SearchFault.{SearchFault}
 use Rattle.itch_history.specs.declared.fault.SearchFault.TheVariants.{Short, Frame, Codec, TooMany, OutOfMemory}

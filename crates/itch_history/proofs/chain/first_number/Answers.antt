@@ -1,4 +1,4 @@
-use Rattle.std.proofs.Common.{◌∙◌, ◌<◌, ◌≤◌, length, arith}
+use Rattle.std.proofs.Common.{◌∙◌, arith}
 use Rattle.itch_history.proofs.Replacements.{back_begun, back_on}
 use Rattle.itch_history.proofs.chain.first_number.Goals as goal
 

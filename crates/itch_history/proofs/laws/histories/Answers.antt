@@ -1,4 +1,4 @@
-use Rattle.itch_history.proofs.Lives.{about, back, leads, same}
+use Rattle.itch_history.proofs.Lives.{back, leads, onward, same}
 use Rattle.itch_history.proofs.laws.histories.Goals as goal
 
 pub returns-clause-leads : goal.returns-clause-leads
@@ -9,3 +9,6 @@ returns-clause-same c = same
 
 pub returns-clause-back : goal.returns-clause-back
 returns-clause-back c = back
+
+pub returns-clause-onward : goal.returns-clause-onward
+returns-clause-onward c = onward
