@@ -106,6 +106,7 @@ onward_one (Some r) number = by_test (r.reference == number) refl where
   by_original : (ends : Bool) → (r.original == number) ≡ ends → r.reference ≡ number → r.reference ≡ (if r.original == number then r.reference else number)
   by_original true ended same = rw ended refl
   by_original false ended same = rw ended same
+
   by_test : (gives : Bool) → (r.reference == number) ≡ gives → after_replacement (Some r) (before_replacement (Some r) number) ≡ after_replacement (Some r) number
   by_test true given = rw given (rw (eq-eqb r.original r.original refl) (by_original (r.original == number) refl (eqb-true r.reference number given)))
   by_test false given = rw given refl

@@ -3,9 +3,7 @@ ghost use Rattle.std.specs.Prelude.{◌≡◌};
 ghost use Rattle.itchsnap_cli.specs.Histories.{request_from};
 
 use crate::words::commands::usage_fault;
-use crate::words::request::{
-    read_filters, read_kind, read_order_form, read_path, read_show_form,
-};
+use crate::words::request::{read_filters, read_kind, read_order_form, read_path, read_show_form};
 use clap::{ArgMatches, Error};
 use itch_commands::{Command, FileKind, Filters, Limit, OrderForm, Request, ShowForm};
 use std::alloc::Global;
