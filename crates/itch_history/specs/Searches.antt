@@ -57,7 +57,7 @@ abbrev pub ended_search : Option ℕ → ℕ → Result (Option ℕ) SearchFault
 ended_search None count = Ok None
 ended_search (Some most) count = Err (Short count)
 
--- the result of a search that stops after that many messages, by the number that the first of them give to one number
+-- the result of a search that stops after that many messages; `first` goes back from the order's number there to its first one
 abbrev pub answer_of : (ℕ → ℕ) → Option ℕ → ℕ → Stop NotPassed → Result (Option ℕ) SearchFault
 answer_of first wanted count stop.Full = Ok None
 answer_of first wanted count stop.Late = Ok None

@@ -1,7 +1,7 @@
 //! The history of an order: its messages, those of the orders that it replaced, and those of the orders that replaced it.
 //!
-//! [`first_reference`] reads a day up to the first message that names an order, and goes back over the replacements before it. Whoever
-//! follows the order with that number from the beginning of the day on meets its complete history.
+//! [`first_reference`] reads a day up to the first message that names an order, and goes back over the replacements before it to the
+//! order's first number. Following that number from the beginning of the day gives the complete history.
 #![tactic(auto)]
 
 mod chain;

@@ -77,8 +77,8 @@ impl<'a> Subject<'a> {
     }
 }
 
-/// An input file of a command: its path, or `None` for standard input, and the words of a command that reads it from there; empty if none
-/// does.
+/// An input file of a command: its path, or `None` for standard input, and the words of a command that reads it from there. The words are
+/// empty for a command that reads no pipe.
 #[derive(Clone, Copy)]
 pub struct InputFile<'a> {
     pub path: Option<&'a str>,
