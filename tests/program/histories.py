@@ -180,8 +180,8 @@ def an_order_that_never_comes_is_a_fault(program):
 def a_long_chain_is_followed_back_from_its_last_number(program):
     count, day = 20_000, UniqueWriter(3, 0)
     day.write("A", 1, order_reference_number=1, buy_sell_indicator=b"B", shares=5, stock=STOCKS[0], price=7)
-    day.payloads += [payload("U", stock_locate=1, time=10 ** 13 + at, original_order_reference_number=at, new_order_reference_number=at + 1, shares=5, price=at)
-                     for at in range(1, count)]
+    day.payloads += [payload("U", stock_locate=1, time=10 ** 13 + at, original_order_reference_number=at, new_order_reference_number=at + 1,
+                             shares=5, price=at) for at in range(1, count)]
     _, whole, _ = ended(program, "show", "day.itch", "--types", "AU", day=day.day())
     yield from differs("last", history(program, day.day(), count), (0, whole, b""))
     yield from differs("middle", history(program, day.day(), count // 2), (0, whole, b""))
@@ -199,7 +199,8 @@ def a_day_that_begins_late_has_the_rest_of_a_history(program):
             wanted = [number - begin for number, _ in whole.life(reference) if number > begin]
             yield from differs(f"seed {seed}, order {reference}", [number for number, _ in chains.life(reference)], wanted)
             status, output, error = history(program, made.day(), reference)
-            yield from differs(f"seed {seed}, order {reference}, program", (status, [int(line.split()[0]) for line in output.splitlines()], error), (0, wanted, b""))
+            got = status, [int(line.split()[0]) for line in output.splitlines()], error
+            yield from differs(f"seed {seed}, order {reference}, program", got, (0, wanted, b""))
 
 
 def a_broken_message_before_the_order_is_a_fault_before_any_line(program):
@@ -215,7 +216,8 @@ def a_broken_message_before_the_order_is_a_fault_before_any_line(program):
             status, output, error = history(program, data, reference)
             wanted = [number for number, _ in chains.life(reference) if number <= place] if place >= born else []
             _, _, told = ended(program, "show", "day.itch", day=data)
-            yield from differs(f"seed {seed}, message {place + 1}", (status, [int(line.split()[0]) for line in output.splitlines()], error), (1, wanted, told))
+            got = status, [int(line.split()[0]) for line in output.splitlines()], error
+            yield from differs(f"seed {seed}, message {place + 1}", got, (1, wanted, told))
         cut = made.day()[:-1]
         if born < len(made.payloads):
             status, output, error = history(program, cut, reference)

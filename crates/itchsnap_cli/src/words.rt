@@ -1,7 +1,7 @@
 //! Parses the command line of `itchsnap`.
 //!
-//! [`read_job`] parses it into a [`Job`]: a request over files, [`PointWords`], [`HistoryWords`], a session with its [`LoginWords`], a live server, a feed to
-//! follow or to play, or the [`Completions`] of a shell. Otherwise it returns a usage fault, or a request for help or the version.
+//! [`read_job`] parses it into a [`Job`]: a request over files, [`PointWords`], [`HistoryWords`], a session with its [`LoginWords`], a live
+//! server, a feed to follow or to play, or the [`Completions`] of a shell. Otherwise it returns a usage fault, or a request for help or the version.
 //!
 //! ```
 //! // of `itchsnap check day.itch`
