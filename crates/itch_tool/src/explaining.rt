@@ -131,6 +131,11 @@ fn say<R: Files + Eprint + AllocGlobal>(
             rt.eprintln("itchsnap: cannot open")?;
             eprintln!(rt; "  {name}: {error}")
         }
+        Failure::NoOrder { reference } => eprintln!(rt; "itchsnap: no order {reference}"),
+        Failure::OnlyOnce { path } => {
+            rt.eprintln("itchsnap: cannot read twice")?;
+            eprintln!(rt; "  {path}: --history needs a regular file")
+        }
         Failure::Checkpoint { why, detail } => {
             let feed = names.files.subject(Source::Only);
             say_unfit(rt, *why, detail.as_str(), feed, beginning)

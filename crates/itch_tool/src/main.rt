@@ -13,6 +13,7 @@ mod explaining;
 mod failure;
 mod feed;
 mod final_status;
+mod history;
 mod live;
 mod locate_list;
 mod names;

@@ -6,7 +6,7 @@ use crate::selected::Selected;
 use itch_commands::{Command, PairCommand, Request, Source};
 use itch_sessions::{SessionDevice, SessionFault};
 use itchsnap_cli::words::{
-    FeedWords, FollowWords, Job, LiveWords, PointWords, Server, StatusWords,
+    FeedWords, FollowWords, HistoryWords, Job, LiveWords, PointWords, Server, StatusWords,
 };
 use std::fmt;
 use std::net::SocketAddr;
@@ -77,7 +77,8 @@ impl<'a> Subject<'a> {
     }
 }
 
-/// An input file of a command: its path, or `None` for standard input, and the words of a command that reads it from there.
+/// An input file of a command: its path, or `None` for standard input, and the words of a command that reads it from there. The words are
+/// empty for a command that reads no pipe.
 #[derive(Clone, Copy)]
 pub struct InputFile<'a> {
     pub path: Option<&'a str>,
@@ -140,6 +141,12 @@ impl<'a> CommandFiles<'a> {
             }
             Request::At { feed, .. } => CommandFiles::of_one(*feed, "at .. - ..", output),
         }
+    }
+
+    pub fn of_history(words: &HistoryWords<'a>) -> Self
+        ensures { result.last.path ≡ Some words.now.file }
+    {
+        CommandFiles::of_one(Some(words.file), "", None)
     }
 
     pub fn of_points(words: &PointWords<'a>) -> Self
@@ -296,6 +303,7 @@ impl<'a> JobNames<'a> {
                 output,
                 ..
             } => JobNames::of_files(CommandFiles::of_request(request, *output)),
+            Job::History(words) => JobNames::of_files(CommandFiles::of_history(words)),
             Job::Points(words) => JobNames::of_files(CommandFiles::of_points(words)),
             Job::Serve { file, address, .. } => JobNames {
                 files: CommandFiles::of_served(*file),

@@ -1,7 +1,7 @@
 //! The selection of a request, and the part of its file.
 
 use itch_commands::{Command, FileKind, Limit, PairCommand, Request, Selection};
-use itchsnap_cli::words::{Job, PointWords};
+use itchsnap_cli::words::{HistoryWords, Job, PointWords};
 
 /// The list of locates or of stocks that a request selects, and the part of its one file that it reads.
 #[derive(Clone, Copy)]
@@ -16,6 +16,9 @@ impl<'a> Selected<'a> {
     pub fn of(job: &Job<'a>) -> Selected<'a> {
         match job {
             Job::Files { request, .. } => Selected::of_request(*request),
+            Job::History(HistoryWords { filters, limit, .. }) => {
+                Selected::new(filters.only, filters.stocks, Some(*limit))
+            }
             Job::Points(PointWords { only, .. }) => Selected::new(*only, None, None),
             _ => Selected::nothing(),
         }

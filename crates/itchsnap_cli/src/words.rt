@@ -1,7 +1,7 @@
 //! Parses the command line of `itchsnap`.
 //!
-//! [`read_job`] parses it into a [`Job`]: a request over files, [`PointWords`], a session with its [`LoginWords`], a live server, a feed to
-//! follow or to play, or the [`Completions`] of a shell. Otherwise it returns a usage fault, or a request for help or the version.
+//! [`read_job`] parses it into a [`Job`]: a request over files, [`PointWords`], [`HistoryWords`], a session with its [`LoginWords`], a live
+//! server, a feed to follow or to play, or the [`Completions`] of a shell. Otherwise it returns a usage fault, or a request for help or the version.
 //!
 //! ```
 //! // of `itchsnap check day.itch`
@@ -16,6 +16,7 @@ mod argument;
 mod arguments;
 mod commands;
 mod completions;
+mod history;
 mod job;
 mod live;
 mod places;
@@ -28,6 +29,7 @@ mod time;
 
 pub use commands::usage_fault;
 pub use completions::{Completions, Shell};
+pub use history::{HistoryForm, HistoryWords};
 pub use job::{Job, read_job};
 pub use live::{FeedWords, FollowWords, LiveWords};
 pub use points::{PointWords, Points};

@@ -195,6 +195,10 @@ pub const COMMANDS: [Entry; 17] = [
                 help: "Print only messages of this order and of its replacements",
             },
             Argument::Flag {
+                long: "history",
+                help: "With --reference, also print the messages of the orders that it replaced; FILE is read twice",
+            },
+            Argument::Flag {
                 long: "names",
                 help: "Print codes as characters, and timestamps as times of day",
             },

@@ -4,6 +4,7 @@ ghost use Rattle.itchsnap_cli.specs.Jobs.{output_of, writes_snapshot};
 
 use crate::words::commands::{command, usage_fault};
 use crate::words::completions::Shell;
+use crate::words::history::{HistoryWords, read_history};
 use crate::words::live::{FeedWords, FollowWords, LiveWords, read_feed, read_follow, read_live};
 use crate::words::points::{PointWords, SnapWords, read_snap_words};
 use crate::words::request::{read_kind, read_output, read_path, read_request, read_snap};
@@ -28,6 +29,8 @@ pub enum Job<'a> {
         progress: bool,
         output: Option<&'a str>,
     },
+    /// Show the complete history of an order.
+    History(HistoryWords<'a>),
     /// Write the snapshots of several points of a day file into a folder.
     Points(PointWords<'a>),
     /// Serve the market of a file, or of standard input if none is named, to `count` connections. Port 0 means a free port.
@@ -79,7 +82,8 @@ fn writes_snapshot(job: &Job<'_>) -> bool
 {
     match job {
         Job::Files { request, .. } => request.is_binary(),
-        Job::Points(_)
+        Job::History(_)
+        | Job::Points(_)
         | Job::Serve { .. }
         | Job::Live(_)
         | Job::Feed(_)
@@ -126,6 +130,9 @@ fn read_matched<'a>(
             SnapWords::Several(words) => Ok(Job::Points(words)),
             SnapWords::One(limit) => files(alloc, options, read_snap(alloc, options, limit)?),
         },
+        Some(("show", options)) if options.get_flag("history") => {
+            Ok(Job::History(read_history(alloc, options)?))
+        }
         Some((_, options)) => files(alloc, options, read_request(alloc, matches)?),
         None => Err(usage_fault(alloc, "a command is missing")?),
     }

@@ -191,7 +191,8 @@ fn read_orders<'a>(alloc: Global, options: &ArgMatches<'a>) -> Result<Command<'a
     })
 }
 
-fn read_order_form<'a>(alloc: Global, options: &ArgMatches<'a>) -> Result<OrderForm, Error> {
+/// Reads the form of messages with their orders.
+pub fn read_order_form<'a>(alloc: Global, options: &ArgMatches<'a>) -> Result<OrderForm, Error> {
     let (json, csv) = (options.get_flag("json"), options.get_flag("csv"));
     match (options.get_flag("names"), json, csv) {
         (false, false, false) => Ok(OrderForm::Text),
@@ -204,7 +205,8 @@ fn read_order_form<'a>(alloc: Global, options: &ArgMatches<'a>) -> Result<OrderF
     }
 }
 
-fn read_show_form<'a>(
+/// Reads the form of messages, which may be comma-separated values if one type of message is requested.
+pub fn read_show_form<'a>(
     alloc: Global,
     options: &ArgMatches<'a>,
     types: Option<&str>,
@@ -229,8 +231,8 @@ fn read_columns(alloc: Global, types: &str) -> Result<ShowForm, Error> {
     Ok(ShowForm::Csv { kind: letters[0] })
 }
 
-// Reads the filters for the messages that are shown.
-fn read_filters<'a>(alloc: Global, options: &ArgMatches<'a>) -> Result<Filters<'a>, Error> {
+/// Reads the filters for the messages that are shown.
+pub fn read_filters<'a>(alloc: Global, options: &ArgMatches<'a>) -> Result<Filters<'a>, Error> {
     Ok(Filters {
         start: read_start(alloc, options)?,
         only: options.get_str("only"),
