@@ -7,6 +7,7 @@
 
 mod at;
 mod beginning;
+mod books;
 mod checkpoints;
 mod explaining;
 mod failure;

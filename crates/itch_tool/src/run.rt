@@ -2,6 +2,7 @@
 
 use crate::at::join_at;
 use crate::beginning::Beginning;
+use crate::books::run_books;
 use crate::failure::Failure;
 use crate::live::{run_feed, run_follow, run_live};
 use crate::locate_list::read_only;
@@ -38,6 +39,7 @@ where
             output,
         } => run_request(rt, *request, *progress, beginning, *output),
         Job::Points(words) => run_points(rt, words, beginning),
+        Job::Books(words) => run_books(rt, words, beginning),
         Job::Serve {
             file,
             kind,

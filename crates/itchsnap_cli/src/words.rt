@@ -1,6 +1,6 @@
 //! Parses the command line of `itchsnap`.
 //!
-//! [`read_job`] parses it into a [`Job`]: a request over files, [`PointWords`], a session with its [`LoginWords`], a live server, a feed to
+//! [`read_job`] parses it into a [`Job`]: a request over files, [`PointWords`], [`BookWords`], a session with its [`LoginWords`], a live server, a feed to
 //! follow or to play, or the [`Completions`] of a shell. Otherwise it returns a usage fault, or a request for help or the version.
 //!
 //! ```
@@ -14,8 +14,10 @@
 
 mod argument;
 mod arguments;
+mod books;
 mod commands;
 mod completions;
+mod duration;
 mod job;
 mod live;
 mod places;
@@ -26,6 +28,7 @@ mod size;
 mod status;
 mod time;
 
+pub use books::{BookWords, Times};
 pub use commands::usage_fault;
 pub use completions::{Completions, Shell};
 pub use job::{Job, read_job};
