@@ -46,7 +46,7 @@ use Rattle.itch_snapshot.proofs.Sizes.{snap_step}
 use Rattle.itch_join.proofs.Premises.{laid_empty}
 use Rattle.itch_commands.specs.Commands.{Snaps}
 use Rattle.itch_commands.specs.Outputs.{WritesOutput, snapshot_in}
-use Rattle.itch_commands.specs.Points.{IsRead, ReadsMore, ReadsOn, Stands, begun}
+use Rattle.itch_commands.specs.Points.{IsRead, ReadsMore, ReadsOn, ReadsUntil, Stands, begun, up_to}
 use Rattle.itch_commands.specs.Readings.{CountsRead, FromBlocks, LeavesDay, ReadsDay, ReadsMarket, stopped}
 use Rattle.itch_commands.specs.declared.fault.Source.{Source}
 use Rattle.itch_commands.specs.declared.fault.Source.TheVariants.{Only}
@@ -261,6 +261,41 @@ module _ {R : Type 0} (remaining : R → Option (List ℕ)) (failures : R → Fa
       let limit : Limit = record { after = Some 0; until = until } in
       subst (λ (x : Content). Stands remaining failures limit r r (record { sink = x; mark = mark }) part.Full) (sym none)
       (subst (λ (k : Mark). Stands remaining failures limit r r (record { sink = empty; mark = k }) part.Full) (sym beginning) (none_stands until r))
+
+  module _ (time : ℕ) (first now : Reading R) (marked : Marked Content) (few : marked.mark.count ≤ 10 ^ 19 - 1) where
+    -- a message at the time or later follows
+    pub late_there : (stop : Part Refused) → Stands remaining failures (up_to time) first now marked stop → reason_of stop ≡ None
+        → ReadsUntil remaining failures time first now (Ok true) marked
+    late_there part.Late stands none = (stands, (all_on (up_to time) first now marked few part.Late stands none).1)
+    late_there part.Full stands none = absurd (cc stands.stops.1.1)
+    late_there part.End stands is = absurd (cc)
+    late_there (part.Frame f) stands is = absurd (cc)
+    late_there part.TooMany stands is = absurd (cc)
+    late_there (part.Refused (refused.Codec f)) stands same = absurd (cc)
+    late_there (part.Refused (refused.Rule why)) stands same = absurd (cc)
+
+    -- or the file ended
+    pub ended_there : (stop : Part Refused) → Stands remaining failures (up_to time) first now marked stop → reason_of stop ≡ Some End
+        → ReadsUntil remaining failures time first now (Ok false) marked
+    ended_there stop stands is =
+        let ended = subst (λ s. Stands remaining failures (up_to time) first now marked s) (at_end stop is) stands in
+        (ended, whole_on (up_to time) first now marked few ended refl)
+
+    stopped_there : (why : Stop) (count : ℕ) → (why ≡ End → ⊥) → stopped why None Only count ≡ Err (tool.Stopped Only (record { count = count; stop = why }))
+    stopped_there End count other = absurd (other refl)
+    stopped_there (Frame f) count other = refl
+    stopped_there (Codec f) count other = refl
+    stopped_there (Rule why) count other = refl
+    stopped_there TooManyMessages count other = refl
+
+    -- or a message was refused
+    pub refused_there : (stop : Part Refused) → Stands remaining failures (up_to time) first now marked stop → (why : Stop) → reason_of stop ≡ Some why → (why ≡ End → ⊥)
+        → (count : ℕ) → count ≡ marked.mark.count → ReadsUntil remaining failures time first now (Err (tool.Stopped Only (record { count = count; stop = why }))) marked
+    refused_there stop stands why is other count same = (
+      stop,
+      refused_on (up_to time) first now marked few stop stands why (tool.Stopped Only (record { count = count; stop = why })) is
+          (subst (λ k. stopped why None Only k ≡ Err (tool.Stopped Only (record { count = count; stop = why }))) same (stopped_there why count other)),
+    )
 
   module _ (most : ℕ) (first now : Reading R) (marked : Marked Content) (few : marked.mark.count ≤ 10 ^ 19 - 1) where
     -- as many more as requested were read

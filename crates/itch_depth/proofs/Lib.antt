@@ -1,0 +1,4 @@
+pub mod TimedLines
+pub mod OneTime
+pub mod PartsOfDays
+pub mod TimesInTurn
