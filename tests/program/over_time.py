@@ -6,6 +6,7 @@ import csv
 import io
 import json
 import random
+import subprocess
 import tempfile
 from pathlib import Path
 
@@ -233,28 +234,24 @@ def a_time_prints_what_book_prints_until_then(program):
                 yield from differs(f"seed {seed}, day {at}: {words.words} {time}", found, (one[0], head + one[1], one[2]))
 
 
-def each_line_of_a_minute_is_printed(program):
-    """Examples, by hand. The times are those of the messages: 1 ns, 2 ns and so on."""
+def examples_are_printed_as_by_hand(program):
+    """The times are those of the messages: 1 ns, 2 ns and so on."""
     day = file("START_STAMPED AAPL_STAMPED BUY_1_STAMPED")
     times = [f"00:00:00.{it:09}" for it in range(10)]
-    level = "B 123.4567 100 1"
+    level = "B 150.0000 100 1"
     rows = [
-        ("1 --at 4", 0, f"{times[4]} 1 AAPL\n{times[4]} {level}\n", ""),
-        ("1 --at 3,4", 0, f"{times[3]} 1 AAPL\n{times[4]} 1 AAPL\n{times[4]} {level}\n", ""),
+        ("1 DAY --at 4", 0, f"{times[4]} 1 AAPL\n{times[4]} {level}\n", ""),
+        ("1 DAY --at 3,4", 0, f"{times[3]} 1 AAPL\n{times[4]} 1 AAPL\n{times[4]} {level}\n", ""),
         # Before the entry of the directory there are no lines.
-        ("1 --at 1,2,4", 0, f"{times[4]} 1 AAPL\n{times[4]} {level}\n", ""),
-        ("1 --at 1,2", 1, "", "itchsnap: unknown locate\n"),
-        ("--stock AAPL,MSFT --at 4,5", 1, "", "itchsnap: unknown stock\n  day.itch: no stock MSFT\n"),
+        ("1 DAY --at 1,2,4", 0, f"{times[4]} 1 AAPL\n{times[4]} {level}\n", ""),
+        ("1 DAY --at 1,2", 1, "", "itchsnap: unknown locate\n"),
+        ("--stock AAPL,MSFT DAY --at 4,5", 1, "", "itchsnap: unknown stock\n  day.itch: no stock MSFT\n"),
         # No multiple is between the first message and the last.
-        ("1 --every 1ms", 0, "", ""),
-        ("2 --every 1ms", 1, "", "itchsnap: unknown locate\n"),
+        ("1 DAY --every 1ms", 0, "", ""),
+        ("2 DAY --every 1ms", 1, "", "itchsnap: unknown locate\n"),
     ]
-    found = ended(program, "book", "1", "day.itch", "--at", "4", day=day)
-    level = found[1].decode().splitlines()[1].removeprefix(f"{times[4]} ") if found[0] == 0 else level
     for words, status, output, error in rows:
-        first, *more = words.split()
-        words = ["day.itch" if it == "FILE" else it for it in ([first, more[0], "FILE", *more[1:]] if first == "--stock" else [first, "FILE", *more])]
-        yield from differs(" ".join(words), ended(program, "book", *words, day=day), (status, output.encode(), error.encode()))
+        yield from differs(words, ended(program, "book", *words.replace("DAY", "day.itch").split(), day=day), (status, output.encode(), error.encode()))
 
 
 def what_comes_after_the_last_time_is_not_read(program):
@@ -265,7 +262,7 @@ def what_comes_after_the_last_time_is_not_read(program):
     yield from differs("status", (status, error), (0, b""))
     yield from differs("lines", len(output.splitlines()), 3)
     yield from differs("one later", ended(program, "book", "1", "day.itch", "--at", "4,10", "--csv", day=data),
-                       (1, output[:output.rindex(b"\n", 0, -1) + 1], b"itchsnap: message 5: wrong length: want 31\n"))
+                       (1, output[:output.rindex(b"\n", 0, -1) + 1], b"itchsnap: message 5: wrong length for E: want 31, got 5\n"))
 
 
 def an_empty_day_has_no_multiples(program):
@@ -302,7 +299,6 @@ def many_times_of_a_large_day_are_one_pass(program):
     with tempfile.TemporaryDirectory() as folder:
         (Path(folder) / "day.itch").write_bytes(data)
         wanted = ended_in(folder, program, "book", "7", "day.itch", "--csv")[1].splitlines()
-        import subprocess
         with open(Path(folder) / "day.itch", "rb") as source:
             found = subprocess.run([program, "book", "7", "-", "--csv", "--at", "1,2,3"], stdin=source, capture_output=True, timeout=60)
         lines = found.stdout.splitlines()
@@ -314,7 +310,7 @@ RUNS = [
     books_at_times_are_those_of_another_reader,
     books_at_every_multiple_are_those_of_another_reader,
     a_time_prints_what_book_prints_until_then,
-    each_line_of_a_minute_is_printed,
+    examples_are_printed_as_by_hand,
     what_comes_after_the_last_time_is_not_read,
     an_empty_day_has_no_multiples,
     each_allocation_read_and_write_fails_in_turn,

@@ -274,28 +274,18 @@ module _ {R : Type 0} (remaining : R → Option (List ℕ)) (failures : R → Fa
     late_there (part.Refused (refused.Codec f)) stands same = absurd (cc)
     late_there (part.Refused (refused.Rule why)) stands same = absurd (cc)
 
-    -- or the file ended
-    pub ended_there : (stop : Part Refused) → Stands remaining failures (up_to time) first now marked stop → reason_of stop ≡ Some End
-        → ReadsUntil remaining failures time first now (Ok false) marked
-    ended_there stop stands is =
-        let ended = subst (λ s. Stands remaining failures (up_to time) first now marked s) (at_end stop is) stands in
-        (ended, whole_on (up_to time) first now marked few ended refl)
+    module _ (stop : Part Refused) (stands : Stands remaining failures (up_to time) first now marked stop) (why : Stop) (is : reason_of stop ≡ Some why) (count : ℕ) (same : count ≡ marked.mark.count) where
+      -- or the file ended
+      pub ended_there : (k : ℕ) → stopped why None Only count ≡ Ok k → ReadsUntil remaining failures time first now (Ok false) marked
+      ended_there k returns =
+          let (at, whole) = stopped_end why None Only count k returns in
+          let ended = subst (λ s. Stands remaining failures (up_to time) first now marked s) (at_end stop (is ∙ ap Some at)) stands in
+          (ended, whole_on (up_to time) first now marked few ended refl)
 
-    stopped_there : (why : Stop) (count : ℕ) → (why ≡ End → ⊥) → stopped why None Only count ≡ Err (tool.Stopped Only (record { count = count; stop = why }))
-    stopped_there End count other = absurd (other refl)
-    stopped_there (Frame f) count other = refl
-    stopped_there (Codec f) count other = refl
-    stopped_there (Rule why) count other = refl
-    stopped_there TooManyMessages count other = refl
-
-    -- or a message was refused
-    pub refused_there : (stop : Part Refused) → Stands remaining failures (up_to time) first now marked stop → (why : Stop) → reason_of stop ≡ Some why → (why ≡ End → ⊥)
-        → (count : ℕ) → count ≡ marked.mark.count → ReadsUntil remaining failures time first now (Err (tool.Stopped Only (record { count = count; stop = why }))) marked
-    refused_there stop stands why is other count same = (
-      stop,
-      refused_on (up_to time) first now marked few stop stands why (tool.Stopped Only (record { count = count; stop = why })) is
-          (subst (λ k. stopped why None Only k ≡ Err (tool.Stopped Only (record { count = count; stop = why }))) same (stopped_there why count other)),
-    )
+      -- or a message was refused
+      pub refused_there : (fault : ToolFault) → stopped why None Only count ≡ Err fault → ReadsUntil remaining failures time first now (Err fault) marked
+      refused_there fault returns =
+          (stop, refused_on (up_to time) first now marked few stop stands why fault is (subst (λ k. stopped why None Only k ≡ Err fault) same returns))
 
   module _ (most : ℕ) (first now : Reading R) (marked : Marked Content) (few : marked.mark.count ≤ 10 ^ 19 - 1) where
     -- as many more as requested were read

@@ -22,7 +22,7 @@ use Rattle.itch_commands.specs.Books.{side_lines}
 use Rattle.itch_commands.specs.Files.{IsLaid, ReadsFile}
 use Rattle.itch_commands.specs.Outputs.{Outputs, WritesOutput}
 use Rattle.itch_commands.specs.Points.{IsRead}
-use Rattle.itch_commands.specs.Stocks.{names_of}
+use Rattle.itch_commands.specs.Stocks.{has_one_of, names_of}
 use Rattle.itch_commands.specs.declared.fault.Source.TheVariants.{Only}
 use Rattle.itch_commands.specs.declared.fault.ToolFault.{ToolFault}
 use Rattle.itch_commands.specs.declared.form.BookForm.{BookForm}
@@ -52,7 +52,7 @@ timed_books-laid form time depth wanted m fit =
     λ i locate. timed_listed-laid form time depth (Content.orders m) locate (finite.get (Content.securities m) locate) fit i in
     ap (λ (lines : ℕ → List ℕ). flat_map lines (filter wanted (finite.keys (Content.securities m)))) same
 
--- the lines of a market depend neither on the order of its orders
+-- the lines of a market do not depend on the order of its orders
 abbrev pub IsOfMarket : ((ℕ → Bool) → Content → List ℕ) → Type 0
 IsOfMarket lines = (wanted : ℕ → Bool) (m : Content) → AllFit (Content.orders m) → lines wanted (laid m) ≡ lines wanted m
 
@@ -62,20 +62,69 @@ timed_of_market form time depth = timed_books-laid form time depth
 pub nothing_of_market : IsOfMarket (λ wanted m. [])
 nothing_of_market wanted m fit = refl
 
-module _ (m market : Content) (next : ℕ) (left : IsLaid m market) (selection : Selection) (set : Option Wanted) where
-  -- the same locates are selected
-  same_selected : (one other : Content) → Content.securities one ≡ Content.securities other → (s : Selection) → selected s set one ≡ selected s set other
-  same_selected one other same All = refl
-  same_selected one other same (Locates list) = refl
-  same_selected one other same (Stocks names) = ap (λ (listings : Securities). selected (Stocks names) set (record { last_event = Content.last_event one; securities = listings; orders = Content.orders one })) same
+-- the same locates are selected of markets with one directory
+same_selected : (set : Option Wanted) (one other : Content) → Content.securities one ≡ Content.securities other → (s : Selection) → selected s set one ≡ selected s set other
+same_selected set one other same All = refl
+same_selected set one other same (Locates list) = refl
+same_selected set one other same (Stocks names) = ap (λ (listings : Securities). has_one_of listings (names_of names.now)) same
 
-  module _ (reads : Result (Content × ℕ) ToolFault → Type 0) (read : reads (Ok (m, next))) where
-    selects_part : (s : Selection) → Selects s set market (Ok market) → ReadsSelected s set reads (Ok (m, next))
-    selects_part All (same, all) = listed m market next left set reads read all
-    selects_part (Locates list) (same, all) = listed m market next left set reads read all
-    selects_part (Stocks names) (same, known) = (read, stocks_listed m market next left (names_of names.now) known)
+-- the market of a selection is the one that was looked at
+is_market : (set : Option Wanted) (market n : Content) (s : Selection) → Selects s set market (Ok n) → n ≡ market
+is_market set market n All (same, all) = same
+is_market set market n (Locates list) (same, all) = same
+is_market set market n (Stocks names) (same, known) = same
 
-    lacks_part : (s : Selection) (fault : ToolFault) → Selects s set market (Err fault) → ReadsSelected s set reads (Err fault)
-    lacks_part All fault (is, one) = inr (is, ((m, next), read, unlisted m market next left set one))
-    lacks_part (Locates list) fault (is, one) = inr (is, ((m, next), read, unlisted m market next left set one))
-    lacks_part (Stocks names) fault unknown = inr ((m, next), read, stocks_unlisted m market next left (names_of names.now) fault unknown)
+module _ (m market : Content) (next : ℕ) (left : IsLaid m market) (set : Option Wanted) (reads : Result (Content × ℕ) ToolFault → Type 0) (read : reads (Ok (m, next))) where
+  -- the directory after the part has each selected locate and stock
+  selects_part : (s : Selection) (n : Content) → Selects s set market (Ok n) → ReadsSelected s set reads (Ok (m, next))
+  selects_part All n (same, all) = listed m market next left set reads read all
+  selects_part (Locates list) n (same, all) = listed m market next left set reads read all
+  selects_part (Stocks names) n (same, known) = (read, stocks_listed m market next left (names_of names.now) known)
+
+  -- or lacks one
+  lacks_part : (s : Selection) (fault : ToolFault) → Selects s set market (Err fault) → ReadsSelected s set reads (Err fault)
+  lacks_part All fault (is, one) = inr (is, ((m, next), read, unlisted m market next left set one))
+  lacks_part (Locates list) fault (is, one) = inr (is, ((m, next), read, unlisted m market next left set one))
+  lacks_part (Stocks names) fault unknown = inr ((m, next), read, stocks_unlisted m market next left (names_of names.now) fault unknown)
+
+-- a part that is refused is refused whichever locates are selected
+pub refused_part : (set : Option Wanted) (reads : Result (Content × ℕ) ToolFault → Type 0) (s : Selection) (fault : ToolFault) → reads (Err fault) → ReadsSelected s set reads (Err fault)
+refused_part set reads All fault refused = inl refused
+refused_part set reads (Locates list) fault refused = inl refused
+refused_part set reads (Stocks names) fault refused = inl refused
+
+module _ {R W : Type 0} (remaining : R → Option (List ℕ)) (failed_reads : R → Failures) (contents : W → Option (List ℕ)) (failed_writes : W → Failures)
+    (lines : (ℕ → Bool) → Content → List ℕ) (same : IsOfMarket lines) (set : Option Wanted) (limit : Limit) (first now : Reading R) (m : Content) (mark : Mark)
+    (read : IsRead remaining failed_reads limit first now m mark) where
+  -- the market of the part, in the order of its messages
+  part : Content
+  part = run (map message_of read.payloads)
+
+  left : IsLaid part m
+  left = record {
+    good = taken_good limit read.payloads read.fits read.day.0;
+    in_order = read.market;
+    few = taken_few limit read.payloads m read.fits read.day.0 read.market;
+  }
+
+  file : ReadsFile remaining failed_reads Only (Day limit) first now (Ok (part, length read.payloads + 1))
+  file = (read.payloads, read.day, refl, refl)
+
+  lines_part : (s : Selection) (n : Content) → n ≡ m → lines (selected s set n) n ≡ lines (selected s set part) part
+  lines_part s n is =
+      ap (λ (x : Content). lines (selected s set x) x) is
+      ∙ ap (λ (w : ℕ → Bool). lines w m) (same_selected set m part (same_listings part m (length read.payloads + 1) left) s)
+      ∙ ap (lines (selected s set part)) read.market
+      ∙ same (selected s set part) part (live_fit (Content.orders part) left.good.live)
+
+  -- the books of the market are those of the part
+  pub part_listed : (s : Selection) (old new : W) (result : Result Bool ToolFault)
+      → Outputs contents failed_writes (Selects s set m) (λ n. lines (selected s set n) n) (λ _. true) old result new
+      → ListsPart remaining failed_reads contents failed_writes lines s set limit first now old result new
+  part_listed s old new result (inl (fault, is, lacks, untouched)) =
+      inl (fault, is, lacks_part part m (length read.payloads + 1) left set (ReadsFile remaining failed_reads Only (Day limit) first now) file s fault lacks, untouched)
+  part_listed s old new result (inr (n, chosen, wrote)) = inr (
+    (part, length read.payloads + 1),
+    selects_part part m (length read.payloads + 1) left set (ReadsFile remaining failed_reads Only (Day limit) first now) file s n chosen,
+    subst (λ text. WritesOutput contents failed_writes text true old result new) (lines_part s n (is_market set m n s chosen)) wrote,
+  )

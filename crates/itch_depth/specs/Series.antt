@@ -1,10 +1,9 @@
 -- The books at several times of a day file: for each time the output and the result of `book` for the part of the file before it.
-use Rattle.std.specs.Prelude.{◌≡◌, ℕ, zero, suc, ◌+◌, ◌≤◌, ◌⊎◌, ⊤, Bool, true, false, List, [], ◌∷◌, Option, Result, Ok, Err}
+use Rattle.std.specs.Prelude.{◌≡◌, ℕ, zero, suc, ◌*◌, ◌/◌, ◌≤◌, ◌⊎◌, ⊤, Bool, true, false, List, [], ◌∷◌, Option, None, Result, Ok, Err}
 use Rattle.std.specs.Bool.{MatchBool}
 use Rattle.itch_frame.specs.Reading.{Reading}
 use Rattle.itch_frame.specs.declared.tally.Failures.{Failures}
-use Rattle.itch_day.specs.Parts.{GoesOnTo}
-use Rattle.itch_day.specs.Passing.{left_by}
+use Rattle.itch_day.specs.Limits.{counted}
 use Rattle.itch_day.specs.declared.limit.Limit.{Limit}
 use Rattle.itch_day.specs.declared.marked.Marked.{Marked}
 use Rattle.itch_day.specs.declared.stop.Stop.{Stop}
@@ -56,16 +55,15 @@ continues (Err tool.UnknownLocate) = true
 continues (Err tool.UnknownStock) = true
 continues (Err fault) = false
 
+-- the greatest timestamp, which has 48 bits
+abbrev pub latest : ℕ
+latest = 281474976710655
+
 -- times in order
 abbrev pub Ascend : List ℕ → Type 0
 Ascend [] = ⊤
 Ascend (time ∷ []) = ⊤
 Ascend (time ∷ next ∷ times) = (time ≤ next) × Ascend (next ∷ times)
-
--- a reading can go on to the first of these times
-abbrev pub GoesOnFirst : Limit → Stop Refused → ℕ → List ℕ → Type 0
-GoesOnFirst before stop count [] = ⊤
-GoesOnFirst before stop count (time ∷ times) = GoesOnTo before stop count (up_to time)
 
 module _ {W : Type 0} where
   -- The outputs at these times, one after another, up to the first result after which no later time follows. The result is the last one.
@@ -116,27 +114,28 @@ module _ {R W : Type 0} (remaining : R → Option (List ℕ)) (failed_reads : R 
       × MatchBool (continues result)
           ((stop : Stop Refused) × ((stop ≡ Late) ⊎ (stop ≡ End)) × Stands remaining failed_reads (up_to time) first now marked stop) ⊤
 
-  -- After the last multiple: the part of the file before this time is refused; or it is the whole file, whose directory must have each
-  -- selected locate and stock. Nothing is written.
-  abbrev pub AtEnd : BookRequest → Option Wanted → Reading R → ℕ → W → Result Bool ToolFault → W → Type 0
-  AtEnd request set first time old result new =
-      ((fault : ToolFault) × (now : Reading R) × (result ≡ Err fault) × ReadsDay remaining failed_reads Only (up_to time) first now (Err fault) × (new ≡ old))
-      ⊎ ((now : Reading R) × (marked : Marked Content) × Stands remaining failed_reads (up_to time) first now marked End
-      × ListsPart (λ wanted m. []) request.selection set (up_to time) first (left_by {F = Refused} End now) old result new)
-
   -- `book` at a time before which the part has this many messages; nothing if it has none
   abbrev pub AtTimeAfter : ℕ → BookRequest → Option Wanted → Reading R → ℕ → W → Result Bool ToolFault → W → Type 0
   AtTimeAfter zero request set first time old result new = (result ≡ Ok true) × (new ≡ old)
   AtTimeAfter (suc count) request set first time old result new = AtTime request set first time old result new
 
-  -- This many multiples from this time on, each of which has a message at that time or later. Before the first message nothing is written.
-  abbrev pub AtNext : BookRequest → Option Wanted → Reading R → ℕ → ℕ → ℕ → W → Result Bool ToolFault → W → Type 0
-  AtNext request set first step time zero old result new = AtEnd request set first time old result new
-  AtNext request set first step time (suc more) old result new =
-      (now : Reading R) × (marked : Marked Content) × Stands remaining failed_reads (up_to time) first now marked Late
-      × (mid : W) × (answer : Result Bool ToolFault) × AtTimeAfter marked.mark.count request set first time old answer mid
-      × MatchBool (continues answer) (AtNext request set first step (time + step) more mid result new) ((result ≡ answer) × (new ≡ mid))
+  -- at the end of the file its directory must have each selected locate and stock; nothing is written
+  abbrev pub AtEnd : BookRequest → Option Wanted → Reading R → W → Result Bool ToolFault → W → Type 0
+  AtEnd request set first old result new =
+      (now : Reading R) × ListsPart (λ wanted m. []) request.selection set (counted None) first now old result new
 
-  -- the books at the multiples of a duration: from the first after the first message to the last that is not after the last message
+  -- The books at this many multiples of a duration, from one multiple on: the file is refused before it; or it ends before it; or a message
+  -- at that time or later follows, and then the next multiple does.
+  abbrev pub AtNext : BookRequest → Option Wanted → Reading R → ℕ → ℕ → ℕ → W → Result Bool ToolFault → W → Type 0
+  AtNext request set first step multiple zero old result new = AtEnd request set first old result new
+  AtNext request set first step multiple (suc more) old result new =
+      ((fault : ToolFault) × (now : Reading R) × (result ≡ Err fault) × ReadsDay remaining failed_reads Only (up_to (multiple * step)) first now (Err fault) × (new ≡ old))
+      ⊎ (((now : Reading R) × (marked : Marked Content) × Stands remaining failed_reads (up_to (multiple * step)) first now marked End × AtEnd request set first old result new)
+      ⊎ ((now : Reading R) × (marked : Marked Content) × Stands remaining failed_reads (up_to (multiple * step)) first now marked Late
+      × ((mid : W) × (answer : Result Bool ToolFault) × AtTimeAfter marked.mark.count request set first (multiple * step) old answer mid
+      × MatchBool (continues answer) (AtNext request set first step (suc multiple) more mid result new) ((result ≡ answer) × (new ≡ mid)))))
+
+  -- The books at the multiples of a duration: from the first after the first message to the last that is not after the last message. No
+  -- message is after the greatest timestamp.
   abbrev pub AtMultiples : BookRequest → Option Wanted → Reading R → ℕ → W → Result Bool ToolFault → W → Type 0
-  AtMultiples request set first step old result new = (multiples : ℕ) × AtNext request set first step step multiples old result new
+  AtMultiples request set first step = AtNext request set first step 1 (latest / step)

@@ -1,13 +1,14 @@
 //! The books at given times.
-ghost use Rattle.std.specs.Prelude.{ℕ};
+ghost use Rattle.std.specs.Prelude.{Some};
 ghost use Rattle.std.specs.Option.{option_copied};
 ghost use Rattle.itch_day.specs.Parts.{GoesOnTo};
 ghost use Rattle.itch_day.specs.declared.limit.Limit.{Limit as AnyLimit};
 ghost use Rattle.itch_day.specs.declared.stop.Stop.{Stop as AnyStop};
+ghost use Rattle.itch_day.specs.declared.stop.Stop.TheVariants.{Full};
 ghost use Rattle.itch_frame.specs.Reading.{Reading};
 ghost use Rattle.itch_market.specs.declared.refused.Refused.{Refused as AnyRefused};
 ghost use Rattle.itch_commands.specs.Points.{Stands, up_to};
-ghost use Rattle.itch_depth.specs.Series.{Ascend, AtEach, AtTime, GoesOnFirst, ListsOn, TitlesBefore};
+ghost use Rattle.itch_depth.specs.Series.{Ascend, AtEach, AtTime, ListsOn, TitlesBefore};
 ghost use Rattle.itch_depth.specs.Timed.{timed_head};
 
 use crate::listing::{continues, list_market};
@@ -50,9 +51,8 @@ fn list_each<R: CountedRead, A: Allocator, B: OrderBook, W: CountedWrite>(
     pass: &mut Pass<R, A, B>,
     out: &mut W,
 ) -> Result<bool, ToolFault>
-    ensures { (first : Reading R) → (before : AnyLimit) → (stop : AnyStop AnyRefused)
-        → Stands R.remaining R.failures before first pass.old.reader pass.old.marked stop
-        → GoesOnFirst before stop pass.old.marked.mark.count times.now → Ascend times.now
+    ensures { (first : Reading R) → Stands R.remaining R.failures (record { after = Some 0; until = Some 0 }) first pass.old.reader pass.old.marked Full
+        → Ascend times.now
         → AtEach (AtTime R.remaining R.failures W.contents W.failures request.entry (option_copied only.entry) first) times.now out.old result out.new }
 {
     let mut answer = Ok(true);

@@ -9,7 +9,7 @@ use itch_book::OrderBook;
 use itch_codec::Seq;
 use itch_day::{Limit, Mark, Marked, read_further};
 use itch_frame::{BlockReader, CountedRead, CountedWrite};
-use itch_market::{LocateSet, Market, ReplayEnd, Stop, reason_of};
+use itch_market::{LocateSet, Market, reason_of};
 use std::alloc::Allocator;
 
 /// A day file that is read on from point to point, and its market at the present point.
@@ -102,11 +102,10 @@ impl<R: CountedRead, A: Allocator, B: OrderBook> Pass<R, A, B> {
         self.marked.sink.settle();
         match reason_of(stop) {
             None => Ok(true),
-            Some(Stop::End) => Ok(false),
-            Some(stop) => Err(ToolFault::Stopped {
-                file: Source::Only,
-                end: ReplayEnd { count, stop },
-            }),
+            Some(stop) => match stopped(stop, None, Source::Only, count) {
+                Ok(_count) => Ok(false),
+                Err(fault) => Err(fault),
+            },
         }
     }
 
