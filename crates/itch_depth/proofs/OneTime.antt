@@ -1,5 +1,5 @@
 -- `book` with one time, and without.
-use Rattle.std.proofs.Common.{◌≡◌, ℕ, Bool, List, Option, Result, refl}
+use Rattle.std.proofs.Common.{◌↔◌, ℕ, Bool, List, Option, Result}
 use Rattle.itch_frame.specs.Reading.{Reading}
 use Rattle.itch_frame.specs.declared.tally.Failures.{Failures}
 use Rattle.itch_day.specs.declared.limit.Limit.{Limit}
@@ -17,7 +17,7 @@ use Rattle.itch_depth.specs.Series.{ListsPart}
 pub one_part : {R W : Type 0} (remaining : R → Option (List ℕ)) (failed_reads : R → Failures) (contents : W → Option (List ℕ)) (failed_writes : W → Failures)
     (form : BookForm) (depth : Option ℕ) (selection : Selection) (set : Option Wanted) (limit : Limit) (first now : Reading R) (old new : W) (result : Result Bool ToolFault)
     → ListsPart remaining failed_reads contents failed_writes (books_of form depth) selection set limit first now old result new
-    ≡ PerformsBook remaining failed_reads contents failed_writes form selection set depth (Day limit) first now old result new
-one_part remaining failed_reads contents failed_writes form depth All set limit first now old new result = refl
-one_part remaining failed_reads contents failed_writes form depth (Locates list) set limit first now old new result = refl
-one_part remaining failed_reads contents failed_writes form depth (Stocks names) set limit first now old new result = refl
+    ↔ PerformsBook remaining failed_reads contents failed_writes form selection set depth (Day limit) first now old result new
+one_part remaining failed_reads contents failed_writes form depth All set limit first now old new result = (λ one. one, λ one. one)
+one_part remaining failed_reads contents failed_writes form depth (Locates list) set limit first now old new result = (λ one. one, λ one. one)
+one_part remaining failed_reads contents failed_writes form depth (Stocks names) set limit first now old new result = (λ one. one, λ one. one)

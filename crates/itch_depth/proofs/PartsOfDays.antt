@@ -30,7 +30,7 @@ use Rattle.itch_commands.specs.declared.kind.FileKind.TheVariants.{Day}
 use Rattle.itch_commands.specs.declared.selection.Selection.{Selection}
 use Rattle.itch_commands.specs.declared.selection.Selection.TheVariants.{All, Locates, Stocks}
 use Rattle.itch_commands.proofs.BookLines.{listed, same_listings, stocks_listed, stocks_unlisted, unlisted}
-use Rattle.itch_depth.specs.Series.{ListsPart, ReadsSelected, Selects, selected}
+use Rattle.itch_depth.specs.Series.{Checks, ListsPart, ReadsSelected, Selects, selected}
 use Rattle.itch_depth.specs.Timed.{timed_at, timed_book, timed_books, timed_listed, timed_row, timed_title}
 
 -- a book has the same lines in any order of its orders
@@ -58,9 +58,6 @@ IsOfMarket lines = (wanted : ℕ → Bool) (m : Content) → AllFit (Content.ord
 
 pub timed_of_market : (form : BookForm) (time : ℕ) (depth : Option ℕ) → IsOfMarket (timed_books form time depth)
 timed_of_market form time depth = timed_books-laid form time depth
-
-pub nothing_of_market : IsOfMarket (λ wanted m. [])
-nothing_of_market wanted m fit = refl
 
 -- the same locates are selected of markets with one directory
 same_selected : (set : Option Wanted) (one other : Content) → Content.securities one ≡ Content.securities other → (s : Selection) → selected s set one ≡ selected s set other
@@ -128,3 +125,39 @@ module _ {R W : Type 0} (remaining : R → Option (List ℕ)) (failed_reads : R 
     selects_part part m (length read.payloads + 1) left set (ReadsFile remaining failed_reads Only (Day limit) first now) file s n chosen,
     subst (λ text. WritesOutput contents failed_writes text true old result new) (lines_part s n (is_market set m n s chosen)) wrote,
   )
+
+module _ {R : Type 0} (remaining : R → Option (List ℕ)) (failed_reads : R → Failures) (set : Option Wanted) (limit : Limit) (first now : Reading R) (m : Content) (mark : Mark)
+    (read : IsRead remaining failed_reads limit first now m mark) where
+  whole : Content
+  whole = run (map message_of read.payloads)
+
+  in_order : IsLaid whole m
+  in_order = record {
+    good = taken_good limit read.payloads read.fits read.day.0;
+    in_order = read.market;
+    few = taken_few limit read.payloads m read.fits read.day.0 read.market;
+  }
+
+  reads : Result (Content × ℕ) ToolFault → Type 0
+  reads = ReadsFile remaining failed_reads Only (Day limit) first now
+
+  it_is : reads (Ok (whole, length read.payloads + 1))
+  it_is = (read.payloads, read.day, refl, refl)
+
+  checked : (s : Selection) → Checks s set m (Ok tt) → Selects s set m (Ok m)
+  checked All all = (refl, all)
+  checked (Locates list) all = (refl, all)
+  checked (Stocks names) known = (refl, known)
+
+  lacking : (s : Selection) (fault : ToolFault) → Checks s set m (Err fault) → Selects s set m (Err fault)
+  lacking All fault one = one
+  lacking (Locates list) fault one = one
+  lacking (Stocks names) fault unknown = unknown
+
+  -- the directory after the part has each selected locate and stock
+  pub part_checked : (s : Selection) → Checks s set m (Ok tt) → (done : Content × ℕ) × ReadsSelected s set reads (Ok done)
+  part_checked s all = ((whole, length read.payloads + 1), selects_part whole m (length read.payloads + 1) in_order set reads it_is s m (checked s all))
+
+  -- or lacks one
+  pub part_lacks : (s : Selection) (fault : ToolFault) → Checks s set m (Err fault) → ReadsSelected s set reads (Err fault)
+  part_lacks s fault lacks = lacks_part whole m (length read.payloads + 1) in_order set reads it_is s fault (lacking s fault lacks)

@@ -1,5 +1,5 @@
 -- The books at several times of a day file: for each time the output and the result of `book` for the part of the file before it.
-use Rattle.std.specs.Prelude.{◌≡◌, ℕ, zero, suc, ◌*◌, ◌/◌, ◌≤◌, ◌⊎◌, ⊤, Bool, true, false, List, [], ◌∷◌, Option, None, Result, Ok, Err}
+use Rattle.std.specs.Prelude.{◌≡◌, ℕ, zero, suc, ◌*◌, ◌/◌, ◌≤◌, ◌⊎◌, ⊤, Bool, true, false, List, [], ◌∷◌, Option, None, Result, Ok, Err, MatchResult}
 use Rattle.std.specs.Bool.{MatchBool}
 use Rattle.itch_frame.specs.Reading.{Reading}
 use Rattle.itch_frame.specs.declared.tally.Failures.{Failures}
@@ -31,17 +31,29 @@ abbrev pub selected : Selection → Option Wanted → Content → ℕ → Bool
 selected (Stocks names) set m = has_one_of (Content.securities m) (names_of names.now)
 selected selection set m = wanted_by set
 
--- the directory of a market has each selected locate and stock; or it lacks one, or memory runs out before that is known
+-- the directory of a market has each of these stocks; or it lacks one, or memory runs out before that is known
+abbrev pub SelectsStocks : List (List ℕ) → Content → Result Content ToolFault → Type 0
+SelectsStocks names m (Ok n) = (n ≡ m) × (are_known (Content.securities m) names ≡ true)
+SelectsStocks names m (Err fault) = IsStockFault (Content.securities m) names fault
+
+-- the directory of a market has each locate of a set, if there is one; or it lacks one
+abbrev pub SelectsSet : Option Wanted → Content → Result Content ToolFault → Type 0
+SelectsSet set m (Ok n) = (n ≡ m) × AreListed set (Content.securities m)
+SelectsSet set m (Err fault) = (fault ≡ tool.UnknownLocate) × IsUnlisted set (Content.securities m)
+
+-- the directory of a market has each selected locate and stock, or it lacks one
 abbrev pub Selects : Selection → Option Wanted → Content → Result Content ToolFault → Type 0
-Selects (Stocks names) set m (Ok n) = (n ≡ m) × (are_known (Content.securities m) (names_of names.now) ≡ true)
-Selects (Stocks names) set m (Err fault) = IsStockFault (Content.securities m) (names_of names.now) fault
-Selects selection set m (Ok n) = (n ≡ m) × AreListed set (Content.securities m)
-Selects selection set m (Err fault) = (fault ≡ tool.UnknownLocate) × IsUnlisted set (Content.securities m)
+Selects (Stocks names) set m = SelectsStocks (names_of names.now) m
+Selects selection set m = SelectsSet set m
 
 -- the same where nothing is written
+abbrev pub ChecksStocks : List (List ℕ) → Content → Result (Unit {0}) ToolFault → Type 0
+ChecksStocks names m result = MatchResult result (λ _. are_known (Content.securities m) names ≡ true) (λ fault. IsStockFault (Content.securities m) names fault)
+
 abbrev pub Checks : Selection → Option Wanted → Content → Result (Unit {0}) ToolFault → Type 0
-Checks selection set m (Ok done) = Selects selection set m (Ok m)
-Checks selection set m (Err fault) = Selects selection set m (Err fault)
+Checks (Stocks names) set m result = ChecksStocks (names_of names.now) m result
+Checks selection set m result =
+    MatchResult result (λ _. AreListed set (Content.securities m)) (λ fault. (fault ≡ tool.UnknownLocate) × IsUnlisted set (Content.securities m))
 
 -- a file is read, and its directory has each selected locate and stock; or the file is refused, or its directory lacks one
 abbrev pub ReadsSelected : Selection → Option Wanted → (Result (Content × ℕ) ToolFault → Type 0) → Result (Content × ℕ) ToolFault → Type 0
@@ -95,6 +107,14 @@ module _ {W : Type 0} (contents : W → Option (List ℕ)) (failed_writes : W �
   abbrev pub ListsBegun : BookRequest → Option Wanted → Marked Content → ℕ → W → Result Bool ToolFault → W → Type 0
   ListsBegun request set marked = ListsAfter marked.mark.count request set marked.sink
 
+module _ {R : Type 0} (remaining : R → Option (List ℕ)) (failed_reads : R → Failures) where
+  -- at the end of the file its directory must have each selected locate and stock
+  abbrev pub AtEnd : BookRequest → Option Wanted → Reading R → Result Bool ToolFault → Type 0
+  AtEnd request set first result =
+      (now : Reading R) × (((fault : ToolFault) × (result ≡ Err fault)
+      × ReadsSelected request.selection set (ReadsFile remaining failed_reads Only (Day (counted None)) first now) (Err fault))
+      ⊎ ((done : Content × ℕ) × (result ≡ Ok true) × ReadsSelected request.selection set (ReadsFile remaining failed_reads Only (Day (counted None)) first now) (Ok done)))
+
 module _ {R W : Type 0} (remaining : R → Option (List ℕ)) (failed_reads : R → Failures) (contents : W → Option (List ℕ)) (failed_writes : W → Failures) where
   -- `book` of the selected locates after a part of a day file, with these lines of the locates and the market
   abbrev pub ListsPart : ((ℕ → Bool) → Content → List ℕ) → Selection → Option Wanted → Limit → Reading R → Reading R → W → Result Bool ToolFault → W → Type 0
@@ -119,18 +139,13 @@ module _ {R W : Type 0} (remaining : R → Option (List ℕ)) (failed_reads : R 
   AtTimeAfter zero request set first time old result new = (result ≡ Ok true) × (new ≡ old)
   AtTimeAfter (suc count) request set first time old result new = AtTime request set first time old result new
 
-  -- at the end of the file its directory must have each selected locate and stock; nothing is written
-  abbrev pub AtEnd : BookRequest → Option Wanted → Reading R → W → Result Bool ToolFault → W → Type 0
-  AtEnd request set first old result new =
-      (now : Reading R) × ListsPart (λ wanted m. []) request.selection set (counted None) first now old result new
-
   -- The books at this many multiples of a duration, from one multiple on: the file is refused before it; or it ends before it; or a message
   -- at that time or later follows, and then the next multiple does.
   abbrev pub AtNext : BookRequest → Option Wanted → Reading R → ℕ → ℕ → ℕ → W → Result Bool ToolFault → W → Type 0
-  AtNext request set first step multiple zero old result new = AtEnd request set first old result new
+  AtNext request set first step multiple zero old result new = AtEnd remaining failed_reads request set first result × (new ≡ old)
   AtNext request set first step multiple (suc more) old result new =
       ((fault : ToolFault) × (now : Reading R) × (result ≡ Err fault) × ReadsDay remaining failed_reads Only (up_to (multiple * step)) first now (Err fault) × (new ≡ old))
-      ⊎ (((now : Reading R) × (marked : Marked Content) × Stands remaining failed_reads (up_to (multiple * step)) first now marked End × AtEnd request set first old result new)
+      ⊎ (((now : Reading R) × (marked : Marked Content) × Stands remaining failed_reads (up_to (multiple * step)) first now marked End × AtEnd remaining failed_reads request set first result × (new ≡ old))
       ⊎ ((now : Reading R) × (marked : Marked Content) × Stands remaining failed_reads (up_to (multiple * step)) first now marked Late
       × ((mid : W) × (answer : Result Bool ToolFault) × AtTimeAfter marked.mark.count request set first (multiple * step) old answer mid
       × MatchBool (continues answer) (AtNext request set first step (suc multiple) more mid result new) ((result ≡ answer) × (new ≡ mid)))))

@@ -1,10 +1,15 @@
 //! The books at every multiple of a duration.
-ghost use Rattle.std.specs.Prelude.{◌<◌, Some};
+ghost use Rattle.std.specs.Prelude.{◌<◌, None, Some};
 ghost use Rattle.std.specs.Option.{option_copied};
 ghost use Rattle.itch_frame.specs.Reading.{Reading};
+ghost use Rattle.itch_day.specs.Limits.{counted};
+ghost use Rattle.itch_day.specs.Parts.{GoesOnTo};
+ghost use Rattle.itch_day.specs.declared.limit.Limit.{Limit as AnyLimit};
+ghost use Rattle.itch_day.specs.declared.stop.Stop.{Stop as AnyStop};
 ghost use Rattle.itch_day.specs.declared.stop.Stop.TheVariants.{Full};
+ghost use Rattle.itch_market.specs.declared.refused.Refused.{Refused as AnyRefused};
 ghost use Rattle.itch_commands.specs.Points.{Stands};
-ghost use Rattle.itch_depth.specs.Series.{AtMultiples, ListsBegun, TitlesBefore};
+ghost use Rattle.itch_depth.specs.Series.{AtEnd, AtMultiples, ListsBegun, TitlesBefore};
 ghost use Rattle.itch_depth.specs.Timed.{timed_head};
 
 use crate::listing::{check_listed, continues, list_market};
@@ -41,7 +46,7 @@ pub fn books_every<R: CountedRead + Drop, A: Allocator, B: OrderBook, W: Counted
     list_every(alloc, request, only, step.max(1), &mut pass, out)
 }
 
-// Writes the books at each multiple, and checks the selection at the end.
+// Writes the books at each multiple.
 fn list_every<R: CountedRead, A: Allocator, B: OrderBook, W: CountedWrite>(
     alloc: B::Alloc,
     request: BookRequest<'_>,
@@ -57,13 +62,27 @@ fn list_every<R: CountedRead, A: Allocator, B: OrderBook, W: CountedWrite>(
     for multiple in 1..=LATEST / step {
         let time = multiple * step;
         if !pass.read_until(time)? {
-            break;
+            return finish(alloc, request, only, pass);
         }
         let answer = list_begun(alloc, request, only, time, pass, out);
         if !continues(&answer) {
             return answer;
         }
     }
+    finish(alloc, request, only, pass)
+}
+
+// Reads the rest of the file, and checks that its directory has each selected locate and stock.
+fn finish<R: CountedRead, A: Allocator, B: OrderBook>(
+    alloc: B::Alloc,
+    request: BookRequest<'_>,
+    only: Option<&LocateSet<B::Alloc>>,
+    pass: &mut Pass<R, A, B>,
+) -> Result<bool, ToolFault>
+    ensures { (first : Reading R) → (before : AnyLimit) → (stop : AnyStop AnyRefused)
+        → Stands R.remaining R.failures before first pass.old.reader pass.old.marked stop → GoesOnTo before stop pass.old.marked.mark.count (counted None)
+        → AtEnd R.remaining R.failures request.entry (option_copied only.entry) first result }
+{
     pass.read_to(Limit::whole())?;
     check_listed(alloc, pass.market(), request.selection, only)?;
     Ok(true)

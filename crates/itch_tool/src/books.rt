@@ -5,6 +5,7 @@ use crate::failure::Failure;
 use crate::locate_list::read_only;
 use crate::opened::open;
 use crate::run::blocks;
+use itch_book::IndexedBook;
 use itch_commands::{Book, Source, ToolFault};
 use itch_depth::{books_at, books_every};
 use itch_frame::{Counted, CountedWrite};
@@ -45,6 +46,7 @@ pub fn run_books<R: Files + Input + Print + Eprint + AllocGlobal + Clock>(
     }
 }
 
+// Several times are looked at between messages, so their book keeps its price levels, and does not sort its orders anew for each.
 fn print_books<A: Allocator + Copy, R: Read + Drop, W: CountedWrite>(
     alloc: A,
     words: &BookWords<'_>,
@@ -54,10 +56,14 @@ fn print_books<A: Allocator + Copy, R: Read + Drop, W: CountedWrite>(
 ) -> Result<bool, ToolFault> {
     let reader = blocks(alloc, file)?;
     match &words.times {
-        Times::At(times) => books_at::<_, _, Book<A>, _>(
+        // One time is the end of the reading.
+        Times::At(times) if times.len() == 1 => books_at::<_, _, Book<A>, _>(
             alloc, words.request, only, times, reader, out,
         ),
-        Times::Every(step) => books_every::<_, _, Book<A>, _>(
+        Times::At(times) => books_at::<_, _, IndexedBook<A>, _>(
+            alloc, words.request, only, times, reader, out,
+        ),
+        Times::Every(step) => books_every::<_, _, IndexedBook<A>, _>(
             alloc, words.request, only, *step, reader, out,
         ),
     }

@@ -27,8 +27,8 @@ returns-in-None g c = λ first before stop stands to.
     rw c.settle.ensures
     (late_there _ _ c.args.time first new.reader new.sink (omega (arith, c.read_further-stop.ensures.few, counted)) result on (sym c.reason_of.ensures ∙ c.in-None.is))
 
-pub returns-in-Some-Ok : goal.returns-in-Some-Ok
-returns-in-Some-Ok g c = λ first before stop stands to.
+pub returns-in-Ok : goal.returns-in-Ok
+returns-in-Ok g c = λ first before stop stands to.
     let old = c.args.self.now in
     let new = c.read_further-stop.new in
     let result = c.read_further-stop.result in
@@ -37,10 +37,10 @@ returns-in-Some-Ok g c = λ first before stop stands to.
     let on = stands_on _ _ limit first new.reader new.count new.sink result counted (c.read_further-stop.ensures.reads first 0 begun before stop stands to) in
     rw c.settle.ensures
     (ended_there _ _ c.args.time first new.reader new.sink (omega (arith, c.read_further-stop.ensures.few, counted)) result on c.in-Some.stop (sym c.reason_of.ensures ∙ c.in-Some.is) new.count (sym counted)
-    c.in-Some-Ok._count (sym c.stopped.ensures ∙ c.in-Some-Ok.is))
+    c.in-Ok._count (sym c.stopped.ensures ∙ c.in-Ok.is))
 
-pub returns-in-Some-Err : goal.returns-in-Some-Err
-returns-in-Some-Err g c = λ first before stop stands to.
+pub returns-in-Err : goal.returns-in-Err
+returns-in-Err g c = λ first before stop stands to.
     let old = c.args.self.now in
     let new = c.read_further-stop.new in
     let result = c.read_further-stop.result in
@@ -49,4 +49,4 @@ returns-in-Some-Err g c = λ first before stop stands to.
     let on = stands_on _ _ limit first new.reader new.count new.sink result counted (c.read_further-stop.ensures.reads first 0 begun before stop stands to) in
     rw c.settle.ensures
     (refused_there _ _ c.args.time first new.reader new.sink (omega (arith, c.read_further-stop.ensures.few, counted)) result on c.in-Some.stop (sym c.reason_of.ensures ∙ c.in-Some.is) new.count (sym counted)
-    c.in-Some-Err.fault (sym c.stopped.ensures ∙ c.in-Some-Err.is))
+    c.in-Err.fault (sym c.stopped.ensures ∙ c.in-Err.is))
