@@ -2,6 +2,7 @@
 use Rattle.std.proofs.Common.{◌≡◌, ℕ, ◌+◌, Bool, true, List, [], ◌++◌, length, map, Option, None, Some, Result, Ok, Err, inl, inr, refl, sym, ap, ap₂, subst, ◌∙◌}
 use Rattle.std.specs.List.{filter, flat_map}
 use Rattle.std.specs.FinMap as finite
+use Rattle.std.proofs.KnownBytes.{Appends-nil}
 use Rattle.itch_codec.specs.Messages.{message_of}
 use Rattle.itch_codec.specs.Text.{before_spaces}
 use Rattle.itch_codec.specs.declared.orders.Side.TheVariants.{Buy, Sell}
@@ -20,7 +21,7 @@ use Rattle.itch_market.proofs.DayMessages.{taken_good}
 use Rattle.itch_snapshot.proofs.DaySnapshots.{taken_few}
 use Rattle.itch_commands.specs.Books.{side_lines}
 use Rattle.itch_commands.specs.Files.{IsLaid, ReadsFile}
-use Rattle.itch_commands.specs.Outputs.{Outputs, WritesOutput}
+use Rattle.itch_commands.specs.Outputs.{Outputs, WritesOutput, WritesText}
 use Rattle.itch_commands.specs.Points.{IsRead}
 use Rattle.itch_commands.specs.Stocks.{has_one_of, names_of}
 use Rattle.itch_commands.specs.declared.fault.Source.TheVariants.{Only}
@@ -29,7 +30,7 @@ use Rattle.itch_commands.specs.declared.form.BookForm.{BookForm}
 use Rattle.itch_commands.specs.declared.kind.FileKind.TheVariants.{Day}
 use Rattle.itch_commands.specs.declared.selection.Selection.{Selection}
 use Rattle.itch_commands.specs.declared.selection.Selection.TheVariants.{All, Locates, Stocks}
-use Rattle.itch_commands.proofs.BookLines.{listed, same_listings, stocks_listed, stocks_unlisted, unlisted}
+use Rattle.itch_commands.proofs.BookLines.{listed, stocks_listed, stocks_unlisted, unlisted}
 use Rattle.itch_depth.specs.Series.{Checks, ListsPart, ReadsSelected, Selects, selected}
 use Rattle.itch_depth.specs.Timed.{timed_at, timed_book, timed_books, timed_listed, timed_row, timed_title}
 
@@ -51,6 +52,19 @@ timed_books-laid form time depth wanted m fit =
     let same : timed_at form time depth (laid m) ≡ timed_at form time depth m =
     λ i locate. timed_listed-laid form time depth (Content.orders m) locate (finite.get (Content.securities m) locate) fit i in
     ap (λ (lines : ℕ → List ℕ). flat_map lines (filter wanted (finite.keys (Content.securities m)))) same
+
+module _ (form : BookForm) (time : ℕ) (depth : Option ℕ) (m : Content) (locate : ℕ) where
+  -- the book of a locate of the directory
+  pub timed_lines_listed : (s : Listing) (stock : List ℕ) (orders : List Order) → Some s ≡ finite.get (Content.securities m) locate → stock ≡ before_spaces s.entry.stock
+      → orders ≡ Content.orders m → timed_book form time locate depth stock orders ≡ timed_at form time depth m locate
+  timed_lines_listed s stock orders there text same =
+      ap₂ (λ t os. timed_book form time locate depth t os) text same ∙ ap (timed_listed form time depth (Content.orders m) locate) there
+
+  -- there are no lines for another locate
+  pub timed_nothing_listed : {W : Type 0} (contents : W → Option (List ℕ)) (failures : W → Failures) (old : W) → None ≡ finite.get (Content.securities m) locate
+      → WritesText contents failures (timed_at form time depth m locate) old (Ok tt) old
+  timed_nothing_listed contents failures old there =
+      subst (λ text. WritesText contents failures text old (Ok tt) old) (ap (timed_listed form time depth (Content.orders m) locate) there) (Appends-nil (contents old), refl)
 
 -- the lines of a market do not depend on the order of its orders
 abbrev pub IsOfMarket : ((ℕ → Bool) → Content → List ℕ) → Type 0
@@ -94,7 +108,7 @@ module _ {R W : Type 0} (remaining : R → Option (List ℕ)) (failed_reads : R 
     (lines : (ℕ → Bool) → Content → List ℕ) (same : IsOfMarket lines) (set : Option Wanted) (limit : Limit) (first now : Reading R) (m : Content) (mark : Mark)
     (read : IsRead remaining failed_reads limit first now m mark) where
   -- the market of the part, in the order of its messages
-  part : Content
+  abbrev part : Content
   part = run (map message_of read.payloads)
 
   left : IsLaid part m
@@ -110,7 +124,7 @@ module _ {R W : Type 0} (remaining : R → Option (List ℕ)) (failed_reads : R 
   lines_part : (s : Selection) (n : Content) → n ≡ m → lines (selected s set n) n ≡ lines (selected s set part) part
   lines_part s n is =
       ap (λ (x : Content). lines (selected s set x) x) is
-      ∙ ap (λ (w : ℕ → Bool). lines w m) (same_selected set m part (same_listings part m (length read.payloads + 1) left) s)
+      ∙ ap (λ (w : ℕ → Bool). lines w m) (same_selected set m part (ap Content.securities left.in_order) s)
       ∙ ap (lines (selected s set part)) read.market
       ∙ same (selected s set part) part (live_fit (Content.orders part) left.good.live)
 
@@ -128,7 +142,7 @@ module _ {R W : Type 0} (remaining : R → Option (List ℕ)) (failed_reads : R 
 
 module _ {R : Type 0} (remaining : R → Option (List ℕ)) (failed_reads : R → Failures) (set : Option Wanted) (limit : Limit) (first now : Reading R) (m : Content) (mark : Mark)
     (read : IsRead remaining failed_reads limit first now m mark) where
-  whole : Content
+  abbrev whole : Content
   whole = run (map message_of read.payloads)
 
   in_order : IsLaid whole m
@@ -138,7 +152,7 @@ module _ {R : Type 0} (remaining : R → Option (List ℕ)) (failed_reads : R �
     few = taken_few limit read.payloads m read.fits read.day.0 read.market;
   }
 
-  reads : Result (Content × ℕ) ToolFault → Type 0
+  abbrev reads : Result (Content × ℕ) ToolFault → Type 0
   reads = ReadsFile remaining failed_reads Only (Day limit) first now
 
   it_is : reads (Ok (whole, length read.payloads + 1))

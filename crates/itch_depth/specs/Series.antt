@@ -20,6 +20,7 @@ use Rattle.itch_commands.specs.Stocks.{IsStockFault, ReadsStocks, are_known, has
 use Rattle.itch_commands.specs.declared.fault.Source.TheVariants.{Only}
 use Rattle.itch_commands.specs.declared.fault.ToolFault.{ToolFault}
 use Rattle.itch_commands.specs.declared.fault.ToolFault.TheVariants as tool
+use Rattle.itch_commands.specs.declared.form.BookForm.{BookForm}
 use Rattle.itch_commands.specs.declared.kind.FileKind.TheVariants.{Day}
 use Rattle.itch_commands.specs.declared.selection.Selection.{Selection}
 use Rattle.itch_commands.specs.declared.selection.Selection.TheVariants.{Stocks}
@@ -94,10 +95,12 @@ module _ {W : Type 0} (contents : W → Option (List ℕ)) (failed_writes : W �
       ⊎ ((mid : W) × WritesText contents failed_writes heading old (Ok tt) mid × below mid result new)
 
   -- the selected books of a market at a time
+  abbrev pub ListsSelected : Selection → Option Wanted → Option ℕ → BookForm → Content → ℕ → W → Result Bool ToolFault → W → Type 0
+  ListsSelected selection set depth form market time =
+      Outputs contents failed_writes (Selects selection set market) (λ m. timed_books form time depth (selected selection set m) m) (λ _. true)
+
   abbrev pub ListsMarket : BookRequest → Option Wanted → Content → ℕ → W → Result Bool ToolFault → W → Type 0
-  ListsMarket request set market time =
-      Outputs contents failed_writes (Selects request.selection set market)
-      (λ m. timed_books request.form time request.depth (selected request.selection set m) m) (λ _. true)
+  ListsMarket request set = ListsSelected request.selection set request.depth request.form
 
   -- the same after some messages, and nothing after none
   abbrev pub ListsAfter : ℕ → BookRequest → Option Wanted → Content → ℕ → W → Result Bool ToolFault → W → Type 0

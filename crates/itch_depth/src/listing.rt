@@ -5,7 +5,7 @@ ghost use Rattle.itch_market.specs.Content.{Content};
 ghost use Rattle.itch_commands.specs.Books.{wanted_by};
 ghost use Rattle.itch_commands.specs.Outputs.{Outputs};
 ghost use Rattle.itch_commands.specs.Stocks.{has_one_of, names_of};
-ghost use Rattle.itch_depth.specs.Series.{Checks, ChecksStocks, ListsMarket, SelectsSet, SelectsStocks, continues};
+ghost use Rattle.itch_depth.specs.Series.{Checks, ChecksStocks, ListsMarket, ListsSelected, SelectsSet, SelectsStocks, continues};
 ghost use Rattle.itch_depth.specs.Timed.{timed_books};
 
 use crate::request::BookRequest;
@@ -34,6 +34,21 @@ pub fn list_market<B: OrderBook, W: CountedWrite>(
         depth,
         form,
     } = request;
+    list_selected(alloc, market, selection, only, depth, time, form, out)
+}
+
+fn list_selected<B: OrderBook, W: CountedWrite>(
+    alloc: B::Alloc,
+    market: &Market<B>,
+    selection: Selection<'_>,
+    only: Option<&LocateSet<B::Alloc>>,
+    depth: Option<u64>,
+    time: u64,
+    form: BookForm,
+    out: &mut W,
+) -> Result<bool, ToolFault>
+    ensures { ListsSelected W.contents W.failures selection.entry (option_copied only.entry) depth form market.now time out.old result out.new }
+{
     match selection {
         Selection::Stocks(names) => list_stocks(alloc, market, names, depth, time, form, out),
         Selection::All => list_set(market, only, depth, time, form, out),

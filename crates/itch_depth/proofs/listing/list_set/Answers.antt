@@ -4,7 +4,7 @@ use Rattle.itch_depth.proofs.listing.list_set.Goals as goal
 
 pub returns-in_err-all_listed : goal.returns-in_err-all_listed
 returns-in_err-all_listed g c =
-    let p = err_from_is_err_and c.from_residual-in_err-all_listed.result c.from_residual-in_err-all_listed.ensures.1 in
+    let p = err_from_is_err_and c.from_residual.result c.from_residual.ensures.1 in
     rw (p.1, p.2) (inl (_, refl, c.in_err-all_listed.ensures, refl))
 
 pub returns-in_err-write_timed_books : goal.returns-in_err-write_timed_books

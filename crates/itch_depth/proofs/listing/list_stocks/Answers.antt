@@ -9,7 +9,7 @@ use Rattle.itch_depth.proofs.listing.list_stocks.Goals as goal
 
 pub returns-in_err-set : goal.returns-in_err-set
 returns-in_err-set g c =
-    let p = err_from_is_err_and c.from_residual-in_err-set.result c.from_residual-in_err-set.ensures.1 in
+    let p = err_from_is_err_and c.from_residual.result c.from_residual.ensures.1 in
     rw (p.1, p.2) (inl (_, refl, c.in_err-set.ensures, refl))
 
 pub returns-in_err-write_timed_books : goal.returns-in_err-write_timed_books

@@ -9,7 +9,7 @@ use Rattle.itch_depth.proofs.timed.write_timed_books.Goals as goal
 
 pub returns-in_err-write_timed_listed : goal.returns-in_err-write_timed_listed
 returns-in_err-write_timed_listed g c =
-    let p = err_from_is_err_and c.from_residual-in_err-write_timed_listed.result c.from_residual-in_err-write_timed_listed.ensures.1 in
+    let p = err_from_is_err_and c.from_residual.result c.from_residual.ensures.1 in
     let contents = g.W.CountedWrite.contents in
     let failures = g.W.CountedWrite.failures in
     let lines = timed_at c.args.form c.args.time c.args.depth c.args.market.now in

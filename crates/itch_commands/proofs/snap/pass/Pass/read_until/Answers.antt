@@ -47,6 +47,5 @@ returns-in-Err g c = λ first before stop stands to.
     let limit = up_to c.args.time in
     let counted = count_on _ _ limit old.reader new.reader _ new.count old.marked new.sink result c.read_further-stop.ensures.part refl in
     let on = stands_on _ _ limit first new.reader new.count new.sink result counted (c.read_further-stop.ensures.reads first 0 begun before stop stands to) in
-    rw c.settle.ensures
-    (refused_there _ _ c.args.time first new.reader new.sink (omega (arith, c.read_further-stop.ensures.few, counted)) result on c.in-Some.stop (sym c.reason_of.ensures ∙ c.in-Some.is) new.count (sym counted)
-    c.in-Err.fault (sym c.stopped.ensures ∙ c.in-Err.is))
+    refused_there _ _ c.args.time first new.reader new.sink (omega (arith, c.read_further-stop.ensures.few, counted)) result on c.in-Some.stop (sym c.reason_of.ensures ∙ c.in-Some.is) new.count (sym counted)
+    c.in-Err.fault (sym c.stopped.ensures ∙ c.in-Err.is)
