@@ -1,5 +1,5 @@
 -- Books at several times, one after another.
-use Rattle.std.proofs.Common.{◌≡◌, ℕ, ◌+◌, ◌≤◌, zero, suc, Bool, true, false, List, [], ◌∷◌, drop, Option, None, Some, Result, Ok, Err, inl, inr, refl, sym, ap, subst, ◌∙◌}
+use Rattle.std.proofs.Common.{◌≡◌, ℕ, ◌+◌, ◌≤◌, zero, suc, Bool, true, false, List, [], ◌∷◌, drop, Option, None, Some, Result, Ok, Err, inl, inr, refl, sym, ap, subst, ◌∙◌, arith}
 use Rattle.std.specs.Prelude.{⊤, ◌⊎◌}
 use Rattle.std.specs.Bool.{MatchBool}
 use Rattle.itch_frame.specs.Reading.{Reading}
@@ -127,7 +127,7 @@ later_ascend time (other ∷ left) ascend = ascend.1
 
 module _ {R W : Type 0} (remaining : R → Option (List ℕ)) (failed_reads : R → Failures) (contents : W → Option (List ℕ)) (failed_writes : W → Failures)
     (request : BookRequest) (set : Option Wanted) (first : Reading R) (times : List ℕ) where
-  point : ℕ → W → Result Bool ToolFault → W → Type 0
+  abbrev point : ℕ → W → Result Bool ToolFault → W → Type 0
   point = AtTime remaining failed_reads contents failed_writes request set first
 
   pub turn_begun : (old : W) (start : Reading R) (marked : Marked Content) → Stands remaining failed_reads (record { after = Some 0; until = Some 0 }) first start marked Full → Ascend times

@@ -18,5 +18,5 @@ returns g c = λ some. inr (
   c.write_text.new.out,
   subst (λ text. WritesText g.W.CountedWrite.contents g.W.CountedWrite.failures text c.args.out.now (Ok tt) c.write_text.new.out)
       (c.as_bytes.ensures.bytes ∙ c.timed_head.ensures) c.in_ok-write_text.ensures,
-  c.list_every.ensures c.args.reader (c.new-pass.ensures (Some 0)) ascend,
+  c.list_every.ensures c.args.reader (c.new-pass.ensures (Some 0)),
 )
