@@ -8,18 +8,52 @@ use Rattle.itch_day.specs.Limits.{counted}
 use Rattle.itch_day.specs.Parts.{GoesOnTo}
 use Rattle.itch_day.specs.Passing.{left_by}
 use Rattle.itch_day.specs.declared.limit.Limit.{Limit}
+use Rattle.itch_day.specs.declared.mark.Mark.{Mark}
 use Rattle.itch_day.specs.declared.marked.Marked.{Marked}
 use Rattle.itch_day.specs.declared.stop.Stop.{Stop}
 use Rattle.itch_day.specs.declared.stop.Stop.TheVariants.{End, Full, Late}
 use Rattle.itch_market.specs.Content.{Content}
 use Rattle.itch_market.specs.Wanted.{Wanted}
 use Rattle.itch_market.specs.declared.refused.Refused.{Refused}
-use Rattle.itch_commands.specs.Points.{IsRead, ReadsUntil, Stands, up_to}
+use Rattle.itch_commands.specs.Points.{ReadsOn, ReadsUntil, Stands, up_to}
+use Rattle.itch_commands.specs.Files.{ReadsFile}
+use Rattle.itch_commands.specs.declared.fault.Source.TheVariants.{Only}
 use Rattle.itch_commands.specs.declared.fault.ToolFault.{ToolFault}
-use Rattle.itch_depth.specs.Series.{AtEnd, AtMultiples, AtNext, AtTimeAfter, ListsAfter, ListsBegun, continues, latest}
+use Rattle.itch_commands.specs.declared.kind.FileKind.TheVariants.{Day}
+use Rattle.itch_depth.specs.Series.{AtEnd, AtMultiples, AtNext, AtTimeAfter, Checks, ListsAfter, ListsBegun, ListsMarket, continues, latest}
 use Rattle.itch_depth.specs.Timed.{timed_books}
 use Rattle.itch_depth.specs.declared.request.BookRequest.{BookRequest}
-use Rattle.itch_depth.proofs.PartsOfDays.{part_listed, timed_of_market}
+use Rattle.itch_depth.proofs.PartsOfDays.{part_checked, part_lacks, part_listed, refused_part, timed_of_market}
+
+module _ {R : Type 0} (remaining : R → Option (List ℕ)) (failed_reads : R → Failures) (request : BookRequest) (set : Option Wanted) (first now : Reading R) (marked : Marked Content) where
+  -- the rest of the file is refused
+  pub end_refused : (fault : ToolFault) → ReadsOn remaining failed_reads (counted None) first now (Err fault) marked → AtEnd remaining failed_reads request set first (Err fault)
+  end_refused fault (stop, stands, day, short) =
+      (left_by stop now, inl (fault, refl, refused_part set (ReadsFile remaining failed_reads Only (Day (counted None)) first (left_by stop now)) request.selection fault day))
+
+  module _ (count : ℕ) (on : ReadsOn remaining failed_reads (counted None) first now (Ok count) marked) where
+    -- its directory lacks a locate or a stock
+    pub end_lacks : (fault : ToolFault) → Checks request.selection set marked.sink (Err fault) → AtEnd remaining failed_reads request set first (Err fault)
+    end_lacks fault lacks =
+        let then : Reading R = left_by on.1.0 now in
+        (then, inl (fault, refl, part_lacks remaining failed_reads set (counted None) first then marked.sink marked.mark on.1.3 request.selection fault lacks))
+
+    -- or has each
+    pub end_listed : Checks request.selection set marked.sink (Ok tt) → AtEnd remaining failed_reads request set first (Ok true)
+    end_listed all =
+        let then : Reading R = left_by on.1.0 now in
+        let done = part_checked remaining failed_reads set (counted None) first then marked.sink marked.mark on.1.3 request.selection all in
+        (then, inr (done.0, refl, done.1))
+
+-- after some messages the books are written
+pub begun_after : {W : Type 0} (contents : W → Option (List ℕ)) (failed_writes : W → Failures) (request : BookRequest) (set : Option Wanted) (marked : Marked Content) (time : ℕ) (old new : W)
+    (result : Result Bool ToolFault) (mark : Mark) → mark ≡ marked.mark → (mark.count ≡ 0 → ⊥) → ListsMarket contents failed_writes request set marked.sink time old result new
+    → ListsBegun contents failed_writes request set marked time old result new
+begun_after contents failed_writes request set marked time old new result mark is some wrote =
+    some_there marked.mark.count (λ none. some (ap (λ (k : Mark). k.count) is ∙ none)) where
+  some_there : (count : ℕ) → (count ≡ 0 → ⊥) → ListsAfter contents failed_writes count request set marked.sink time old result new
+  some_there zero some = absurd (some refl)
+  some_there (suc count) some = wrote
 
 module _ {R W : Type 0} (remaining : R → Option (List ℕ)) (failed_reads : R → Failures) (contents : W → Option (List ℕ)) (failed_writes : W → Failures)
     (request : BookRequest) (set : Option Wanted) (first : Reading R) (step : ℕ) where

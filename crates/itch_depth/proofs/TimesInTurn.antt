@@ -1,5 +1,5 @@
 -- Books at several times, one after another.
-use Rattle.std.proofs.Common.{◌≡◌, ℕ, ◌+◌, ◌≤◌, zero, suc, Bool, true, false, List, [], ◌∷◌, drop, Option, None, Some, Result, Ok, Err, inl, inr, refl, sym, ap, subst, ◌∙◌, arith}
+use Rattle.std.proofs.Common.{◌≡◌, ℕ, ◌+◌, ◌≤◌, zero, suc, Bool, true, false, List, [], ◌∷◌, drop, length, Option, None, Some, Result, Ok, Err, inl, inr, refl, sym, ap, subst, ◌∙◌, arith}
 use Rattle.std.specs.Prelude.{⊤, ◌⊎◌}
 use Rattle.std.specs.Bool.{MatchBool}
 use Rattle.itch_frame.specs.Reading.{Reading}
@@ -54,6 +54,13 @@ module _ {W : Type 0} (point : ℕ → W → Result Bool ToolFault → W → Typ
 abbrev pub IsFirst : ℕ → List ℕ → Type 0
 IsFirst next [] = ⊥
 IsFirst next (time ∷ times) = next ≡ time
+
+-- none of a list is left past its length
+pub all_dropped : (times : List ℕ) (i : ℕ) → length times ≤ i → drop i times ≡ []
+all_dropped [] zero long = refl
+all_dropped [] (suc i) long = refl
+all_dropped (time ∷ times) zero long = absurd (omega (arith, long))
+all_dropped (time ∷ times) (suc i) long = all_dropped times i (omega (arith, long))
 
 -- the reading goes on from one time to a later one
 pub goes_later : (time next count : ℕ) (stop : Stop Refused) → time ≤ next → (stop ≡ Late) ⊎ (stop ≡ End) → GoesOnTo (up_to time) stop count (up_to next)

@@ -17,4 +17,4 @@ returns-in-All g c =
 pub returns-in-Locates : goal.returns-in-Locates
 returns-in-Locates g c =
     subst (λ (s : Selection). ListsSelected g.W.CountedWrite.contents g.W.CountedWrite.failures s (option_copied c.args.only) c.args.depth c.args.form c.args.market.now c.args.time c.args.out.now
-    c.list_set.result c.list_set.new.out) (sym c.in-Locates.is) c.list_set.ensures
+    c.list_set-in-Locates.result c.list_set-in-Locates.new.out) (sym c.in-Locates.is) c.list_set-in-Locates.ensures
