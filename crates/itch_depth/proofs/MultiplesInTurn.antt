@@ -114,3 +114,9 @@ module _ {R W : Type 0} (remaining : R → Option (List ℕ)) (failed_reads : R 
       → AtEnd remaining failed_reads request set first result → AtMultiples remaining failed_reads contents failed_writes request set first step old result new
   multiples_all multiple left old new now marked none turn result ends =
       turn.rest new result (subst (λ n. AtNext remaining failed_reads contents failed_writes request set first step multiple n new result new) (sym none) (ends, refl))
+
+-- the same for any beginning of the reading
+pub record EveryInTurn {R W : Type 0} (remaining : R → Option (List ℕ)) (failed_reads : R → Failures) (contents : W → Option (List ℕ)) (failed_writes : W → Failures)
+    (request : BookRequest) (set : Option Wanted) (step multiple : ℕ) (old new : W) (start : Reading R) (began : Marked Content) (now : Reading R) (marked : Marked Content) : Type 0 where
+  pub turn : (first : Reading R) → Stands remaining failed_reads (record { after = Some 0; until = Some 0 }) first start began Full
+      → InMultiples remaining failed_reads contents failed_writes request set first step multiple (latest / step + 1 - multiple) old new now marked
