@@ -8,6 +8,7 @@
 mod answers;
 mod at;
 mod beginning;
+mod books;
 mod checkpoints;
 mod explaining;
 mod failure;

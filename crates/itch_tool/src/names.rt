@@ -6,7 +6,7 @@ use crate::selected::Selected;
 use itch_commands::{Command, PairCommand, Request, Source};
 use itch_sessions::{SessionDevice, SessionFault};
 use itchsnap_cli::words::{
-    FeedWords, FollowWords, HistoryWords, Job, LiveWords, PointWords, Server, StatusWords,
+    BookWords, FeedWords, FollowWords, HistoryWords, Job, LiveWords, PointWords, Server, StatusWords,
 };
 use std::fmt;
 use std::net::SocketAddr;
@@ -154,6 +154,12 @@ impl<'a> CommandFiles<'a> {
         ensures folder { result.output ≡ Some words.now.folder }
     {
         CommandFiles::of_one(words.file, "snap --to ..", Some(words.folder))
+    }
+
+    pub fn of_books(words: &BookWords<'a>) -> Self
+        ensures { result.last.path ≡ words.now.file }
+    {
+        CommandFiles::of_one(words.file, "book ..", None)
     }
 
     pub fn of_served(path: Option<&'a str>) -> Self
@@ -305,6 +311,7 @@ impl<'a> JobNames<'a> {
             } => JobNames::of_files(CommandFiles::of_request(request, *output)),
             Job::History(words) => JobNames::of_files(CommandFiles::of_history(words)),
             Job::Points(words) => JobNames::of_files(CommandFiles::of_points(words)),
+            Job::Books(words) => JobNames::of_files(CommandFiles::of_books(words)),
             Job::Serve { file, address, .. } => JobNames {
                 files: CommandFiles::of_served(*file),
                 selected: Selected::nothing(),

@@ -2,6 +2,7 @@
 
 use crate::at::join_at;
 use crate::beginning::Beginning;
+use crate::books::run_books;
 use crate::failure::Failure;
 use crate::history::run_history;
 use crate::live::{run_feed, run_follow, run_live};
@@ -40,6 +41,7 @@ where
         } => run_request(rt, *request, *progress, beginning, *output),
         Job::History(words) => run_history(rt, words, beginning),
         Job::Points(words) => run_points(rt, words, beginning),
+        Job::Books(words) => run_books(rt, words, beginning),
         Job::Serve {
             file,
             kind,

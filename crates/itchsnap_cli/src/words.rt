@@ -1,7 +1,8 @@
 //! Parses the command line of `itchsnap`.
 //!
-//! [`read_job`] parses it into a [`Job`]: a request over files, [`PointWords`], [`HistoryWords`], a session with its [`LoginWords`], a live
-//! server, a feed to follow or to play, or the [`Completions`] of a shell. Otherwise it returns a usage fault, or a request for help or the version.
+//! [`read_job`] parses it into a [`Job`]: a request over files, [`PointWords`], [`BookWords`], [`HistoryWords`], a session with its [`LoginWords`], a
+//! live server, a feed to follow or to play, or the [`Completions`] of a shell. Otherwise it returns a usage fault, or a request for help or the
+//! version.
 //!
 //! ```
 //! // of `itchsnap check day.itch`
@@ -14,8 +15,10 @@
 
 mod argument;
 mod arguments;
+mod books;
 mod commands;
 mod completions;
+mod duration;
 mod history;
 mod job;
 mod live;
@@ -27,6 +30,7 @@ mod size;
 mod status;
 mod time;
 
+pub use books::{BookWords, Times};
 pub use commands::usage_fault;
 pub use completions::{Completions, Shell};
 pub use history::{HistoryForm, HistoryWords};

@@ -264,6 +264,16 @@ pub const COMMANDS: [Entry; 17] = [
                 value: Value::Range("N", 0, MOST_COUNTED),
                 help: "Print the best N prices of each side",
             },
+            Argument::Optional {
+                long: "at",
+                value: Value::Text("TIME,.."),
+                help: "Print the books at each of these times in ascending order, such as 9:30,10:30",
+            },
+            Argument::Optional {
+                long: "every",
+                value: Value::Text("D"),
+                help: "Print the books at each multiple of D since midnight, such as 1m or 500ms",
+            },
             AFTER,
             UNTIL,
             RECORDED,

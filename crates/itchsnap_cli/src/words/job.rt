@@ -2,6 +2,7 @@
 ghost use Rattle.std.specs.Prelude.{◌≡◌, option_map};
 ghost use Rattle.itchsnap_cli.specs.Jobs.{output_of, writes_snapshot};
 
+use crate::words::books::{BookWords, read_book_words};
 use crate::words::commands::{command, usage_fault};
 use crate::words::completions::Shell;
 use crate::words::history::{HistoryWords, read_history};
@@ -33,6 +34,8 @@ pub enum Job<'a> {
     History(HistoryWords<'a>),
     /// Write the snapshots of several points of a day file into a folder.
     Points(PointWords<'a>),
+    /// Write the books of a day file at several times.
+    Books(BookWords<'a>),
     /// Serve the market of a file, or of standard input if none is named, to `count` connections. Port 0 means a free port.
     Serve {
         file: Option<&'a str>,
@@ -84,6 +87,7 @@ fn writes_snapshot(job: &Job<'_>) -> bool
         Job::Files { request, .. } => request.is_binary(),
         Job::History(_)
         | Job::Points(_)
+        | Job::Books(_)
         | Job::Serve { .. }
         | Job::Live(_)
         | Job::Feed(_)
@@ -133,6 +137,10 @@ fn read_matched<'a>(
         Some(("show", options)) if options.get_flag("history") => {
             Ok(Job::History(read_history(alloc, options)?))
         }
+        Some(("book", options)) => match read_book_words(alloc, options)? {
+            Some(words) => Ok(Job::Books(words)),
+            None => files(alloc, options, read_request(alloc, matches)?),
+        },
         Some((_, options)) => files(alloc, options, read_request(alloc, matches)?),
         None => Err(usage_fault(alloc, "a command is missing")?),
     }

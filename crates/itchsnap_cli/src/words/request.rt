@@ -293,15 +293,20 @@ fn read_book<'a>(alloc: Global, options: &ArgMatches<'a>) -> Result<Request<'a>,
         file,
         command: Command::Book {
             selection,
-            depth: read_count(alloc, options, "depth", "--depth takes decimal digits")?,
+            depth: read_depth(alloc, options)?,
             kind: read_kind(alloc, options)?,
             form: read_book_form(alloc, options)?,
         },
     })
 }
 
-// Reads the locates for `book`, and its file. With `--stock` there is no LOCATE, and the first positional argument is the file.
-fn read_booked<'a>(
+/// Reads the number of prices of each side, after `--depth`.
+pub fn read_depth<'a>(alloc: Global, options: &ArgMatches<'a>) -> Result<Option<u64>, Error> {
+    read_count(alloc, options, "depth", "--depth takes decimal digits")
+}
+
+/// Reads the locates for `book`, and its file. With `--stock` there is no LOCATE, and the first positional argument is the file.
+pub fn read_booked<'a>(
     alloc: Global,
     options: &ArgMatches<'a>,
 ) -> Result<(Selection<'a>, Option<&'a str>), Error> {
@@ -373,7 +378,8 @@ fn read_form(options: &ArgMatches<'_>) -> Form {
     }
 }
 
-fn read_book_form<'a>(alloc: Global, options: &ArgMatches<'a>) -> Result<BookForm, Error> {
+/// Reads the form of `book`.
+pub fn read_book_form<'a>(alloc: Global, options: &ArgMatches<'a>) -> Result<BookForm, Error> {
     match (options.get_flag("json"), options.get_flag("csv")) {
         (false, false) => Ok(BookForm::Text),
         (true, false) => Ok(BookForm::Json),
