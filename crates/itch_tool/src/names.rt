@@ -6,7 +6,8 @@ use crate::selected::Selected;
 use itch_commands::{Command, PairCommand, Request, Source};
 use itch_sessions::{SessionDevice, SessionFault};
 use itchsnap_cli::words::{
-    BookWords, FeedWords, FollowWords, HistoryWords, Job, LiveWords, PointWords, Server, StatusWords,
+    BookWords, FeedWords, FollowWords, HistoryWords, Job, LiveWords, PointWords, Server,
+    StatusWords,
 };
 use std::fmt;
 use std::net::SocketAddr;
