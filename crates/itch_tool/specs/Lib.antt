@@ -1,3 +1,4 @@
 pub mod Endings
+pub mod Hints
 pub mod Names
 pub mod Serving

@@ -3,7 +3,7 @@ ghost use Rattle.std.specs.Prelude.{◌≡◌, Some, None};
 ghost use Rattle.itch_tool.specs.Names.{first_path, input_name, last_path, name_of, output_name, subject_of};
 
 use crate::selected::Selected;
-use itch_commands::{Command, PairCommand, Request, Source};
+use itch_commands::{Command, FileKind, PairCommand, Request, Source};
 use itch_sessions::{SessionDevice, SessionFault};
 use itchsnap_cli::words::{
     FeedWords, FollowWords, Job, LiveWords, PointWords, Server, StatusWords,
@@ -77,11 +77,30 @@ impl<'a> Subject<'a> {
     }
 }
 
-/// An input file of a command: its path, or `None` for standard input, and the words of a command that reads it from there.
+/// An input file of a command: its path, or `None` for standard input, the words of a command that reads it from there, and whether that
+/// takes `--snapshot`.
 #[derive(Clone, Copy)]
 pub struct InputFile<'a> {
     pub path: Option<&'a str>,
     pub words: &'static str,
+    pub flag: SnapshotFlag,
+}
+
+/// Whether a command takes `--snapshot`, and was given it.
+#[derive(Clone, Copy, Debug, PartialEq, Eq)]
+pub enum SnapshotFlag {
+    NotTaken,
+    Omitted,
+    Given,
+}
+
+impl SnapshotFlag {
+    fn of_kind(kind: FileKind) -> SnapshotFlag {
+        match kind {
+            FileKind::Day(_) => SnapshotFlag::Omitted,
+            FileKind::Snapshot => SnapshotFlag::Given,
+        }
+    }
 }
 
 /// The files of a command, one of which is in its fault.
@@ -96,12 +115,17 @@ pub struct CommandFiles<'a> {
 }
 
 impl<'a> CommandFiles<'a> {
-    fn of_one(path: Option<&'a str>, words: &'static str, output: Option<&'a str>) -> Self
+    fn of_one(
+        path: Option<&'a str>,
+        words: &'static str,
+        flag: SnapshotFlag,
+        output: Option<&'a str>,
+    ) -> Self
         ensures first { result.first.path ≡ path.entry }
         ensures last { result.last.path ≡ path.entry }
         ensures output { result.output ≡ output.entry }
     {
-        let file = InputFile { path, words };
+        let file = InputFile { path, words, flag };
         CommandFiles {
             first: file,
             last: file,
@@ -118,6 +142,7 @@ impl<'a> CommandFiles<'a> {
             Request::One { file, command } => CommandFiles::of_one(
                 *file,
                 words_of(command),
+                flag_of(command),
                 output,
             ),
             Request::Two {
@@ -126,19 +151,27 @@ impl<'a> CommandFiles<'a> {
                 command,
             } => {
                 let (first_words, second_words) = words_of_pair(command);
+                let flag = flag_of_pair(command);
                 CommandFiles {
                     first: InputFile {
                         path: *first,
                         words: first_words,
+                        flag,
                     },
                     last: InputFile {
                         path: *second,
                         words: second_words,
+                        flag,
                     },
                     output,
                 }
             }
-            Request::At { feed, .. } => CommandFiles::of_one(*feed, "at .. - ..", output),
+            Request::At { feed, .. } => CommandFiles::of_one(
+                *feed,
+                "at .. - ..",
+                SnapshotFlag::NotTaken,
+                output,
+            ),
         }
     }
 
@@ -146,13 +179,14 @@ impl<'a> CommandFiles<'a> {
         ensures file { result.last.path ≡ words.now.file }
         ensures folder { result.output ≡ Some words.now.folder }
     {
-        CommandFiles::of_one(words.file, "snap --to ..", Some(words.folder))
+        let folder = Some(words.folder);
+        CommandFiles::of_one(words.file, "snap --to ..", SnapshotFlag::NotTaken, folder)
     }
 
-    pub fn of_served(path: Option<&'a str>) -> Self
+    pub fn of_served(path: Option<&'a str>, kind: FileKind) -> Self
         ensures { result.last.path ≡ path.entry }
     {
-        CommandFiles::of_one(path, "serve - ..", None)
+        CommandFiles::of_one(path, "serve - ..", SnapshotFlag::of_kind(kind), None)
     }
 
     /// Returns the only file, the second of two, or the feed.
@@ -185,7 +219,22 @@ fn words_of(command: &Command<'_>) -> &'static str {
     }
 }
 
-// Returns the same for the first file, and for the second.
+// Returns whether a command takes `--snapshot`, and was given it. `show` prints the messages of a snapshot in a day file without it.
+fn flag_of(command: &Command<'_>) -> SnapshotFlag {
+    match command {
+        Command::Book { kind, .. } | Command::Show { kind, .. } => SnapshotFlag::of_kind(*kind),
+        _ => SnapshotFlag::NotTaken,
+    }
+}
+
+fn flag_of_pair(command: &PairCommand<'_>) -> SnapshotFlag {
+    match command {
+        PairCommand::Compare { kind, .. } => SnapshotFlag::of_kind(*kind),
+        _ => SnapshotFlag::NotTaken,
+    }
+}
+
+// Returns the words for the first file, and for the second.
 fn words_of_pair(command: &PairCommand<'_>) -> (&'static str, &'static str) {
     match command {
         PairCommand::Compare { .. } => ("compare - ..", "compare .. -"),
@@ -297,8 +346,13 @@ impl<'a> JobNames<'a> {
                 ..
             } => JobNames::of_files(CommandFiles::of_request(request, *output)),
             Job::Points(words) => JobNames::of_files(CommandFiles::of_points(words)),
-            Job::Serve { file, address, .. } => JobNames {
-                files: CommandFiles::of_served(*file),
+            Job::Serve {
+                file,
+                kind,
+                address,
+                ..
+            } => JobNames {
+                files: CommandFiles::of_served(*file, *kind),
                 selected: Selected::nothing(),
                 session: SessionNames::of_served(*address),
             },
@@ -316,7 +370,7 @@ impl<'a> JobNames<'a> {
     /// Returns no names, for a job in which only standard output can fail.
     pub fn none() -> JobNames<'a> {
         JobNames {
-            files: CommandFiles::of_one(None, "", None),
+            files: CommandFiles::of_one(None, "", SnapshotFlag::NotTaken, None),
             selected: Selected::nothing(),
             session: SessionNames::of_peer(Name::Output, None),
         }

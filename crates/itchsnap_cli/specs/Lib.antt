@@ -5,3 +5,4 @@ pub mod Watches
 pub mod Packings
 pub mod Types
 pub mod Times
+pub mod UsageFaults

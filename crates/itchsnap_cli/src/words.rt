@@ -16,6 +16,8 @@ mod argument;
 mod arguments;
 mod commands;
 mod completions;
+mod fault;
+mod help;
 mod job;
 mod live;
 mod places;
@@ -26,7 +28,7 @@ mod size;
 mod status;
 mod time;
 
-pub use commands::usage_fault;
+pub use commands::usage_error;
 pub use completions::{Completions, Shell};
 pub use job::{Job, read_job};
 pub use live::{FeedWords, FollowWords, LiveWords};
