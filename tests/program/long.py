@@ -40,7 +40,7 @@ def a_list_of_1000_locates_is_read(program):
     yield from differs("snap", ended(program, "snap", "day.itch", "--only", words, day=day), (0, cut, b""))
     yield from differs("join", ended(program, "join", "start.itch", "day.itch", "--only", words, day=day, start=large.closing(1)), (0, cut, b""))
     yield from differs("a list with an empty end", ended(program, "snap", "day.itch", "--only", words + ",", day=day),
-                       (2, b"", b"itchsnap: bad locate list\n"))
+                       (2, b"", b"itchsnap: bad locate list\n" + LISTED + b"\n"))
 
 
 def a_list_of_1000_stocks_is_read(program):

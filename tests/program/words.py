@@ -234,6 +234,27 @@ def ranges_of_the_help_are_true(program):
     yield from differs("ranges", found > 5, True)
 
 
+def usage_of(program, command):
+    """The lines of the usage in the help of a command."""
+    lines = ended(program, command, "-h")[1].decode().split("\n\nUsage: ")[1].split("\n\n")[0]
+    return [it.strip() for it in lines.splitlines()]
+
+
+def usage_names_what_is_required(program):
+    """Each line of a usage without one of its required arguments is an error that names it, or another line's."""
+    yield from differs("book", usage_of(program, "book"), ["itchsnap book [OPTIONS] <LOCATE> [FILE]", "itchsnap book [OPTIONS] --stock <LIST> [FILE]"])
+    yield from differs("fetch", usage_of(program, "fetch"), ["itchsnap fetch [OPTIONS] --user <U> <HOST:PORT>"])
+    for command in commands(program):
+        for line in usage_of(program, command):
+            yield from differs(f"{command}: the command", line.startswith(f"itchsnap {command}"), True)
+            needed = re.findall(r"--[a-z-]+ <[A-Z:]+>|(?<= )<[A-Z:]+>", re.sub(r"\[[^]]*\]", "", line))
+            values = {"--feed <HOST:PORT>": "--feed=h:1", "--glimpse <HOST:PORT>": "--glimpse=h:2", "<HOST:PORT>": "h:1", "<LOCATE>": "1", "<SHELL>": "bash"}
+            words = [values.get(it) or (f"{it.split()[0]}=1" if it.startswith("-") else "1") for it in needed]
+            for left_out in range(len(words)):
+                status, output, error = ended(program, command, *words[:left_out], *words[left_out + 1:])
+                yield from differs(f"{line} without {needed[left_out]}", (status, output, error.startswith(b"error: ")), (2, b"", True))
+
+
 def options_of(program, command):
     """The options that the help of a command shows, each with whether it has a value."""
     return re.findall(r"^ +(?:-h, )?--([a-z-]+)(?: (<\S+>))?", ended(program, command, "-h")[1].decode(), re.M)
@@ -285,11 +306,11 @@ RULES = {
     "live --feed h:1 --port 0 --user u --pass p --to d": "the following required arguments were not provided:",
     "live --feed h:1 --port 0 --user u --pass p --keep 5": "the following required arguments were not provided:",
     "live --feed h:1 --port 0 --user u --pass p --glimpse-session S": "the following required arguments were not provided:",
-    "live --feed h:1 --port 0 --user u --pass p --record r --glimpse h:2": "the argument '--glimpse <HOST:PORT>' cannot be used with '--record <FILE>'",
+    "live --feed h:1 --port 0 --user u --pass p --record r --glimpse h:2": "the argument '--record <FILE>' cannot be used with '--glimpse <HOST:PORT>'",
     "live --feed h:1 --port 0 --user u --pass p --record r --records d": "the argument '--record <FILE>' cannot be used with '--records <DIR>'",
     "live --feed h:1 --port 0 --user u --pass p --sync no": "'--sync <WHEN>' and '--record-optional' require '--record <FILE>' or '--records <DIR>'",
     "live --feed h:1 --port 0 --user u --pass p --sync now": "invalid value 'now' for '--sync <WHEN>'",
-    "live --feed h:1 --port 0 --user u --users f": "the argument '--users <FILE>' cannot be used with '--user <U>'",
+    "live --feed h:1 --port 0 --user u --users f": "the argument '--user <U>' cannot be used with '--users <FILE>'",
     "follow --feed h:1 --glimpse h:2 --user u --pass p --whole --json": "the argument '--whole' cannot be used with '--json'",
     "feed f --port 0 --user u --pass p --rate 1 --clock 1": "the argument '--rate <N>' cannot be used with '--clock <X>'",
     "completions csh": "invalid value 'csh' for '<SHELL>'",
@@ -459,6 +480,7 @@ RUNS = [
     examples_of_the_help_run,
     help_lists_options_by_group,
     ranges_of_the_help_are_true,
+    usage_names_what_is_required,
     each_option_is_given_once_and_with_its_value,
     arguments_that_break_a_rule_are_named,
     old_names_are_accepted_and_hidden,

@@ -17,6 +17,8 @@ pub struct Entry {
     pub topic: Topic,
     pub about: &'static str,
     pub details: &'static str,
+    /// The usage, if clap's own would not show that one of several arguments is required.
+    pub usage: Option<&'static str>,
     /// The positional arguments.
     pub words: &'static [Argument],
     /// The options, in the order of the help.
@@ -55,7 +57,10 @@ const COMPLETIONS: Entry = Entry {
     name: "completions",
     topic: Topic::Other,
     about: "Print the completions for a shell",
-    details: "The script completes commands, options, and the paths of files and folders.",
+    details: "Print the completions for a shell
+
+The script completes commands, options, their fixed values, and the paths of files and folders.",
+    usage: None,
     words: &[
         Argument::ChosenWord {
             id: "SHELL",
@@ -126,6 +131,9 @@ impl Entry {
             .long_about(self.details)
             .after_help(self.example)
             .disable_help_flag(true);
+        if let Some(usage) = self.usage {
+            command = command.override_usage(usage);
+        }
         for word in self.words {
             command = command.arg(self.with_rules(word.arg(alloc)?, word.id())?)?;
         }

@@ -14,6 +14,7 @@ pub const CHECK: Entry = Entry {
     details: "Check that a file follows the order rules
 
 It prints `ok N messages`, or an error with the number of the first message that breaks a rule.",
+    usage: None,
     words: &[FILE],
     groups: &[
         Group {
@@ -50,6 +51,7 @@ pub const INFO: Entry = Entry {
     details: "Summarize a day file: messages by type, times, events, stocks and live orders
 
 If a message breaks an order rule, the summary describes the messages before it, and an error follows.",
+    usage: None,
     words: &[FILE],
     groups: &[
         Group {
@@ -74,6 +76,7 @@ pub const SHOW: Entry = Entry {
 A line is the number of the message, the letter of its type, its locate, tracking number and timestamp,
 and its other fields in the order of the ITCH specification. A message must satisfy all options that
 select messages.",
+    usage: None,
     words: &[FILE],
     groups: &[
         Group {
@@ -143,6 +146,10 @@ pub const BOOK: Entry = Entry {
 Each locate has a line with its stock, and one for each price: side, price, shares and number of orders,
 bids before asks, the best first.",
     // With `--stock` the first positional argument is the file, so LOCATE is not required.
+    usage: Some(
+        "itchsnap book [OPTIONS] <LOCATE> [FILE]
+       itchsnap book [OPTIONS] --stock <LIST> [FILE]",
+    ),
     words: &[
         Argument::Word {
             id: "LOCATE",
@@ -194,6 +201,7 @@ pub const COMPARE: Entry = Entry {
 
 It prints `same`, or `different at N`: the first message in which the snapshots of the two markets differ.
 Then the exit status is 1.",
+    usage: None,
     words: &[
         Argument::RequiredWord {
             id: "A",
@@ -234,6 +242,7 @@ pub const CUT: Entry = Entry {
 
 Messages are written byte for byte, and no order rule is applied. A message must satisfy all options that
 select messages.",
+    usage: None,
     words: &[FILE],
     groups: &[
         Group {

@@ -15,6 +15,7 @@ pub const SERVE: Entry = Entry {
 
 It serves one client after another, and prints a line for each. Once it listens, it says so on standard
 error.",
+    usage: None,
     words: &[
         Argument::RequiredWord {
             id: "FILE",
@@ -63,6 +64,9 @@ pub const FETCH: Entry = Entry {
     details: "Write the snapshot that a server has
 
 The server is one of GLIMPSE, `serve` or `live`. If the connection is lost, nothing is written.",
+    usage: Some(
+        "itchsnap fetch [OPTIONS] --user <U> <HOST:PORT>",
+    ),
     words: &[
         Argument::WordUnless {
             id: "HOST:PORT",
@@ -132,6 +136,10 @@ pub const LIVE: Entry = Entry {
 
 It prints a line for each client that has left, and reports the state of the feed on standard error. It
 exits when the feed has ended its session and the clients have left, unless --stay is given.",
+    usage: Some(
+        "itchsnap live [OPTIONS] --feed <HOST:PORT> --port <P> --user <U>
+       itchsnap live [OPTIONS] --feed <HOST:PORT> --port <P> --users <FILE> --feed-user <U>",
+    ),
     words: &[],
     groups: &[
         Group {
@@ -277,6 +285,7 @@ pub const FOLLOW: Entry = Entry {
 
 The output is a part of a day file, or with --whole a complete one. It exits when the feed ends its
 session.",
+    usage: None,
     words: &[],
     groups: &[
         Group {
@@ -327,6 +336,10 @@ pub const FEED_COMMAND: Entry = Entry {
 
 Each client receives the messages from the number that it requests on. It prints a line for each client
 that has left.",
+    usage: Some(
+        "itchsnap feed [OPTIONS] --port <P> --user <U> <FILE>
+       itchsnap feed [OPTIONS] --port <P> --users <FILE> <FILE>",
+    ),
     words: &[
         Argument::RequiredWord {
             id: "FILE",
@@ -398,6 +411,7 @@ pub const STATUS: Entry = Entry {
     details: "Print the status of a live server
 
 The exit status is 0 if the server is ready, 1 if it is not, and 3 if it does not answer.",
+    usage: None,
     words: &[
         Argument::RequiredWord {
             id: "SERVER",

@@ -24,6 +24,7 @@ pub const SNAP: Entry = Entry {
     details: "Write the snapshot of the market that a day file leaves
 
 With --to, it writes the snapshots of several points of the day in one pass.",
+    usage: None,
     words: &[FILE],
     groups: &[
         Group {
@@ -79,6 +80,7 @@ pub const JOIN: Entry = Entry {
 
 Messages of the feed that the snapshot contains already are skipped. The feed is refused if a message
 between the two is missing.",
+    usage: None,
     words: &[
         Argument::RequiredWord {
             id: "SNAP",
@@ -114,6 +116,7 @@ pub const AT: Entry = Entry {
 
 DIR is the folder of `snap --to` or of `live --to`, with its index.jsonl. Only the part of FEED after the
 nearest snapshot is read.",
+    usage: None,
     words: &[
         Argument::RequiredWord {
             id: "DIR",
@@ -137,6 +140,7 @@ pub const CANON: Entry = Entry {
     details: "Write a snapshot in canonical form
 
 Two snapshots of the same market have the same canonical form, byte for byte.",
+    usage: None,
     words: &[
         Argument::Word {
             id: "SNAP",
