@@ -1,6 +1,7 @@
 //! Writes the messages on standard error, and returns the exit status for them.
 
 use crate::beginning::Beginning;
+use crate::counts::Counts;
 use crate::failure::Failure;
 use crate::final_status::{ends_by_closed_pipe, final_status};
 use crate::hints::{MixedUp, login_hint, mixup};
@@ -124,7 +125,7 @@ fn say<R: Files + Eprint + AllocGlobal>(
         Failure::Command { fault, checkpoint } => {
             rt.eprintln(fault)?;
             match subject_of(&names.files, fault, checkpoint) {
-                Some(subject) => say_subject(rt, fault, subject, beginning),
+                Some(subject) => say_subject(rt, fault, subject, names.counts, beginning),
                 None => say_lack(rt, fault, names),
             }
         }
@@ -157,16 +158,23 @@ fn subject_of<'a>(
     }
 }
 
-// For a command: writes which file failed and the system's error, or the kind of a file that is not a day file.
+// For a command: writes which file failed and the system's error, how many messages it lacks, or the kind of a file that is not a day file.
 fn say_subject<R: Files + Eprint>(
     rt: &R,
     fault: &ToolFault,
     subject: Subject<'_>,
+    counts: Counts,
     beginning: &Beginning,
 ) -> io::Result<()> {
+    let name = subject.name();
     if let Some(error) = fault.io_error() {
-        let name = subject.name();
         return eprintln!(rt; "  {name}: {error}");
+    }
+    if let ToolFault::Short { count, .. } = fault {
+        return match counts.beyond(*count) {
+            Some(wanted) => eprintln!(rt; "  {name}: {wanted} messages are requested"),
+            None => Ok(()),
+        };
     }
     if !matches!(fault, ToolFault::Stopped { .. } | ToolFault::Snap { .. }) {
         return Ok(());

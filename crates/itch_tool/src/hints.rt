@@ -102,7 +102,8 @@ impl fmt::Display for LoginHint {
         f.write_str(match self {
             LoginHint::User => "a user name has 1 to 6 printable characters",
             LoginHint::Password => "a password has 1 to 10 printable characters",
-            LoginHint::WrongLogin => "not authorized: the user name or the password is not the server's",
+            LoginHint::WrongLogin =>
+                "not authorized: the user name or the password is not the server's",
             LoginHint::NoSession => "the server does not have this session, or this message",
         })
     }

@@ -9,6 +9,7 @@ mod answers;
 mod at;
 mod beginning;
 mod checkpoints;
+mod counts;
 mod explaining;
 mod failure;
 mod feed;

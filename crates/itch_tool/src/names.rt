@@ -2,6 +2,7 @@
 ghost use Rattle.std.specs.Prelude.{◌≡◌, Some, None};
 ghost use Rattle.itch_tool.specs.Names.{first_path, input_name, last_path, name_of, output_name, subject_of};
 
+use crate::counts::Counts;
 use crate::selected::Selected;
 use itch_commands::{Command, FileKind, PairCommand, Request, Source};
 use itch_sessions::{SessionDevice, SessionFault};
@@ -327,6 +328,7 @@ impl<'a> SessionNames<'a> {
 pub struct JobNames<'a> {
     pub files: CommandFiles<'a>,
     pub selected: Selected<'a>,
+    pub counts: Counts,
     pub session: SessionNames<'a>,
 }
 
@@ -334,6 +336,7 @@ impl<'a> JobNames<'a> {
     pub fn of(job: &Job<'a>) -> JobNames<'a> {
         JobNames {
             selected: Selected::of(job),
+            counts: Counts::of(job),
             ..JobNames::named(job)
         }
     }
@@ -353,8 +356,8 @@ impl<'a> JobNames<'a> {
                 ..
             } => JobNames {
                 files: CommandFiles::of_served(*file, *kind),
-                selected: Selected::nothing(),
                 session: SessionNames::of_served(*address),
+                ..JobNames::none()
             },
             Job::Fetch { server, output, .. } => {
                 JobNames::of_session(SessionNames::of_fetched(server, *output))
@@ -372,6 +375,7 @@ impl<'a> JobNames<'a> {
         JobNames {
             files: CommandFiles::of_one(None, "", SnapshotFlag::NotTaken, None),
             selected: Selected::nothing(),
+            counts: Counts::nothing(),
             session: SessionNames::of_peer(Name::Output, None),
         }
     }

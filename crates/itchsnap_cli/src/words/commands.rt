@@ -61,13 +61,11 @@ const COMPLETIONS: Entry = Entry {
 
 The script completes commands, options, their fixed values, and the paths of files and folders.",
     usage: None,
-    words: &[
-        Argument::ChosenWord {
-            id: "SHELL",
-            choices: &["bash", "zsh", "fish"],
-            help: "The shell",
-        },
-    ],
+    words: &[Argument::ChosenWord {
+        id: "SHELL",
+        choices: &["bash", "zsh", "fish"],
+        help: "The shell",
+    }],
     groups: &[],
     rules: &[],
     example: "Example: itchsnap completions bash > completions.bash",

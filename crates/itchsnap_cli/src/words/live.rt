@@ -158,7 +158,10 @@ fn read_record<'a>(
         (Some(path), None) => RecordPlace::File(path),
         (None, Some(folder)) => RecordPlace::Folder(folder),
         (Some(_), Some(_)) => {
-            return Err(usage_fault(alloc, "the argument '--record <FILE>' cannot be used with '--records <DIR>'")?);
+            return Err(usage_fault(
+                alloc,
+                "the argument '--record <FILE>' cannot be used with '--records <DIR>'",
+            )?);
         }
         (None, None) if sync.is_some() || is_optional => {
             return Err(usage_fault(
@@ -246,7 +249,10 @@ fn read_snapshots<'a>(
     let every = read_counted(alloc, options, "every")?;
     let keep = read_counted(alloc, options, "keep")?;
     match (options.get_str("to"), every) {
-        (None, None) if keep.is_some() => Err(usage_fault(alloc, "'--keep <N>' requires '--to <DIR>'")?),
+        (None, None) if keep.is_some() => Err(usage_fault(
+            alloc,
+            "'--keep <N>' requires '--to <DIR>'",
+        )?),
         (None, None) => Ok(None),
         (Some(folder), Some(every)) => Ok(Some(SnapshotWords {
             folder,
@@ -275,7 +281,10 @@ fn read_follow_form<'a>(alloc: Global, options: &ArgMatches<'a>) -> Result<Follo
         (false, false) => Ok(FollowForm::Blocks),
         (true, false) => Ok(FollowForm::Whole),
         (false, true) => Ok(FollowForm::Json),
-        (true, true) => Err(usage_fault(alloc, "the argument '--whole' cannot be used with '--json'")?),
+        (true, true) => Err(usage_fault(
+            alloc,
+            "the argument '--whole' cannot be used with '--json'",
+        )?),
     }
 }
 
@@ -296,7 +305,10 @@ fn read_pace<'a>(alloc: Global, options: &ArgMatches<'a>) -> Result<Pace, Fault>
         (None, None) => Ok(Pace::Free),
         (Some(rate), None) => Ok(Pace::Rate(rate)),
         (None, Some(clock)) => Ok(Pace::Clock(clock)),
-        (Some(_), Some(_)) => Err(usage_fault(alloc, "the argument '--rate <N>' cannot be used with '--clock <X>'")?),
+        (Some(_), Some(_)) => Err(usage_fault(
+            alloc,
+            "the argument '--rate <N>' cannot be used with '--clock <X>'",
+        )?),
     }
 }
 

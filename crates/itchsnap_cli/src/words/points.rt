@@ -51,7 +51,10 @@ pub fn read_snap_words<'a>(
         return Ok(SnapWords::One(one_part(alloc, options, &points)?));
     };
     if options.get_str("stock").is_some() || read_output(alloc, options)?.is_some() {
-        return Err(usage_fault(alloc, "the argument '--to <DIR>' cannot be used with '--stock <LIST>' or '--output <PATH>'")?);
+        return Err(usage_fault(
+            alloc,
+            "the argument '--to <DIR>' cannot be used with '--stock <LIST>' or '--output <PATH>'",
+        )?);
     }
     Ok(SnapWords::Several(PointWords {
         file: read_path(options, "FILE"),
@@ -72,7 +75,10 @@ fn one_part<'a>(alloc: Global, options: &ArgMatches<'a>, points: &Points) -> Res
             }),
             None => Ok(limits[0]),
         },
-        _ => Err(usage_fault(alloc, "several points require '--to <DIR>', a folder for their snapshots")?),
+        _ => Err(usage_fault(
+            alloc,
+            "several points require '--to <DIR>', a folder for their snapshots",
+        )?),
     }
 }
 

@@ -97,7 +97,10 @@ fn read_compare<'a>(alloc: Global, options: &ArgMatches<'a>) -> Result<Request<'
         (false, _) => PairCommand::Compare { kind, form },
         (true, FileKind::Day(limit)) => PairCommand::CompareFirst { limit, form },
         (true, FileKind::Snapshot) => {
-            return Err(usage_fault(alloc, "the argument '--first' cannot be used with '--snapshot'")?);
+            return Err(usage_fault(
+                alloc,
+                "the argument '--first' cannot be used with '--snapshot'",
+            )?);
         }
     };
     Ok(Request::Two {
@@ -309,9 +312,15 @@ fn read_booked<'a>(
     let (first, second) = (options.get_str("LOCATE"), options.get_str("FILE"));
     match (read_stocks(alloc, options)?, first, second) {
         (Some(names), file, None) => Ok((Selection::Stocks(names), path_of(file))),
-        (Some(_), _, Some(_)) => Err(usage_fault(alloc, "the argument '[LOCATE]' cannot be used with '--stock <LIST>'")?),
+        (Some(_), _, Some(_)) => Err(usage_fault(
+            alloc,
+            "the argument '[LOCATE]' cannot be used with '--stock <LIST>'",
+        )?),
         (None, Some(list), file) => Ok((Selection::Locates(list), path_of(file))),
-        (None, None, _) => Err(usage_fault(alloc, "one of '<LOCATE>' and '--stock <LIST>' is required")?),
+        (None, None, _) => Err(usage_fault(
+            alloc,
+            "one of '<LOCATE>' and '--stock <LIST>' is required",
+        )?),
     }
 }
 
@@ -321,7 +330,10 @@ fn read_selection<'a>(alloc: Global, options: &ArgMatches<'a>) -> Result<Selecti
         (None, None) => Ok(Selection::All),
         (Some(list), None) => Ok(Selection::Locates(list)),
         (None, Some(names)) => Ok(Selection::Stocks(names)),
-        (Some(_), Some(_)) => Err(usage_fault(alloc, "the argument '--only <LIST>' cannot be used with '--stock <LIST>'")?),
+        (Some(_), Some(_)) => Err(usage_fault(
+            alloc,
+            "the argument '--only <LIST>' cannot be used with '--stock <LIST>'",
+        )?),
     }
 }
 
@@ -360,7 +372,10 @@ pub fn read_kind<'a>(alloc: Global, options: &ArgMatches<'a>) -> Result<FileKind
 pub fn read_output<'a>(alloc: Global, options: &ArgMatches<'a>) -> Result<Option<&'a str>, Fault> {
     let path = path_of(options.get_str("output"));
     if path.is_some() && options.get_flag("check") {
-        return Err(usage_fault(alloc, "the argument '--check' cannot be used with '--output <PATH>'")?);
+        return Err(usage_fault(
+            alloc,
+            "the argument '--check' cannot be used with '--output <PATH>'",
+        )?);
     }
     Ok(path)
 }
@@ -379,7 +394,10 @@ fn read_book_form<'a>(alloc: Global, options: &ArgMatches<'a>) -> Result<BookFor
         (false, false) => Ok(BookForm::Text),
         (true, false) => Ok(BookForm::Json),
         (false, true) => Ok(BookForm::Csv),
-        (true, true) => Err(usage_fault(alloc, "the argument '--json' cannot be used with '--csv'")?),
+        (true, true) => Err(usage_fault(
+            alloc,
+            "the argument '--json' cannot be used with '--csv'",
+        )?),
     }
 }
 

@@ -113,7 +113,10 @@ pub fn read_login<'a>(
         environment,
     ) {
         (Some(_), Some(_), _) => {
-            return Err(usage_fault(alloc, "the argument '--pass <W>' cannot be used with '--pass-file <FILE>'")?);
+            return Err(usage_fault(
+                alloc,
+                "the argument '--pass <W>' cannot be used with '--pass-file <FILE>'",
+            )?);
         }
         (Some(word), None, _) | (None, None, Some(word)) => Password::Word(word),
         (None, Some(path), _) => Password::File(path),
@@ -138,7 +141,10 @@ pub fn read_users<'a>(
     };
     for other in ["user", "pass", "pass-file"] {
         if options.get_str(other).is_some() {
-            return Err(usage_fault(alloc, "the argument '--users <FILE>' cannot be used with a user or a password")?);
+            return Err(usage_fault(
+                alloc,
+                "the argument '--users <FILE>' cannot be used with a user or a password",
+            )?);
         }
     }
     Ok(UserWords::Listed(path))

@@ -16,12 +16,10 @@ pub const SERVE: Entry = Entry {
 It serves one client after another, and prints a line for each. Once it listens, it says so on standard
 error.",
     usage: None,
-    words: &[
-        Argument::RequiredWord {
-            id: "FILE",
-            help: "The file whose market is served; `-` for standard input",
-        },
-    ],
+    words: &[Argument::RequiredWord {
+        id: "FILE",
+        help: "The file whose market is served; `-` for standard input",
+    }],
     groups: &[
         Group {
             heading: "Input",
@@ -64,16 +62,12 @@ pub const FETCH: Entry = Entry {
     details: "Write the snapshot that a server has
 
 The server is one of GLIMPSE, `serve` or `live`. If the connection is lost, nothing is written.",
-    usage: Some(
-        "itchsnap fetch [OPTIONS] --user <U> <HOST:PORT>",
-    ),
-    words: &[
-        Argument::WordUnless {
-            id: "HOST:PORT",
-            other: "port",
-            help: "The server; an IPv6 address is written in brackets",
-        },
-    ],
+    usage: Some("itchsnap fetch [OPTIONS] --user <U> <HOST:PORT>"),
+    words: &[Argument::WordUnless {
+        id: "HOST:PORT",
+        other: "port",
+        help: "The server; an IPv6 address is written in brackets",
+    }],
     groups: &[
         Group {
             heading: "Server",
@@ -340,12 +334,10 @@ that has left.",
         "itchsnap feed [OPTIONS] --port <P> --user <U> <FILE>
        itchsnap feed [OPTIONS] --port <P> --users <FILE> <FILE>",
     ),
-    words: &[
-        Argument::RequiredWord {
-            id: "FILE",
-            help: "The day file to play",
-        },
-    ],
+    words: &[Argument::RequiredWord {
+        id: "FILE",
+        help: "The day file to play",
+    }],
     groups: &[
         Group {
             heading: "Pace",
@@ -412,22 +404,18 @@ pub const STATUS: Entry = Entry {
 
 The exit status is 0 if the server is ready, 1 if it is not, and 3 if it does not answer.",
     usage: None,
-    words: &[
-        Argument::RequiredWord {
-            id: "SERVER",
-            help: "The status port, HOST:PORT, or a port of this machine",
-        },
-    ],
+    words: &[Argument::RequiredWord {
+        id: "SERVER",
+        help: "The status port, HOST:PORT, or a port of this machine",
+    }],
     groups: &[
         Group {
             heading: "Server",
-            takes: &[
-                Argument::Optional {
-                    long: "wait",
-                    value: Value::Range("SECONDS", 1, 86_400),
-                    help: "Wait up to this long until the server is ready [1..86400]",
-                },
-            ],
+            takes: &[Argument::Optional {
+                long: "wait",
+                value: Value::Range("SECONDS", 1, 86_400),
+                help: "Wait up to this long until the server is ready [1..86400]",
+            }],
         },
         Group {
             heading: "Output",

@@ -141,25 +141,21 @@ pub const CANON: Entry = Entry {
 
 Two snapshots of the same market have the same canonical form, byte for byte.",
     usage: None,
-    words: &[
-        Argument::Word {
-            id: "SNAP",
-            help: "The snapshot to read; standard input if it is `-` or left out",
-        },
-    ],
-    groups: &[
-        Group {
-            heading: "Output",
-            takes: &[
-                Argument::Flag {
-                    long: "check",
-                    help: "Only report whether the snapshot is in canonical form",
-                },
-                OUTPUT,
-                PROGRESS,
-            ],
-        },
-    ],
+    words: &[Argument::Word {
+        id: "SNAP",
+        help: "The snapshot to read; standard input if it is `-` or left out",
+    }],
+    groups: &[Group {
+        heading: "Output",
+        takes: &[
+            Argument::Flag {
+                long: "check",
+                help: "Only report whether the snapshot is in canonical form",
+            },
+            OUTPUT,
+            PROGRESS,
+        ],
+    }],
     rules: &[Rule::Excludes("check", "output")],
     example: "Example: itchsnap canon other.snap > day.snap",
 };
