@@ -23,7 +23,7 @@ pub fn packed_file<'a, R: Files>(
     subject: Subject<'a>,
     beginning: &Beginning,
 ) -> Option<PackedFile<'a>> {
-    let Subject::Input(InputFile { path, words }) = subject else {
+    let Subject::Input(InputFile { path, words, .. }) = subject else {
         return None;
     };
     let packing = match path {

@@ -6,3 +6,4 @@ pub mod Packings
 pub mod Types
 pub mod Times
 pub mod Histories
+pub mod UsageFaults

@@ -19,6 +19,8 @@ mod books;
 mod commands;
 mod completions;
 mod duration;
+mod fault;
+mod help;
 mod history;
 mod job;
 mod live;
@@ -31,7 +33,7 @@ mod status;
 mod time;
 
 pub use books::{BookWords, Times};
-pub use commands::usage_fault;
+pub use commands::usage_error;
 pub use completions::{Completions, Shell};
 pub use history::{HistoryForm, HistoryWords};
 pub use job::{Job, read_job};

@@ -1,10 +1,10 @@
 //! The times of a day file at which `book` prints books.
 
-use crate::words::commands::usage_fault;
 use crate::words::duration::read_duration;
-use crate::words::request::{read_booked, read_book_form, read_depth};
+use crate::words::fault::{Fault, usage_fault};
+use crate::words::request::{read_book_form, read_booked, read_depth};
 use crate::words::time::read_time;
-use clap::{ArgMatches, Error};
+use clap::ArgMatches;
 use itch_depth::BookRequest;
 use std::alloc::{AllocError, Global};
 
@@ -37,14 +37,14 @@ pub struct BookWords<'a> {
 pub fn read_book_words<'a>(
     alloc: Global,
     options: &ArgMatches<'a>,
-) -> Result<Option<BookWords<'a>>, Error> {
+) -> Result<Option<BookWords<'a>>, Fault> {
     let Some(times) = read_times(alloc, options)? else {
         return Ok(None);
     };
     if has_one_part(options) {
         return Err(usage_fault(
             alloc,
-            "--at and --every exclude --after, --until and --snapshot",
+            "the argument '--at' or '--every' cannot be used with '--after', '--until' or '--snapshot'",
         )?);
     }
     let (selection, file) = read_booked(alloc, options)?;
@@ -69,7 +69,7 @@ fn has_one_part(options: &ArgMatches<'_>) -> bool {
 }
 
 // Reads the times after `--at` or `--every`.
-fn read_times<'a>(alloc: Global, options: &ArgMatches<'a>) -> Result<Option<Times>, Error> {
+fn read_times<'a>(alloc: Global, options: &ArgMatches<'a>) -> Result<Option<Times>, Fault> {
     match (options.get_str("at"), options.get_str("every")) {
         (None, None) => Ok(None),
         (Some(list), None) => match rising(alloc, list)? {
@@ -86,7 +86,10 @@ fn read_times<'a>(alloc: Global, options: &ArgMatches<'a>) -> Result<Option<Time
                 "--every takes a duration such as 1h, 5m, 30s or 500ms, from 1ms to 24h",
             )?),
         },
-        (Some(_), Some(_)) => Err(usage_fault(alloc, "--at and --every exclude each other")?),
+        (Some(_), Some(_)) => Err(usage_fault(
+            alloc,
+            "the argument '--at' cannot be used with '--every'",
+        )?),
     }
 }
 

@@ -2,9 +2,9 @@
 ghost use Rattle.std.specs.Prelude.{◌≡◌};
 ghost use Rattle.itchsnap_cli.specs.Histories.{request_from};
 
-use crate::words::commands::usage_fault;
+use crate::words::fault::{Fault, usage_fault};
 use crate::words::request::{read_filters, read_kind, read_order_form, read_path, read_show_form};
-use clap::{ArgMatches, Error};
+use clap::ArgMatches;
 use itch_commands::{Command, FileKind, Filters, Limit, OrderForm, Request, ShowForm};
 use std::alloc::Global;
 
@@ -67,11 +67,11 @@ impl<'a> HistoryWords<'a> {
 pub fn read_history<'a>(
     alloc: Global,
     options: &ArgMatches<'a>,
-) -> Result<HistoryWords<'a>, Error> {
+) -> Result<HistoryWords<'a>, Fault> {
     let FileKind::Day(limit) = read_kind(alloc, options)? else {
         return Err(usage_fault(
             alloc,
-            "--history excludes --snapshot: a snapshot has no replaces",
+            "the argument '--history' cannot be used with '--snapshot'",
         )?);
     };
     let filters = read_filters(alloc, options)?;
@@ -98,7 +98,7 @@ fn read_history_form<'a>(
     alloc: Global,
     options: &ArgMatches<'a>,
     types: Option<&str>,
-) -> Result<HistoryForm, Error> {
+) -> Result<HistoryForm, Fault> {
     if options.get_flag("orders") {
         Ok(HistoryForm::Orders(read_order_form(alloc, options)?))
     } else {

@@ -3,8 +3,10 @@ ghost use Rattle.std.specs.Prelude.{◌≡◌, option_map};
 ghost use Rattle.itchsnap_cli.specs.Jobs.{output_of, writes_snapshot};
 
 use crate::words::books::{BookWords, read_book_words};
-use crate::words::commands::{command, usage_fault};
+use crate::words::commands::command;
 use crate::words::completions::Shell;
+use crate::words::fault::{Fault, usage_fault};
+use crate::words::help::with_program_help;
 use crate::words::history::{HistoryWords, read_history};
 use crate::words::live::{FeedWords, FollowWords, LiveWords, read_feed, read_follow, read_live};
 use crate::words::points::{PointWords, SnapWords, read_snap_words};
@@ -101,15 +103,31 @@ fn writes_snapshot(job: &Job<'_>) -> bool
 /// Parses the command line; the first word is the program's name. A command that writes a snapshot is refused if standard output is a
 /// terminal. `password` is used for a login without one.
 ///
-/// An error is a usage fault, a request for help, or out of memory: its kind tells which.
+/// An error is a usage fault, a request for help, or out of memory: its kind tells which. A usage fault has the usage of its command.
 pub fn read_job<'a>(
     alloc: Global,
     words: &'a [String],
     terminal: bool,
     password: Option<&'a str>,
 ) -> Result<Job<'a>, Error> {
-    let matches = command(alloc)?.try_get_matches_from(words)?;
-    let job = read_matched(alloc, &matches, password)?;
+    let matches = match command(alloc)?.try_get_matches_from(words) {
+        Ok(matches) => matches,
+        Err(error) => return Err(with_program_help(alloc, words, error)?),
+    };
+    match read_allowed(alloc, &matches, terminal, password) {
+        Ok(job) => Ok(job),
+        Err(fault) => Err(fault.error(alloc, matches.subcommand_name().unwrap_or(""))?),
+    }
+}
+
+// Returns the job of the matched words, unless it would write a snapshot to a terminal.
+fn read_allowed<'a>(
+    alloc: Global,
+    matches: &ArgMatches<'a>,
+    terminal: bool,
+    password: Option<&'a str>,
+) -> Result<Job<'a>, Fault> {
+    let job = read_matched(alloc, matches, password)?;
     if terminal && needs_a_file(&job) {
         return Err(usage_fault(alloc, terminal_fault(&job))?);
     }
@@ -121,7 +139,7 @@ fn read_matched<'a>(
     alloc: Global,
     matches: &ArgMatches<'a>,
     password: Option<&'a str>,
-) -> Result<Job<'a>, Error> {
+) -> Result<Job<'a>, Fault> {
     match matches.subcommand() {
         Some(("serve", options)) => read_serve(alloc, options, password),
         Some(("fetch", options)) => read_fetch(alloc, options, password),
@@ -171,7 +189,7 @@ fn files<'a>(
     alloc: Global,
     options: &ArgMatches<'a>,
     request: Request<'a>,
-) -> Result<Job<'a>, Error> {
+) -> Result<Job<'a>, Fault> {
     Ok(Job::Files {
         request,
         progress: options.get_flag("progress"),
@@ -183,7 +201,7 @@ fn read_fetch<'a>(
     alloc: Global,
     options: &ArgMatches<'a>,
     password: Option<&'a str>,
-) -> Result<Job<'a>, Error> {
+) -> Result<Job<'a>, Fault> {
     Ok(Job::Fetch {
         server: read_server(alloc, options)?,
         login: read_login(alloc, options, password)?,
@@ -196,7 +214,7 @@ fn read_serve<'a>(
     alloc: Global,
     options: &ArgMatches<'a>,
     password: Option<&'a str>,
-) -> Result<Job<'a>, Error> {
+) -> Result<Job<'a>, Fault> {
     Ok(Job::Serve {
         file: read_path(options, "FILE"),
         kind: read_kind(alloc, options)?,
@@ -208,7 +226,7 @@ fn read_serve<'a>(
     })
 }
 
-fn read_shell<'a>(alloc: Global, options: &ArgMatches<'a>) -> Result<Shell, Error> {
+fn read_shell<'a>(alloc: Global, options: &ArgMatches<'a>) -> Result<Shell, Fault> {
     match options.get_str("SHELL") {
         Some("bash") => Ok(Shell::Bash),
         Some("zsh") => Ok(Shell::Zsh),
