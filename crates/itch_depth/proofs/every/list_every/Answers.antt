@@ -1,4 +1,4 @@
-use Rattle.std.proofs.Common.{◌≡◌, ◌≤◌, ◌+◌, ◌-◌, ◌*◌, ◌/◌, ℕ, suc, Ok, Err, true, false, arith, refl, inr, sym, subst, ◌∙◌}
+use Rattle.std.proofs.Common.{◌≡◌, ◌<◌, ◌≤◌, ◌+◌, ◌-◌, ◌*◌, ◌/◌, ℕ, suc, Ok, Err, true, false, arith, refl, inr, sym, subst, ◌∙◌}
 use Rattle.std.proofs.lemmas.Result.{err_from_is_err_and}
 use Rattle.std.specs.Option.{option_copied}
 use Rattle.itch_commands.specs.Points.{ReadsUntil, up_to}
@@ -10,6 +10,10 @@ use Rattle.itch_depth.proofs.every.list_every.Goals.{else-loop-multiple-test, th
 -- one multiple of those that are left
 one_of : (last multiple : ℕ) → multiple ≤ last → last + 1 - multiple ≡ suc (last + 1 - (multiple + 1))
 one_of last multiple within = omega (arith, within)
+
+-- none is left past the last one
+none_from : (last multiple : ℕ) → last < multiple → last + 1 - multiple ≡ 0
+none_from last multiple past = omega (arith, past)
 
 pub returns-in_err-read_until : goal.returns-in_err-read_until
 returns-in_err-read_until g c =
@@ -74,12 +78,36 @@ returns g c = λ first stands.
     let failed = g.R.CountedRead.failures in
     let contents = g.W.CountedWrite.contents in
     let failed_writes = g.W.CountedWrite.failures in
+    let multiple = c.loop-multiple.multiple in
     let last = latest / c.args.step in
     let new = c.loop-multiple-test.pass in
+    let here = c.loop-multiple.invariant.turn first stands in
     let ended : (multiple : ℕ) × InMultiples remaining failed contents failed_writes c.args.request (option_copied c.args.only) first c.args.step
         multiple 0 c.args.out.now c.loop-multiple-test.out new.reader new.marked = elim c.loop-multiple-test.branch [
-      | else-loop-multiple-test w ↦ rw (w.pass-is, w.out-is) (c.loop-multiple.multiple, ?)
-      | then-loop-multiple-test+in_ok-read_until+else-not-branch+else-not-continues+else-multiple-multiple-end w ↦ rw (w.pass-is, w.out-is) (c.loop-multiple.multiple + 1, ?)
+      | else-loop-multiple-test w ↦ rw (w.pass-is, w.out-is) (
+        multiple,
+        subst (λ n. InMultiples remaining failed contents failed_writes c.args.request (option_copied c.args.only) first c.args.step
+            multiple n c.args.out.now c.loop-multiple.out c.loop-multiple.pass.reader c.loop-multiple.pass.marked) (none_from last multiple w.loop-multiple-test.false) here,
+      )
+      | then-loop-multiple-test+in_ok-read_until+else-not-branch+else-not-continues+else-multiple-multiple-end w ↦
+        let left = last + 1 - (multiple + 1) in
+        let none : left ≡ 0 = omega (arith, w) in
+        let then = w.read_until.new.self in
+        let turn : InMultiples remaining failed contents failed_writes c.args.request (option_copied c.args.only) first c.args.step
+            multiple (suc left) c.args.out.now c.loop-multiple.out c.loop-multiple.pass.reader c.loop-multiple.pass.marked =
+            subst (λ n. InMultiples remaining failed contents failed_writes c.args.request (option_copied c.args.only) first c.args.step
+            multiple n c.args.out.now c.loop-multiple.out c.loop-multiple.pass.reader c.loop-multiple.pass.marked) (one_of last multiple w.loop-multiple-test.true) here in
+        let read : ReadsUntil remaining failed (multiple * c.args.step) first then.reader (Ok true) then.marked =
+            subst (λ b. ReadsUntil remaining failed (multiple * c.args.step) first then.reader (Ok b) then.marked) w.if-not-branch.false
+            (w.in_ok-read_until.ensures first turn.stands.0 turn.stands.1 turn.stands.2 (turn.stands.3 (multiple * c.args.step) (omega arith))) in
+        rw (w.pass-is, w.out-is) (
+        multiple + 1,
+        subst (λ n. InMultiples remaining failed contents failed_writes c.args.request (option_copied c.args.only) first c.args.step
+            (multiple + 1) n c.args.out.now w.list_begun-answer.new.out then.reader then.marked) none
+            (multiples_on remaining failed contents failed_writes c.args.request (option_copied c.args.only) first c.args.step multiple left
+            c.args.out.now c.loop-multiple.out c.loop-multiple.pass.reader then.reader c.loop-multiple.pass.marked then.marked turn read w.list_begun-answer.new.out w.list_begun-answer.result
+            w.list_begun-answer.ensures (sym w.if-not-continues.false ∙ w.continues.ensures) (multiple + 1) (omega arith)),
+      )
       ] in
     let begun = ended.1.stands in
     multiples_all remaining failed contents failed_writes c.args.request (option_copied c.args.only) first c.args.step ended.0 0 c.args.out.now c.loop-multiple-test.out new.reader new.marked refl ended.1
