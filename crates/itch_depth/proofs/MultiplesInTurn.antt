@@ -1,6 +1,5 @@
 -- Books at the multiples of a duration, one after another.
 use Rattle.std.proofs.Common.{◌≡◌, ℕ, ◌+◌, ◌-◌, ◌*◌, ◌/◌, ◌≤◌, zero, suc, Bool, true, false, List, Option, None, Some, Result, Ok, Err, inl, inr, refl, sym, ap, subst, ◌∙◌, arith}
-use Rattle.std.specs.Prelude.{⊤, ◌⊎◌}
 use Rattle.std.specs.Bool.{MatchBool}
 use Rattle.itch_frame.specs.Reading.{Reading}
 use Rattle.itch_frame.specs.declared.tally.Failures.{Failures}
@@ -11,7 +10,7 @@ use Rattle.itch_day.specs.declared.limit.Limit.{Limit}
 use Rattle.itch_day.specs.declared.mark.Mark.{Mark}
 use Rattle.itch_day.specs.declared.marked.Marked.{Marked}
 use Rattle.itch_day.specs.declared.stop.Stop.{Stop}
-use Rattle.itch_day.specs.declared.stop.Stop.TheVariants.{End, Full, Late}
+use Rattle.itch_day.specs.declared.stop.Stop.TheVariants.{Full, Late}
 use Rattle.itch_market.specs.Content.{Content}
 use Rattle.itch_market.specs.Wanted.{Wanted}
 use Rattle.itch_market.specs.declared.refused.Refused.{Refused}
