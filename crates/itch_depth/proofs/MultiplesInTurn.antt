@@ -50,9 +50,9 @@ pub begun_after : {W : Type 0} (contents : W → Option (List ℕ)) (failed_writ
     → ListsBegun contents failed_writes request set marked time old result new
 begun_after contents failed_writes request set marked time old new result mark is some wrote =
     some_there marked.mark.count (λ none. some (ap (λ (k : Mark). k.count) is ∙ none)) where
-  some_there : (count : ℕ) → (count ≡ 0 → ⊥) → ListsAfter contents failed_writes count request set marked.sink time old result new
-  some_there zero some = absurd (some refl)
-  some_there (suc count) some = wrote
+      some_there : (count : ℕ) → (count ≡ 0 → ⊥) → ListsAfter contents failed_writes count request set marked.sink time old result new
+      some_there zero some = absurd (some refl)
+      some_there (suc count) some = wrote
 
 module _ {R W : Type 0} (remaining : R → Option (List ℕ)) (failed_reads : R → Failures) (contents : W → Option (List ℕ)) (failed_writes : W → Failures)
     (request : BookRequest) (set : Option Wanted) (first : Reading R) (step : ℕ) where
@@ -67,9 +67,21 @@ module _ {R W : Type 0} (remaining : R → Option (List ℕ)) (failed_reads : R 
       → InMultiples 1 (latest / step) old old start marked
   multiples_begun old start marked stands = record {
     rest = λ end result next. next;
-    stands = (record { after = Some 0; until = Some 0 }, Full, stands, λ time within. record { goes_on = tt; later = omega arith; within = tt; more = inl refl },
-        record { goes_on = tt; later = tt; within = tt; more = inl refl });
+    stands = (
+      record { after = Some 0; until = Some 0 },
+      Full,
+      stands,
+      λ time within. record { goes_on = tt; later = omega arith; within = tt; more = inl refl },
+      record { goes_on = tt; later = tt; within = tt; more = inl refl },
+    );
   }
+
+  -- one of the multiples up to the last, and those after it
+  pub multiple_left : (multiple last : ℕ) (old new : W) (now : Reading R) (marked : Marked Content) → multiple ≤ last → InMultiples multiple (last + 1 - multiple) old new now marked
+      → InMultiples multiple (suc (last + 1 - (multiple + 1))) old new now marked
+  multiple_left multiple last old new now marked within turn = subst (λ n. InMultiples multiple n old new now marked) one_more turn where
+    one_more : last + 1 - multiple ≡ suc (last + 1 - (multiple + 1))
+    one_more = omega (arith, within)
 
   module _ (multiple left : ℕ) (old mid : W) (before now : Reading R) (began marked : Marked Content) (turn : InMultiples multiple (suc left) old mid before began) where
     -- a message follows at that time or later
@@ -86,17 +98,40 @@ module _ {R W : Type 0} (remaining : R → Option (List ℕ)) (failed_reads : R 
 
       pub multiples_on : true ≡ continues answer → (next : ℕ) → next ≡ suc multiple → InMultiples next left old new now marked
       multiples_on on next is = subst (λ n. InMultiples n left old new now marked) (sym is) (record {
-        rest = λ end result more. turn.rest end result (inr (inr (now, marked, read.0, (new, answer, at_time marked.mark.count listed,
-            subst (λ b. MatchBool b (AtNext remaining failed_reads contents failed_writes request set first step (suc multiple) left new result end) ((result ≡ answer) × (end ≡ new))) on more))));
-        stands = (up_to (multiple * step), Late, read.0, λ time within. record { goes_on = tt; later = earlier time within; within = tt; more = inr tt },
-            record { goes_on = tt; later = tt; within = tt; more = inr tt });
+        rest = λ end result more. turn.rest end result (inr (inr (
+          now,
+          marked,
+          read.0,
+          (
+            new,
+            answer,
+            at_time marked.mark.count listed,
+            subst (λ b. MatchBool b (AtNext remaining failed_reads contents failed_writes request set first step (suc multiple) left new result end) ((result ≡ answer) × (end ≡ new))) on more,
+          ),
+        )));
+        stands = (
+          up_to (multiple * step),
+          Late,
+          read.0,
+          λ time within. record { goes_on = tt; later = earlier time within; within = tt; more = inr tt },
+          record { goes_on = tt; later = tt; within = tt; more = inr tt },
+        );
       }) where
         earlier : (time : ℕ) → suc multiple * step ≤ time → multiple * step ≤ time
         earlier time within = omega (arith, within)
 
       pub multiples_off : false ≡ continues answer → AtMultiples remaining failed_reads contents failed_writes request set first step old answer new
-      multiples_off off = turn.rest new answer (inr (inr (now, marked, read.0, (new, answer, at_time marked.mark.count listed,
-          subst (λ b. MatchBool b (AtNext remaining failed_reads contents failed_writes request set first step (suc multiple) left new answer new) ((answer ≡ answer) × (new ≡ new))) off (refl, refl)))))
+      multiples_off off = turn.rest new answer (inr (inr (
+        now,
+        marked,
+        read.0,
+        (
+          new,
+          answer,
+          at_time marked.mark.count listed,
+          subst (λ b. MatchBool b (AtNext remaining failed_reads contents failed_writes request set first step (suc multiple) left new answer new) ((answer ≡ answer) × (new ≡ new))) off (refl, refl),
+        ),
+      )))
 
     -- the file ended before
     pub multiples_end : ReadsUntil remaining failed_reads (multiple * step) first now (Ok false) marked → (result : Result Bool ToolFault)

@@ -135,7 +135,7 @@ module _ {R W : Type 0} (remaining : R → Option (List ℕ)) (failed_reads : R 
   ListsOn request set first time now marked old result new =
       AtTime request set first time old result new
       × MatchBool (continues result)
-          ((stop : Stop Refused) × ((stop ≡ Late) ⊎ (stop ≡ End)) × Stands remaining failed_reads (up_to time) first now marked stop) ⊤
+      ((stop : Stop Refused) × ((stop ≡ Late) ⊎ (stop ≡ End)) × Stands remaining failed_reads (up_to time) first now marked stop) ⊤
 
   -- `book` at a time before which the part has this many messages; nothing if it has none
   abbrev pub AtTimeAfter : ℕ → BookRequest → Option Wanted → Reading R → ℕ → W → Result Bool ToolFault → W → Type 0

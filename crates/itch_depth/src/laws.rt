@@ -30,8 +30,8 @@ pub fn one_time<R: CountedRead, W: CountedWrite>()
         → timed_books form time depth wanted m ≡ joined_at form time (books_list form depth wanted m) }
     ensures until { (form : BookForm) → (depth : Option ℕ) → (selection : Selection) → (set : Option Wanted) → (limit : Limit) → (first now : Reading R) → (old new : W) → (result : Result Bool ToolFault)
         → ListsPart R.remaining R.failures W.contents W.failures (books_of form depth) selection set limit first now old result new
-            ↔ PerformsBook R.remaining R.failures W.contents W.failures form selection set depth (Day limit) first now old result new }
+        ↔ PerformsBook R.remaining R.failures W.contents W.failures form selection set depth (Day limit) first now old result new }
     ensures at { (request : BookRequest) → (set : Option Wanted) → (first : Reading R) → (time : ℕ) → (old new : W) → (result : Result Bool ToolFault)
         → AtEach (AtTime R.remaining R.failures W.contents W.failures request set first) (time ∷ []) old result new
-            ↔ ((now : Reading R) × ListsPart R.remaining R.failures W.contents W.failures (timed_books request.form time request.depth) request.selection set (up_to time) first now old result new) }
+        ↔ ((now : Reading R) × ListsPart R.remaining R.failures W.contents W.failures (timed_books request.form time request.depth) request.selection set (up_to time) first now old result new) }
 {}

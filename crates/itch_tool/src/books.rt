@@ -58,13 +58,28 @@ fn print_books<A: Allocator + Copy, R: Read + Drop, W: CountedWrite>(
     match &words.times {
         // One time is the end of the reading.
         Times::At(times) if times.len() == 1 => books_at::<_, _, Book<A>, _>(
-            alloc, words.request, only, times, reader, out,
+            alloc,
+            words.request,
+            only,
+            times,
+            reader,
+            out,
         ),
         Times::At(times) => books_at::<_, _, IndexedBook<A>, _>(
-            alloc, words.request, only, times, reader, out,
+            alloc,
+            words.request,
+            only,
+            times,
+            reader,
+            out,
         ),
         Times::Every(step) => books_every::<_, _, IndexedBook<A>, _>(
-            alloc, words.request, only, *step, reader, out,
+            alloc,
+            words.request,
+            only,
+            *step,
+            reader,
+            out,
         ),
     }
 }
