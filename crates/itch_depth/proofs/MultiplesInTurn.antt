@@ -1,6 +1,5 @@
 -- Books at the multiples of a duration, one after another.
 use Rattle.std.proofs.Common.{◌≡◌, ℕ, ◌+◌, ◌-◌, ◌*◌, ◌/◌, ◌≤◌, zero, suc, Bool, true, false, List, Option, None, Some, Result, Ok, Err, inl, inr, refl, sym, ap, subst, ◌∙◌, arith}
-use Rattle.std.specs.Prelude.{⊤, ◌⊎◌}
 use Rattle.std.specs.Bool.{MatchBool}
 use Rattle.itch_frame.specs.Reading.{Reading}
 use Rattle.itch_frame.specs.declared.tally.Failures.{Failures}
@@ -11,7 +10,7 @@ use Rattle.itch_day.specs.declared.limit.Limit.{Limit}
 use Rattle.itch_day.specs.declared.mark.Mark.{Mark}
 use Rattle.itch_day.specs.declared.marked.Marked.{Marked}
 use Rattle.itch_day.specs.declared.stop.Stop.{Stop}
-use Rattle.itch_day.specs.declared.stop.Stop.TheVariants.{End, Full, Late}
+use Rattle.itch_day.specs.declared.stop.Stop.TheVariants.{Full, Late}
 use Rattle.itch_market.specs.Content.{Content}
 use Rattle.itch_market.specs.Wanted.{Wanted}
 use Rattle.itch_market.specs.declared.refused.Refused.{Refused}
@@ -76,6 +75,13 @@ module _ {R W : Type 0} (remaining : R → Option (List ℕ)) (failed_reads : R 
       record { goes_on = tt; later = tt; within = tt; more = inl refl },
     );
   }
+
+  -- one of the multiples up to the last, and those after it
+  pub multiple_left : (multiple last : ℕ) (old new : W) (now : Reading R) (marked : Marked Content) → multiple ≤ last → InMultiples multiple (last + 1 - multiple) old new now marked
+      → InMultiples multiple (suc (last + 1 - (multiple + 1))) old new now marked
+  multiple_left multiple last old new now marked within turn = subst (λ n. InMultiples multiple n old new now marked) one_more turn where
+    one_more : last + 1 - multiple ≡ suc (last + 1 - (multiple + 1))
+    one_more = omega (arith, within)
 
   module _ (multiple left : ℕ) (old mid : W) (before now : Reading R) (began marked : Marked Content) (turn : InMultiples multiple (suc left) old mid before began) where
     -- a message follows at that time or later

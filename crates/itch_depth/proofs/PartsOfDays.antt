@@ -1,5 +1,5 @@
 -- The books of a market that a pass has read are those of the part of the file.
-use Rattle.std.proofs.Common.{◌≡◌, ℕ, ◌+◌, Bool, true, List, [], ◌++◌, length, map, Option, None, Some, Result, Ok, Err, inl, inr, refl, sym, ap, ap₂, subst, ◌∙◌}
+use Rattle.std.proofs.Common.{◌≡◌, ℕ, ◌+◌, Bool, true, List, ◌++◌, length, map, Option, None, Some, Result, Ok, Err, inl, inr, refl, ap, ap₂, subst, ◌∙◌}
 use Rattle.std.specs.List.{filter, flat_map}
 use Rattle.std.specs.FinMap as finite
 use Rattle.std.proofs.KnownBytes.{Appends-nil}
@@ -11,7 +11,7 @@ use Rattle.itch_frame.specs.declared.tally.Failures.{Failures}
 use Rattle.itch_day.specs.declared.limit.Limit.{Limit}
 use Rattle.itch_day.specs.declared.mark.Mark.{Mark}
 use Rattle.itch_book.specs.declared.order.Order.{Order}
-use Rattle.itch_book.specs.Orders.{lay, queue, AllFit}
+use Rattle.itch_book.specs.Orders.{lay, AllFit}
 use Rattle.itch_book.proofs.Distinct.{live_fit}
 use Rattle.itch_book.proofs.OrderLemmas.{queue-lay}
 use Rattle.itch_market.specs.Content.{Content, Listing, Securities, laid}

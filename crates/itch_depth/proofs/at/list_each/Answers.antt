@@ -1,4 +1,4 @@
-use Rattle.std.proofs.Common.{get_or, ◌≡◌, ◌+◌, ◌∷◌, drop, List, ℕ, sym, subst, ap, ◌∙◌}
+use Rattle.std.proofs.Common.{get_or, ◌≡◌, ◌+◌, ◌∷◌, drop, sym, subst, ◌∙◌}
 use Rattle.std.specs.Option.{option_copied}
 use Rattle.std.proofs.lemmas.List.{drop_more}
 use Rattle.itch_depth.specs.Series.{AtTime}

@@ -1,4 +1,4 @@
-use Rattle.std.proofs.Common.{None, Ok, Err, sym, subst}
+use Rattle.std.proofs.Common.{Ok, Err, sym, subst}
 use Rattle.std.proofs.lemmas.Result.{err_from_is_err_and}
 use Rattle.std.specs.Option.{option_copied}
 use Rattle.itch_day.specs.Parts.{GoesOnTo}

@@ -1,4 +1,4 @@
-use Rattle.std.proofs.Common.{subst, ap, ◌∙◌, sym}
+use Rattle.std.proofs.Common.{subst}
 use Rattle.std.specs.Option.{option_copied}
 use Rattle.itch_depth.specs.Series.{ListsMarket}
 use Rattle.itch_depth.proofs.MultiplesInTurn.{begun_after}

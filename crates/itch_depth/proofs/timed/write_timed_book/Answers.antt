@@ -1,10 +1,9 @@
-use Rattle.std.proofs.Common.{◌++◌, List, ℕ, Ok, Err, subst, ◌∙◌}
+use Rattle.std.proofs.Common.{◌++◌, List, ℕ, Err}
 use Rattle.std.proofs.lemmas.Result.{err_from_is_err_and}
 use Rattle.itch_book.specs.Orders.{queue}
 use Rattle.itch_codec.specs.declared.orders.Side.TheVariants.{Buy, Sell}
 use Rattle.itch_commands.specs.Books.{side_lines}
 use Rattle.itch_depth.specs.Timed.{timed_row, timed_title}
-use Rattle.itch_commands.specs.Outputs.{WritesText}
 use Rattle.itch_commands.proofs.JoinedTexts.{text_then, text_fails}
 use Rattle.itch_depth.proofs.timed.write_timed_book.Goals as goal
 
