@@ -255,7 +255,8 @@ def a_file_that_cannot_be_read_twice_is_refused_by_name(program):
 def a_bad_list_is_refused_before_the_file_is_opened(program):
     with tempfile.TemporaryDirectory() as folder:
         got = ended_in(folder, program, "show", "missing", "--reference", "2", "--history", "--only", "1-")
-        yield from differs("list", got, (2, b"", b"itchsnap: bad locate list\n"))
+        why = b"  1-: not a locate from 0 to 65535, nor an ascending range such as 1-40\n"
+        yield from differs("list", got, (2, b"", b"itchsnap: bad locate list\n" + why))
 
 
 RUNS = [
