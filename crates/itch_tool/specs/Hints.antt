@@ -20,10 +20,10 @@ stop_mixup (stop.Rule refusal.UnexpectedEnd) = Some SnapshotAsDay
 stop_mixup stop = None
 
 -- the fault of a file that may be of the other kind
-abbrev pub mixup : ToolFault → Option Mixup
-mixup (tool.Stopped file end) = stop_mixup end.stop
-mixup (tool.Snap file snapshot.NoEnd) = Some DayAsSnapshot
-mixup fault = None
+abbrev pub mixup_of : ToolFault → Option Mixup
+mixup_of (tool.Stopped file end) = stop_mixup end.stop
+mixup_of (tool.Snap file snapshot.NoEnd) = Some DayAsSnapshot
+mixup_of fault = None
 
 -- the hint for the code of a rejection: A, 65, or S, 83
 abbrev pub rejection_hint : ℕ → Option LoginHint

@@ -4,7 +4,7 @@ use crate::beginning::Beginning;
 use crate::counts::Counts;
 use crate::failure::Failure;
 use crate::final_status::{ends_by_closed_pipe, final_status};
-use crate::hints::{MixedUp, login_hint, mixup};
+use crate::hints::{MixedUp, login_hint, mixup_of};
 use crate::lacked_locate::{bad_list, lacked_locate};
 use crate::names::{CommandFiles, JobNames, Name, SessionNames, Subject};
 use crate::packed::packed_file;
@@ -192,7 +192,7 @@ fn say_subject<R: Files + Eprint>(
 
 // For a command: writes what to do with an input file that may be of the other kind.
 fn say_mixup<R: Eprint>(rt: &R, fault: &ToolFault, subject: Subject<'_>) -> io::Result<()> {
-    let (Some(mixup), Subject::Input(file)) = (mixup(fault), subject) else {
+    let (Some(mixup), Subject::Input(file)) = (mixup_of(fault), subject) else {
         return Ok(());
     };
     let mixed_up = MixedUp {

@@ -1,6 +1,6 @@
 //! Hints for refused files and sessions: a file of the other kind, and what a login must be.
 ghost use Rattle.std.specs.Prelude.{◌≡◌};
-ghost use Rattle.itch_tool.specs.Hints.{login_hint, mixup, rejection_hint};
+ghost use Rattle.itch_tool.specs.Hints.{login_hint, mixup_of, rejection_hint};
 
 use crate::names::{Name, SnapshotFlag};
 use itch_commands::ToolFault;
@@ -20,8 +20,8 @@ pub enum Mixup {
 }
 
 /// Returns how the file of a fault may be of the other kind.
-pub fn mixup(fault: &ToolFault) -> Option<Mixup>
-    ensures { result ≡ mixup fault.now }
+pub fn mixup_of(fault: &ToolFault) -> Option<Mixup>
+    ensures { result ≡ mixup_of fault.now }
 {
     match fault {
         ToolFault::Stopped { end, .. } => match end.stop {
