@@ -29,11 +29,17 @@ impl Counts {
     pub fn beyond(&self, count: u64) -> Option<u64>
         ensures { IfSome result (λ wanted. count < wanted) }
     {
-        match (self.after, self.expected) {
-            (Some(after), _) if after > count => Some(after),
-            (_, Some(expected)) if expected > count => Some(expected),
-            _ => None,
+        if let Some(after) = self.after {
+            if after > count {
+                return Some(after);
+            }
         }
+        if let Some(expected) = self.expected {
+            if expected > count {
+                return Some(expected);
+            }
+        }
+        None
     }
 
     fn after(after: Option<u64>) -> Counts {
