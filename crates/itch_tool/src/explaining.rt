@@ -136,6 +136,14 @@ fn say<R: Files + Eprint + AllocGlobal>(
             rt.eprintln("itchsnap: cannot read twice")?;
             eprintln!(rt; "  {path}: --history needs a regular file")
         }
+        Failure::NotPlaced { path } => {
+            rt.eprintln("itchsnap: cannot seek")?;
+            eprintln!(rt; "  {path}: --index needs a regular file")
+        }
+        Failure::Index { why, detail } => {
+            eprintln!(rt; "itchsnap: {why}")?;
+            eprintln!(rt; "  {detail}")
+        }
         Failure::Checkpoint { why, detail } => {
             let feed = names.files.subject(Source::Only);
             say_unfit(rt, *why, detail.as_str(), feed, beginning)

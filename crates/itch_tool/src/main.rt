@@ -15,6 +15,8 @@ mod failure;
 mod feed;
 mod final_status;
 mod history;
+mod indexed;
+mod indexing;
 mod live;
 mod locate_list;
 mod names;

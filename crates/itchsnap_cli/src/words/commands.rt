@@ -2,9 +2,9 @@
 
 use crate::words::argument::{Argument, Value};
 use crate::words::arguments::{
-    AFTER, BIND, FEED, FEED_FILE, FEED_SESSION, FILE, FROM, GLIMPSE_SESSION, JSON, MOST_COUNTED,
-    ONE_USER, ONLY, OUTPUT, PASSWORD, PASSWORD_FILE, PORT, PROGRESS, RECORDED, SESSION, SINCE,
-    STOCK, UNTIL, USER, USERS,
+    AFTER, BIND, FEED, FEED_FILE, FEED_SESSION, FILE, FROM, GLIMPSE_SESSION, INDEX, JSON,
+    MOST_COUNTED, ONE_USER, ONLY, OUTPUT, PASSWORD, PASSWORD_FILE, PORT, PROGRESS, RECORDED,
+    SESSION, SINCE, STOCK, UNTIL, USER, USERS,
 };
 use clap::error::ErrorKind;
 use clap::{Command, Error};
@@ -20,7 +20,7 @@ pub struct Entry {
 }
 
 /// The commands.
-pub const COMMANDS: [Entry; 17] = [
+pub const COMMANDS: [Entry; 18] = [
     Entry {
         name: "snap",
         about: "Write the snapshot of the market that a day file leaves",
@@ -173,6 +173,7 @@ pub const COMMANDS: [Entry; 17] = [
             SINCE,
             AFTER,
             UNTIL,
+            INDEX,
             RECORDED,
             Argument::Optional {
                 long: "only",
@@ -224,6 +225,7 @@ pub const COMMANDS: [Entry; 17] = [
             SINCE,
             AFTER,
             UNTIL,
+            INDEX,
             Argument::Optional {
                 long: "only",
                 value: Value::Text("LIST"),
@@ -243,6 +245,12 @@ pub const COMMANDS: [Entry; 17] = [
             PROGRESS,
         ],
         example: "Example: itchsnap cut day.itch --stock AAPL --since 9:30 > aapl.itch",
+    },
+    Entry {
+        name: "index",
+        about: "Write the index of a day file, with which `show` and `cut` begin at a range",
+        takes: &[FILE, AFTER, UNTIL, OUTPUT, PROGRESS],
+        example: "Example: itchsnap index day.itch --output day.idx",
     },
     Entry {
         name: "book",
