@@ -1,4 +1,11 @@
 //! The first messages of a day file, which are not read again.
+ghost use Rattle.std.specs.Prelude.{◌≡◌, ◌-◌, ◌^◌, ◌≤◌, ℕ, List, IsSome, MatchResult, map, min};
+ghost use Rattle.std.specs.Option.{option_copied};
+ghost use Rattle.std.specs.List.{AllByRecursion};
+ghost use Rattle.itch_codec.specs.Messages.{message_of};
+ghost use Rattle.itch_frame.specs.Blocks.{IsPayload, blocks};
+ghost use Rattle.itch_commands.specs.Choices.{chosen_by, chosen_listing_all, chosen_past_mark};
+ghost use Rattle.itch_commands.specs.Showing.{IsClean};
 
 use crate::choice::Choice;
 use crate::fault::ToolFault;
@@ -18,7 +25,9 @@ pub struct Begun<'a> {
 
 impl Begun<'_> {
     /// Returns the number of messages.
-    pub(crate) fn count(&self) -> u64 {
+    pub(crate) fn count(&self) -> u64
+        ensures { result ≡ min self.now.mark.count (10 ^ 19 - 1) }
+    {
         self.mark.count.min(MOST_MESSAGES)
     }
 
@@ -28,16 +37,28 @@ impl Begun<'_> {
         alloc: A,
         only: Option<&'b LocateSet<A>>,
         filters: Filters<'b>,
-    ) -> Result<Choice<'b, A>, ToolFault> {
+    ) -> Result<Choice<'b, A>, ToolFault>
+        ensures { (payloads : List (List ℕ)) → self.now.directory.now ≡ blocks payloads → AllByRecursion IsPayload payloads → AllByRecursion IsClean payloads
+            → MatchResult result (λ choice. choice ≡ chosen_listing_all (chosen_past_mark (chosen_by (option_copied only.entry) filters.entry) self.now.mark) (map message_of payloads))
+            (λ fault. (fault ≡ ToolFault.OutOfMemory) × IsSome filters.entry.stocks) }
+    {
         let mut choice = Choice::new(alloc, only, filters)?;
         choice.pass_mark(self.mark);
-        let mut rest = self.directory;
-        while let Some((payload, after)) = split_first_block(rest) {
-            if let Ok(message) = decode(payload) {
-                choice.list(&message);
-            }
-            rest = after;
-        }
+        list_all(&mut choice, self.directory);
         Ok(choice)
+    }
+}
+
+// Looks up stocks in the messages of these blocks.
+fn list_all<A: Allocator>(choice: &mut Choice<'_, A>, directory: &[u8])
+    ensures { (payloads : List (List ℕ)) → directory.now ≡ blocks payloads → AllByRecursion IsPayload payloads → AllByRecursion IsClean payloads
+        → choice.new ≡ chosen_listing_all choice.old (map message_of payloads) }
+{
+    let mut rest = directory;
+    while let Some((payload, after)) = split_first_block(rest) {
+        if let Ok(message) = decode(payload) {
+            choice.list(&message);
+        }
+        rest = after;
     }
 }

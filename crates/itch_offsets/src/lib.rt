@@ -8,6 +8,7 @@
 mod begin;
 mod directory;
 mod fit;
+pub mod laws;
 mod pass;
 mod reading;
 mod row;

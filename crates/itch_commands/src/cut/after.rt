@@ -1,7 +1,10 @@
 //! `cut` of a day file from a mark on.
+ghost use Rattle.std.specs.Prelude.{◌-◌, ◌^◌, ◌≤◌};
+ghost use Rattle.itch_commands.specs.Further.{CutsOn};
 
 use super::sink::KeptBlocks;
 use crate::begun::Begun;
+use crate::choice::Choice;
 use crate::fault::ToolFault;
 use crate::filters::Filters;
 use crate::show::{answer, if_found};
@@ -21,14 +24,29 @@ pub fn cut_after<R: CountedRead, B: Allocator, A: Allocator + Copy, W: CountedWr
     only: Option<&LocateSet<A>>,
     out: &mut W,
 ) -> Result<bool, ToolFault> {
-    let mut choice = begun.choice(alloc, only, filters)?;
-    let mut count = begun.count();
+    let choice = begun.choice(alloc, only, filters)?;
+    let found = cut_on(reader, begun.count(), limit, choice, out)?;
+    if_found(found)
+}
+
+// Cuts the messages after this number of others. Returns whether each of the stocks searched for has come.
+fn cut_on<R: CountedRead, B: Allocator, A: Allocator, W: CountedWrite>(
+    reader: &mut BlockReader<R, B>,
+    before: u64,
+    limit: Limit,
+    choice: Choice<'_, A>,
+    out: &mut W,
+) -> Result<bool, ToolFault>
+    requires few { before ≤ 10 ^ 19 - 1 }
+    ensures { CutsOn R.remaining R.failures limit choice.entry before W.contents W.failures reader.old reader.new out.old result out.new }
+{
+    let mut choice = choice;
+    let mut count = before;
     let mut blocks = KeptBlocks {
         out,
         choice: &mut choice,
     };
     let stop = read_part(reader, &mut count, &mut blocks, limit);
     pass_stop(reader, &stop);
-    let found = answer(stop, limit.after, count, blocks.has_found_all())?;
-    if_found(found)
+    answer(stop, limit.after, count, blocks.has_found_all())
 }

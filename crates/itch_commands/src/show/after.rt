@@ -1,10 +1,13 @@
 //! `show` of a day file from a mark on.
+ghost use Rattle.std.specs.Prelude.{◌-◌, ◌^◌, ◌≤◌};
+ghost use Rattle.itch_commands.specs.Further.{ShowsOn};
 
 use super::answer;
 use super::found::if_found;
 use super::headings::write_heading;
 use super::sink::ShownLines;
 use crate::begun::Begun;
+use crate::choice::Choice;
 use crate::fault::ToolFault;
 use crate::filters::Filters;
 use crate::form::ShowForm;
@@ -25,11 +28,28 @@ pub fn show_after<R: CountedRead, B: Allocator, A: Allocator + Copy, W: CountedW
     only: Option<&LocateSet<A>>,
     out: &mut W,
 ) -> Result<bool, ToolFault> {
-    let mut choice = begun.choice(alloc, only, filters)?;
+    let choice = begun.choice(alloc, only, filters)?;
     if let ShowForm::Csv { kind } = form {
         write_heading(kind, out)?;
     }
-    let mut count = begun.count();
+    let found = show_on(reader, begun.count(), limit, form, choice, out)?;
+    if_found(found)
+}
+
+// Shows the messages after this number of others. Returns whether each of the stocks searched for has come.
+fn show_on<R: CountedRead, B: Allocator, A: Allocator, W: CountedWrite>(
+    reader: &mut BlockReader<R, B>,
+    before: u64,
+    limit: Limit,
+    form: ShowForm,
+    choice: Choice<'_, A>,
+    out: &mut W,
+) -> Result<bool, ToolFault>
+    requires few { before ≤ 10 ^ 19 - 1 }
+    ensures { ShowsOn R.remaining R.failures limit choice.entry before W.contents W.failures form reader.old reader.new out.old result out.new }
+{
+    let mut choice = choice;
+    let mut count = before;
     let mut lines = ShownLines {
         out,
         form,
@@ -37,6 +57,5 @@ pub fn show_after<R: CountedRead, B: Allocator, A: Allocator + Copy, W: CountedW
     };
     let stop = read_part(reader, &mut count, &mut lines, limit);
     pass_stop(reader, &stop);
-    let found = answer(stop, limit.after, count, lines.has_found_all())?;
-    if_found(found)
+    answer(stop, limit.after, count, lines.has_found_all())
 }
