@@ -3,6 +3,7 @@
 RUNS lists the runs. Each is a function that is given the program and yields the differences.
 """
 import contextlib
+import gzip
 import hashlib
 import json
 import os
@@ -11,6 +12,7 @@ import tempfile
 import time
 from pathlib import Path
 
+import failing
 import large
 from common import differs, ended_in
 from infos import RandomDay
@@ -142,13 +144,15 @@ def an_index_has_a_row_for_every_65536_messages(program):
                              (["--until", str(middle)], next(at for at, it in enumerate(times) if it >= middle))):
             wanted = index_of(payloads[:count], [*range(ROW, count, ROW), count])
             yield from differs(f"index {words}", ended_in(folder, program, "index", "day.itch", *words), (0, wanted, b""))
-            yield from differs(f"index {words} --output", ended_in(folder, program, "index", "day.itch", *words, "--output", "day.idx"), (0, b"", b""))
+            ending = ended_in(folder, program, "index", "day.itch", *words, "--output", "day.idx")
+            yield from differs(f"index {words} --output", ending, (0, b"", b""))
             yield from differs(f"file {words}", (folder / "day.idx").read_bytes(), wanted)
             yield from differs(f"left {words}", sorted(os.listdir(folder)), ["day.idx", "day.itch"])
         ended_in(folder, program, "index", "day.itch", "--output", "day.idx")
         for number in (1, ROW, ROW + 1, ROW + 2, 2 * ROW + 1, 3 * ROW, 3 * ROW + 11):
             for more in ([], ["--stock", "S0000007"], ["--stock", "S0000003,S0000019"], ["--stock", "NONE"], ["--only", "1"], ["--orders"]):
-                yield from both(folder, program, f"{number} {more}", "show", "day.itch", "--from", str(number), "--after", str(min(number + 50, len(payloads))), *more)
+                span = ["--from", str(number), "--after", str(min(number + 50, len(payloads)))]
+                yield from both(folder, program, f"{number} {more}", "show", "day.itch", *span, *more)
         for at in (0, ROW - 1, ROW, 2 * ROW + 7):
             words = ["--since", str(times[at]), "--until", str(times[at] + 20_000)]
             yield from both(folder, program, str(words), "show", "day.itch", *words)
@@ -173,7 +177,8 @@ OTHER_DAY = unfit("of another day", "day.idx: it is of another day file than day
 BEYOND = unfit("beyond the end of the file", "day.itch: it ends before the last message of day.idx")
 INVALID = unfit("not of a day file", "day.idx: not an index of `itchsnap index`, or changed since")
 COMMANDS = (["show", "day.itch"], ["show", "day.itch", "--from", "90000", "--after", "90005"], ["cut", "day.itch", "--from", "70000"],
-            ["show", "day.itch", "--orders", "--after", "3"], ["show", "day.itch", "--reference", "5"], ["show", "day.itch", "--reference", "5", "--history"])
+            ["show", "day.itch", "--orders", "--after", "3"], ["show", "day.itch", "--reference", "5"],
+            ["show", "day.itch", "--reference", "5", "--history"])
 
 
 def an_index_of_another_file_is_refused(program):
@@ -188,9 +193,14 @@ def an_index_of_another_file_is_refused(program):
     near_end[-1] ^= 1
     with folder_of(day, index) as folder:
         for words in COMMANDS:
-            for label, changed, wanted in (("other", other, OTHER_DAY), ("end", near_end, OTHER_DAY), ("short", day[:-1], BEYOND), ("none", b"", BEYOND)):
+            for label, changed, wanted in (("other", other, OTHER_DAY), ("end", near_end, OTHER_DAY), ("short", day[:-1], BEYOND),
+                                           ("none", b"", BEYOND)):
                 (folder / "day.itch").write_bytes(changed)
                 yield from differs(f"{label}: {words}", ended_in(folder, program, *words, "--index", "day.idx"), wanted)
+        (folder / "day.gz").write_bytes(gzip.compress(bytes(day), mtime=0))
+        hint = "day.gz: this is a gzip file: zcat day.gz > FILE"
+        yield from differs("gzip", ended_in(folder, program, "show", "day.gz", "--index", "day.idx"), unfit("beyond the end of the file", hint))
+        (folder / "day.gz").unlink()
         (folder / "day.itch").write_bytes(near_row)
         for words in COMMANDS[1:3]:
             yield from differs(f"row: {words}", ended_in(folder, program, *words, "--index", "day.idx"), OTHER_DAY)
@@ -203,8 +213,8 @@ def an_index_that_was_changed_is_refused(program):
     index = index_of(payloads, [1, 5000, 10_000])
     lines = index.splitlines(keepends=True)
     folder_line = b'{"messages":2,"offset":55,"timestamp":2,"file":"2.snap","first":"db5947c58390d6b0","last":"db5947c58390d6b0"}\n'
-    broken = [b"", b"\n", b"index\n", folder_line, blocks_of(payloads), bytes(1 << 20), index[:-20], b"".join(lines[:-1]), b"".join(lines[1:]), index + b"\n",
-              index + index, b"".join([*lines[:-2], lines[-1]])]
+    broken = [b"", b"\n", b"index\n", folder_line, blocks_of(payloads), bytes(1 << 20), index[:-20], b"".join(lines[:-1]), b"".join(lines[1:]),
+              index + b"\n", index + index, b"".join([*lines[:-2], lines[-1]])]
     for _ in range(60):
         changed = bytearray(index)
         changed[rng.randrange(len(index) - 1)] ^= 1 << rng.randrange(7)
@@ -256,6 +266,48 @@ def the_messages_before_a_row_are_not_read(program):
             yield "the zeros are read as messages"
 
 
+def each_call_that_fails_is_told(program):
+    """Memory, reads and writes fail in turn: the command ends as told, and leaves the index that was there."""
+    payloads = RandomDay(5).payloads
+    stock = next(it[11:19].decode().strip() for it in payloads if it[:1] == b"R")
+    old = index_of(payloads, [len(payloads) // 2])
+    with tempfile.TemporaryDirectory() as apart:
+        shim = failing.build_shim(apart)
+        for words, kinds in ((["index", "day.itch", "--output", "new.idx"], ("memory", "read", "write")),
+                             (["index", "day.itch"], ("memory", "read", "write")),
+                             (["show", "day.itch", "--from", str(len(payloads)), "--stock", stock, "--index", "day.idx"], ("memory", "read"))):
+            with folder_of(blocks_of(payloads), old) as folder:
+                (folder / "new.idx").write_bytes(b"old")
+                ordinary = ended_in(folder, program, *words)
+                made = (folder / "new.idx").read_bytes()
+                yield from differs(f"{words}", ordinary[0], 0)
+                for kind in kinds:
+                    yield from failing_in_turn(folder, program, shim, words, kind, ordinary, made)
+
+
+def failing_in_turn(folder, program, shim, words, kind, ordinary, made):
+    unnoticed = 0
+    for nth in range(1, 1000):
+        (folder / "new.idx").write_bytes(b"old")
+        failed = folder / "failed"
+        failed.unlink(missing_ok=True)
+        status, output, error = ended_in(folder, program, *words, LD_PRELOAD=str(shim), FAIL=f"{kind}:{nth}", FAILED=str(failed))
+        if (status, output, error) == ordinary:
+            unnoticed += failed.exists()
+            yield from differs(f"{words}, {kind} {nth}: index", (folder / "new.idx").read_bytes(), made)
+        else:
+            label = f"{words}, {kind} {nth}: {error}"
+            yield from differs(label, (status, error[:10]), (4 if kind == "memory" else 3, b"itchsnap: "))
+            yield from differs(f"{label}: index", (folder / "new.idx").read_bytes(), b"old")
+            if not ordinary[1].startswith(output):
+                yield f"{label}: {output}"
+        yield from differs(f"{words}, {kind} {nth}: left", sorted({*os.listdir(folder)} - {"failed"}), ["day.idx", "day.itch", "new.idx"])
+        if not failed.exists():
+            break
+    if unnoticed > (1 if kind == "memory" else 0):
+        yield f"{words}: {unnoticed} failures of {kind} went unnoticed"
+
+
 def a_range_near_the_end_of_a_long_day_takes_a_tenth_of_the_time(program):
     day = large.entry(1) + large.deleted(1) * 1_000_000
     with folder_of(day) as folder:
@@ -277,5 +329,5 @@ def a_range_near_the_end_of_a_long_day_takes_a_tenth_of_the_time(program):
 
 RUNS = [output_with_an_index_is_that_without, a_fault_behind_the_covered_part_stays_the_same, cut_with_an_index_writes_the_same_file,
         an_index_has_a_row_for_every_65536_messages, a_refused_day_has_no_index, an_index_of_another_file_is_refused,
-        an_index_that_was_changed_is_refused, files_that_cannot_be_used_are_named, the_messages_before_a_row_are_not_read,
-        a_range_near_the_end_of_a_long_day_takes_a_tenth_of_the_time]
+        an_index_that_was_changed_is_refused, each_call_that_fails_is_told, files_that_cannot_be_used_are_named,
+        the_messages_before_a_row_are_not_read, a_range_near_the_end_of_a_long_day_takes_a_tenth_of_the_time]

@@ -53,6 +53,20 @@ FAULTS = [
     "join - -",
     "join a.snap",
     "join a.snap b.itch c.itch",
+    "show --index day.idx",
+    "show - --index day.idx",
+    "show day.itch --index",
+    "show day.itch --index day.idx --index day.idx",
+    "show day.itch --index day.idx --snapshot",
+    "show day.itch --index day.idx --history",
+    "cut --index day.idx",
+    "cut - --index day.idx",
+    "snap day.itch --index day.idx",
+    "book 1 day.itch --index day.idx",
+    "index a.itch b.itch",
+    "index day.itch --from 2",
+    "index day.itch --json",
+    "index day.itch --after",
     "show --progress=1",
     "show --names --json",
     "show --names=1",
@@ -252,7 +266,7 @@ def zsh_completions_escape_what_ends_a_help_text(program):
 def paths_are_completed_where_they_are_written(program):
     """Where a file or a folder is written, as where one is read; no path is completed where a number is."""
     zsh, fish = (ended(program, "completions", shell)[1].decode() for shell in ("zsh", "fish"))
-    for option in ("output", "to", "record", "snapshots", "pass-file", "feed-pass-file"):
+    for option in ("output", "index", "to", "record", "snapshots", "pass-file", "feed-pass-file"):
         yield from differs(f"{option} of zsh", set(re.findall(rf"'--{option}\[.*\](.*)'", zsh)), {":file:_files"})
         yield from differs(f"{option} of fish", set(re.findall(rf" -l {option}( -\w)? -d ", fish)), {" -r"})
     for option in ("port", "after", "clients"):

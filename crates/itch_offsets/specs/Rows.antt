@@ -5,11 +5,14 @@ use Rattle.itch_checkpoints.specs.IndexLines.{digits_part, number_or_null}
 use Rattle.itch_checkpoints.specs.declared.fingerprint.Fingerprint.{Fingerprint}
 use Rattle.itch_day.specs.declared.mark.Mark.{Mark}
 
+-- the part of a row's line about its messages
+abbrev pub place_part : Mark → List ℕ
+place_part mark =
+    codes "{\"messages\":" ++ decimal mark.count ++ codes ",\"offset\":" ++ decimal mark.offset ++ codes ",\"timestamp\":" ++ number_or_null mark.latest
+
 -- the line of a row
 abbrev pub row_line : Mark → Fingerprint → List ℕ
-row_line mark fingerprint =
-    codes "{\"messages\":" ++ decimal mark.count ++ codes ",\"offset\":" ++ decimal mark.offset ++ codes ",\"timestamp\":" ++ number_or_null mark.latest
-    ++ digits_part fingerprint ++ codes "}\n"
+row_line mark fingerprint = place_part mark ++ (digits_part fingerprint ++ codes "}\n")
 
 -- the line of the payload of a Stock Directory message
 abbrev pub directory_line : List ℕ → List ℕ

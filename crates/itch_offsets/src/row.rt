@@ -1,7 +1,7 @@
 //! The rows of an index, and their lines.
 ghost use Rattle.std.specs.Prelude.{◌≡◌, ◌++◌, decimal, IfOk, OnOk};
 ghost use Rattle.itch_checkpoints.specs.IndexLines.{digits_part, number_or_null};
-ghost use Rattle.itch_offsets.specs.Rows.{row_line};
+ghost use Rattle.itch_offsets.specs.Rows.{place_part, row_line};
 
 use itch_checkpoints::Fingerprint;
 use itch_codec::MOST_MESSAGES;
@@ -74,23 +74,44 @@ pub(crate) fn push_row<A: Allocator>(
 ) -> Result<(), AllocError>
     ensures { OnOk result (lines.new.items ≡ lines.old.items ++ row_line mark fingerprint) }
 {
-    lines.extend_from_slice(b"{\"messages\":")?;
-    push_number(lines, mark.count)?;
-    lines.extend_from_slice(b",\"offset\":")?;
-    push_number(lines, mark.offset)?;
-    lines.extend_from_slice(b",\"timestamp\":")?;
-    match mark.latest {
-        Some(latest) => push_number(lines, latest)?,
-        None => lines.extend_from_slice(b"null")?,
-    }
+    push_place(lines, mark)?;
     push_fingerprint(lines, fingerprint)?;
     lines.extend_from_slice(b"}\n")
+}
+
+fn push_place<A: Allocator>(lines: &mut Vec<u8, A>, mark: Mark) -> Result<(), AllocError>
+    ensures { OnOk result (lines.new.items ≡ lines.old.items ++ place_part mark) }
+{
+    push_field(lines, b"{\"messages\":", mark.count)?;
+    push_field(lines, b",\"offset\":", mark.offset)?;
+    lines.extend_from_slice(b",\"timestamp\":")?;
+    push_or_null(lines, mark.latest)
+}
+
+fn push_field<A: Allocator>(
+    lines: &mut Vec<u8, A>,
+    name: &[u8],
+    number: u64,
+) -> Result<(), AllocError>
+    ensures { OnOk result (lines.new.items ≡ lines.old.items ++ name.now ++ decimal number) }
+{
+    lines.extend_from_slice(name)?;
+    push_number(lines, number)
 }
 
 fn push_number<A: Allocator>(lines: &mut Vec<u8, A>, number: u64) -> Result<(), AllocError>
     ensures { OnOk result (lines.new.items ≡ lines.old.items ++ decimal number) }
 {
     lines.extend_from_slice(Buffer::new().format(number).as_bytes())
+}
+
+fn push_or_null<A: Allocator>(lines: &mut Vec<u8, A>, number: Option<u64>) -> Result<(), AllocError>
+    ensures { OnOk result (lines.new.items ≡ lines.old.items ++ number_or_null number) }
+{
+    match number {
+        Some(number) => push_number(lines, number),
+        None => lines.extend_from_slice(b"null"),
+    }
 }
 
 fn push_fingerprint<A: Allocator>(
