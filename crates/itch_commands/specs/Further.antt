@@ -30,7 +30,7 @@ pub record ReadsOnOff (limit : Limit) (before : ℕ) (old new : Option (List ℕ
 module _ {R W : Type 0} (remaining : R → Option (List ℕ)) (failed_reads : R → Failures) (limit : Limit) (chosen : Chosen) (before : ℕ) where
   -- After this number of messages the next ones came off the front, and then this stops the reading: the writer has their output, and
   -- the message that stops the reading is passed.
-  pub record GoesOff (refuses : Chosen → W → ℕ → List ℕ → ToolFault → W → Type 0) (wrote : List (List ℕ) → W → W → Type 0)
+  pub record GoesOff (refuses : Chosen → W → ℕ → List ℕ → ToolFault → W → Type 0) (writes : List (List ℕ) → W → W → Type 0)
     (old new : Reading R) (out : W) (result : Result Bool ToolFault) (out' : W) : Type 0 where
     pub payloads : List (List ℕ)
     pub count : ℕ
@@ -40,7 +40,7 @@ module _ {R W : Type 0} (remaining : R → Option (List ℕ)) (failed_reads : R 
     pub off : ReadsOnOff limit before (bytes_left remaining old) (bytes_left remaining mid) payloads
     pub counted : count ≡ before + length payloads
     pub wanted : 0 < length payloads → IsWithin limit count
-    pub wrote : wrote payloads out last
+    pub wrote : writes payloads out last
     pub stops : StopsAt remaining (refuses (chosen_past chosen (map message_of payloads))) limit count mid last stop out'
     pub leaves : Leaves old (length payloads) stop mid
     pub counts : Counts stop (failed_reads old.reader) (failed_reads mid.reader)
