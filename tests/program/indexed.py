@@ -309,6 +309,7 @@ def failing_in_turn(folder, program, shim, words, kind, ordinary, made):
 
 
 def a_range_near_the_end_of_a_long_day_takes_a_tenth_of_the_time(program):
+    """And two milliseconds, in which the program starts."""
     day = large.entry(1) + large.deleted(1) * 1_000_000
     with folder_of(day) as folder:
         yield from differs("index", ended_in(folder, program, "index", "day.itch", "--output", "day.idx"), (0, b"", b""))
