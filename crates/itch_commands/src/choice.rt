@@ -156,8 +156,8 @@ impl<'a, A: Allocator> Choice<'a, A> {
     pub fn list(&mut self, message: &Message<'_>)
         ensures { self.new ≡ chosen_listing self.old message.now }
     {
-        if let Some(stocks) = &mut self.stocks {
-            stocks.pass(message);
+        if let Some(sought) = &mut self.stocks {
+            sought.pass(message);
         }
     }
 
