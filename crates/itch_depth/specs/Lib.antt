@@ -1,2 +1,4 @@
 pub mod Timed
 pub mod Series
+pub mod Changes
+pub mod Following

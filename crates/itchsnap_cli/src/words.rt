@@ -1,6 +1,6 @@
 //! Parses the command line of `itchsnap`.
 //!
-//! [`read_job`] parses it into a [`Job`]: a request over files, [`PointWords`], [`BookWords`], [`HistoryWords`], a session with its [`LoginWords`], a
+//! [`read_job`] parses it into a [`Job`]: a request over files, [`PointWords`], [`BookWords`], [`ChangeWords`], [`HistoryWords`], a session with its [`LoginWords`], a
 //! live server, a feed to follow or to play, or the [`Completions`] of a shell. Otherwise it returns a usage fault, or a request for help or the
 //! version.
 //!
@@ -16,6 +16,7 @@
 mod argument;
 mod arguments;
 mod books;
+mod changes;
 mod commands;
 mod completions;
 mod duration;
@@ -31,6 +32,7 @@ mod status;
 mod time;
 
 pub use books::{BookWords, Times};
+pub use changes::ChangeWords;
 pub use commands::usage_fault;
 pub use completions::{Completions, Shell};
 pub use history::{HistoryForm, HistoryWords};

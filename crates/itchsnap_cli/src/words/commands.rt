@@ -274,6 +274,10 @@ pub const COMMANDS: [Entry; 17] = [
                 value: Value::Text("D"),
                 help: "Print the books at each multiple of D since midnight, such as 1m or 500ms",
             },
+            Argument::Flag {
+                long: "changes",
+                help: "Print the best prices of one stock after each message that changes them",
+            },
             AFTER,
             UNTIL,
             RECORDED,

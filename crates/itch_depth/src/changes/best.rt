@@ -1,0 +1,143 @@
+//! The best prices of a book, as they were last looked at.
+ghost use Rattle.std.specs.Prelude.{◌≡◌, ◌≤◌, ◌<◌, ◌||◌, ◌++◌, ◌∷◌, [], not, take, length, drop, MatchResult, IfOk, ⊤};
+ghost use Rattle.itch_book.specs.Orders.{queue};
+ghost use Rattle.itch_depth.specs.Changes.{PutsLevel, best_of, levels, nothing, same_levels, same_sides};
+
+use itch_book::OrderBook;
+use itch_codec::Side;
+use std::alloc::{AllocError, Allocator};
+use std::marker::Model;
+
+/// A price of a side: all shares at it, and the number of its orders.
+#[derive(Clone, Copy, Debug, PartialEq, Eq)]
+pub struct Level {
+    pub price: u32,
+    pub shares: u128,
+    pub orders: u64,
+}
+
+/// The best prices of each side of a book, the best one first.
+#[derive(Drop)]
+pub struct Best<A: Allocator> {
+    bids: Vec<Level, A>,
+    asks: Vec<Level, A>,
+}
+
+impl<A: Allocator> Model for Best<A> {
+    ghost use Rattle.itch_depth.specs.Changes.{Sides};
+
+    ghost Value = { Sides };
+
+    ghost view = { λ b. record { bids = b.bids.items; asks = b.asks.items } };
+}
+
+impl<A: Allocator> Best<A> {
+    /// Creates the best prices of an empty book, without allocating.
+    pub fn new(alloc: A) -> Best<A>
+    where
+        A: Copy,
+        ensures { result ≡ nothing }
+    {
+        Best {
+            bids: Vec::new(alloc),
+            asks: Vec::new(alloc),
+        }
+    }
+
+    /// Returns the bids.
+    pub fn bids(&self) -> &[Level]
+        ensures { result.now ≡ self.now.bids }
+    {
+        self.bids.as_slice()
+    }
+
+    /// Returns the asks.
+    pub fn asks(&self) -> &[Level]
+        ensures { result.now ≡ self.now.asks }
+    {
+        self.asks.as_slice()
+    }
+
+    /// Looks at the best prices of a locate, as many of each side as requested, and returns whether they have changed. If memory runs out,
+    /// they are unknown.
+    pub fn renew<B: OrderBook>(
+        &mut self,
+        book: &B,
+        locate: u16,
+        depth: usize,
+    ) -> Result<bool, AllocError>
+        ensures renewed { IfOk result (λ _. self.new ≡ best_of depth (B.orders book.now) locate) }
+        ensures changed { IfOk result (λ changed. changed ≡ not (same_sides self.old self.new)) }
+    {
+        let bids = renew_side(&mut self.bids, book, locate, Side::Buy, depth)?;
+        let asks = renew_side(&mut self.asks, book, locate, Side::Sell, depth)?;
+        Ok(bids || asks)
+    }
+}
+
+// Looks at the best prices of a side, and returns whether they have changed.
+fn renew_side<B: OrderBook, A: Allocator>(
+    known: &mut Vec<Level, A>,
+    book: &B,
+    locate: u16,
+    side: Side,
+    depth: usize,
+) -> Result<bool, AllocError>
+    ensures renewed { IfOk result (λ _. known.new.items ≡ levels depth (queue (B.orders book.now) locate side)) }
+    ensures changed { IfOk result (λ changed. changed ≡ not (same_levels known.old.items known.new.items)) }
+{
+    let (mut last, mut changed, mut count) = (None, false, 0);
+    while let Some(price) = next_of(book, locate, side, last, depth - count) {
+        let (shares, orders) = book.level_total(locate, side, price);
+        let level = Level {
+            price,
+            shares,
+            orders,
+        };
+        changed |= put_level(known, count, level)?;
+        last = Some(price);
+        count += 1;
+    }
+    changed |= count < known.len();
+    known.truncate(count);
+    Ok(changed)
+}
+
+// Returns the price after this one, unless no more are requested.
+fn next_of<B: OrderBook>(
+    book: &B,
+    locate: u16,
+    side: Side,
+    last: Option<u32>,
+    left: usize,
+) -> Option<u32>
+    ensures { result ≡ next_of left (next_price (B.orders book.now) locate side last) }
+{
+    if left == 0 {
+        None
+    } else {
+        book.next_price(locate, side, last)
+    }
+}
+
+// Puts a level at a place, or at the end. Returns whether another level or none was there.
+fn put_level<A: Allocator>(
+    levels: &mut Vec<Level, A>,
+    place: usize,
+    level: Level,
+) -> Result<bool, AllocError>
+    requires { place ≤ length levels.old.items }
+    ensures { PutsLevel place level levels.old.items result levels.new.items }
+{
+    match levels.get_mut(place) {
+        Some(there) => {
+            let is_other = *there != level;
+            *there = level;
+            Ok(is_other)
+        }
+        None => {
+            levels.push(level)?;
+            Ok(true)
+        }
+    }
+}
