@@ -1,10 +1,9 @@
 -- The input, the output and the result of `book --changes`. A file is refused where `check` refuses it, after the lines before.
-use Rattle.std.specs.Prelude.{◌≡◌, ◌≢◌, ◌⊎◌, ℕ, ◌+◌, ◌*◌, ◌-◌, ◌==◌, ◌≤◌, Bool, true, false, not, List, [], ◌∷◌, ◌++◌, bytes_eq, length, map, Option, None, Some, is_some, option_map, Result, Ok, Err}
+use Rattle.std.specs.Prelude.{◌≡◌, ◌⊎◌, ℕ, ◌+◌, ◌*◌, ◌==◌, Bool, true, false, not, List, [], ◌∷◌, ◌++◌, bytes_eq, length, map, slice_get, Option, None, Some, is_some, option_map, Result, Ok, Err}
 use Rattle.std.specs.Io.KnownBytes.{Consumes}
 use Rattle.std.specs.List.{filter}
 use Rattle.std.specs.FinMap as finite
 use Rattle.std.specs.declared.io.Error.{Error}
-use Rattle.itch_book.specs.Orders.{lay}
 use Rattle.itch_codec.specs.Headers.{header}
 use Rattle.itch_codec.specs.Messages.{message_of}
 use Rattle.itch_codec.specs.Text.{before_spaces}
@@ -20,8 +19,9 @@ use Rattle.itch_frame.specs.Reading.{Reading, bytes_left}
 use Rattle.itch_frame.specs.declared.tally.Failures.{Failures}
 use Rattle.itch_market.specs.Content.{Content, Listing, empty, laid}
 use Rattle.itch_market.specs.DayMessages.{AreTaken}
-use Rattle.itch_market.specs.Effects.{effect}
-use Rattle.itch_market.specs.Replays.{LeavesReaderFirst}
+use Rattle.itch_market.specs.Effects.{effect, takes_memory}
+use Rattle.itch_market.specs.Reasons.{reason}
+use Rattle.itch_market.specs.Replays.{IsRefusal, LeavesReaderFirst}
 use Rattle.itch_market.specs.Runs.{run}
 use Rattle.itch_market.specs.Takings.{RefusesMessage, TakesMessage}
 use Rattle.itch_market.specs.declared.refused.Refused.TheVariants as refused
@@ -33,12 +33,13 @@ use Rattle.itch_commands.specs.Showing.{WritesPart}
 use Rattle.itch_commands.specs.declared.fault.Source.TheVariants.{Only}
 use Rattle.itch_commands.specs.declared.fault.ToolFault.{ToolFault}
 use Rattle.itch_commands.specs.declared.fault.ToolFault.TheVariants as tool
-use Rattle.itch_depth.specs.Changes.{Sides, best, change, change_head, change_past, changes_of_day, followed, is_stock, same_sides}
+use Rattle.itch_depth.specs.Changes.{Sides, best, best_of, change, change_head, change_past, changes_of_day, followed, is_stock, same_level, same_sides}
+use Rattle.itch_depth.specs.declared.changes.best.Level.{Level}
 use Rattle.itch_depth.specs.declared.changes.request.ChangesRequest.{ChangesRequest}
 use Rattle.itch_depth.specs.declared.changes.request.OneStock.{OneStock}
 use Rattle.itch_depth.specs.declared.changes.request.OneStock.TheVariants.{Locate, Named}
-use Rattle.itch_depth.specs.declared.changes.sink.Unfollowed.{Unfollowed}
-use Rattle.itch_depth.specs.declared.changes.sink.Unfollowed.TheVariants as unfollowed
+use Rattle.itch_depth.specs.declared.changes.book.Unfollowed.{Unfollowed}
+use Rattle.itch_depth.specs.declared.changes.book.Unfollowed.TheVariants as unfollowed
 
 -- the stock of a locate of the directory, if it has one
 abbrev pub stock_at : Content → ℕ → Option (List ℕ)
@@ -56,10 +57,15 @@ pub record IsOwn (stock : OneStock) (m own : Content) : Type 0 where
   pub orders : own.orders ≡ filter (λ x. is_stock stock m.securities x.locate) m.orders
 
 -- the followed locate and its best prices are those of the market
-pub record IsFollowing (request : ChangesRequest) (m own : Content) (locate : Option ℕ) (sides : Sides) : Type 0 where
+pub record IsFollowing (request : ChangesRequest) (m own : Content) (locate : Option ℕ) (shown : Sides) : Type 0 where
   pub own_market : IsOwn request.stock m own
   pub place : locate ≡ followed request.stock m
-  pub sides : sides ≡ best request.depth request.stock m
+  pub sides : shown ≡ best request.depth request.stock m
+
+-- this is the level that is there
+abbrev pub is_level : Level → Option Level → Bool
+is_level level None = false
+is_level level (Some there) = same_level there level
 
 -- the payload has the locate of a security of the market, where a header has it
 abbrev pub may_concern : Content → List ℕ → Bool
@@ -80,6 +86,34 @@ is_located own (Some h) = is_some (finite.get own.securities h.locate)
 abbrev pub concerns : OneStock → Content → Message → Bool
 concerns stock own (is.StockDirectory x) = enters stock x
 concerns stock own message = is_located own (header message)
+
+-- The market applies a message, and this tells whether the best prices of the stock changed; or it refuses the message; or memory runs out
+-- for the market of the stock.
+abbrev pub PassesOne : ChangesRequest → Message → Content → Result Bool Unfollowed → Content → Type 0
+PassesOne request message m (Ok changed) n =
+    (reason m message ≡ None) × (n ≡ laid (effect m message))
+    × (changed ≡ not (same_sides (best request.depth request.stock m) (best request.depth request.stock n)))
+PassesOne request message m (Err (unfollowed.Refused (refused.Rule why))) n = (n ≡ m) × IsRefusal (reason m message) (takes_memory m message) why
+PassesOne request message m (Err (unfollowed.Refused (refused.Codec fault))) n = ⊥
+PassesOne request message m (Err (unfollowed.Write error)) n = ⊥
+PassesOne request message m (Err unfollowed.OutOfMemory) n = (reason m message ≡ None) × (n ≡ laid (effect m message))
+
+-- the market of the stock follows the market, and this tells whether the best prices changed; or memory runs out
+abbrev pub FollowsOne : ChangesRequest → Content → Content → Result Bool Unfollowed → Content → Option ℕ → Sides → Type 0
+FollowsOne request m n (Ok changed) own locate sides =
+    IsFollowing request n own locate sides
+    × (changed ≡ not (same_sides (best request.depth request.stock m) (best request.depth request.stock n)))
+FollowsOne request m n (Err fault) own locate sides = fault ≡ unfollowed.OutOfMemory
+
+-- the best prices are those of this locate, and this tells whether they changed; or memory runs out. Without a locate nothing changes.
+abbrev pub Renews : ℕ → Content → Option ℕ → Sides → Result Bool Unfollowed → Sides → Type 0
+Renews depth own None old (Ok changed) new = (new ≡ old) × (changed ≡ false)
+Renews depth own (Some locate) old (Ok changed) new = (new ≡ best_of depth own.orders locate) × (changed ≡ not (same_sides old new))
+Renews depth own locate old (Err fault) new = fault ≡ unfollowed.OutOfMemory
+
+-- another price, or none, was at this place
+abbrev pub was_other : ℕ → Level → List Level → Bool
+was_other place level xs = not (is_level level (slice_get xs place))
 
 -- the fault if no locate has the stock
 abbrev pub lack_of : OneStock → ToolFault
@@ -115,6 +149,13 @@ module _ {W : Type 0} (contents : W → Option (List ℕ)) (failures : W → Fai
   WritesLines bytes old (Err (unfollowed.Write error)) new = WritesText contents failures bytes old (Err (tool.Write error)) new
   WritesLines bytes old (Err unfollowed.OutOfMemory) new = new ≡ old
   WritesLines bytes old (Err (unfollowed.Refused why)) new = ⊥
+
+  -- the market applies the message with this number, and the lines of its change are written; or it refuses it, or a write failed, or memory
+  -- ran out
+  abbrev pub ListsOne : ChangesRequest → ℕ → Message → Content → W → Result (Unit {0}) Unfollowed → Content → W → Type 0
+  ListsOne request number message m out (Err (unfollowed.Refused why)) m' out' = PassesOne request message m (Err (unfollowed.Refused why)) m' × (out' ≡ out)
+  ListsOne request number message m out result m' out' =
+      (reason m message ≡ None) × (m' ≡ laid (effect m message)) × WritesLines (change request number message m m') out result out'
 
   -- the market takes the message with this number, and the lines of its change are written
   abbrev pub FollowsMessage : ChangesRequest → ℕ → List ℕ → Content → W → Content → W → Type 0

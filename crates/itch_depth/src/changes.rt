@@ -1,8 +1,6 @@
 //! The best prices of one stock after each message that changes them.
-ghost use Rattle.std.specs.Prelude.{◌≡◌, false};
-ghost use Rattle.std.specs.FinMap as map;
-ghost use Rattle.itch_depth.specs.Changes.{HasStock, answer_of, followed};
-ghost use Rattle.itch_depth.specs.Following.{FollowsDay, FollowsPart, IsFollowing};
+ghost use Rattle.std.specs.Prelude.{◌≡◌};
+ghost use Rattle.itch_depth.specs.Following.{FollowsDay, FollowsPart, answer_of};
 
 mod best;
 mod book;
@@ -10,7 +8,7 @@ mod lines;
 mod request;
 mod sink;
 
-use book::Followed;
+use book::{Followed, Unfollowed};
 use itch_book::OrderBook;
 use itch_commands::{Limit, Source, ToolFault};
 use itch_day::{Stop as PartStop, pass_stop, read_part};
@@ -18,7 +16,7 @@ use itch_frame::{BlockReader, CountedRead, CountedWrite};
 use itch_market::{Refused, ReplayEnd, Stop};
 use lines::write_head;
 pub use request::{ChangesRequest, OneStock};
-use sink::{ChangeLines, Unfollowed};
+use sink::ChangeLines;
 use std::alloc::Allocator;
 
 /// Writes the best prices of one stock after each message of a part of a day file that changes them, with the number of the message and its
@@ -34,26 +32,29 @@ pub fn book_changes<R: CountedRead + Drop, A: Allocator, B: OrderBook, W: Counte
     reader: BlockReader<R, A>,
     out: &mut W,
 ) -> Result<bool, ToolFault>
-    ensures { FollowsDay R.remaining R.failures W.contents W.failures limit request.entry reader out.old result out.new }
+    ensures { FollowsDay W.contents W.failures R.remaining R.failures limit request.entry reader out.old result out.new }
 {
     write_head(request.form, request.depth, out)?;
     let mut reader = reader;
-    let mut followed: Followed<'_, B> = Followed::new(alloc, request);
-    follow_part(&mut reader, limit, &mut followed, out)
+    follow_part::<R, A, B, W>(alloc, &mut reader, limit, request, out)
 }
 
 // Writes the lines below the heading.
 fn follow_part<R: CountedRead, A: Allocator, B: OrderBook, W: CountedWrite>(
+    alloc: B::Alloc,
     reader: &mut BlockReader<R, A>,
     limit: Limit,
-    followed: &mut Followed<'_, B>,
+    request: ChangesRequest<'_>,
     out: &mut W,
 ) -> Result<bool, ToolFault>
-    requires { IsFollowing followed.old.request.entry followed.old.market followed.old.own followed.old.locate followed.old.best }
-    ensures { FollowsPart R.remaining R.failures W.contents W.failures limit followed.old.request.entry followed.old.market reader.old reader.new out.old result out.new }
+    ensures { FollowsPart W.contents W.failures R.remaining R.failures limit request.entry reader.old reader.new out.old result out.new }
 {
+    let mut followed: Followed<'_, B> = Followed::new(alloc, request);
     let mut count = 0;
-    let mut lines = ChangeLines { out, followed };
+    let mut lines = ChangeLines {
+        out,
+        followed: &mut followed,
+    };
     let stop = read_part(reader, &mut count, &mut lines, limit);
     pass_stop(reader, &stop);
     let found = lines.found();

@@ -1,7 +1,8 @@
 //! The best prices of a book, as they were last looked at.
-ghost use Rattle.std.specs.Prelude.{◌≡◌, ◌≤◌, ◌<◌, ◌||◌, ◌++◌, ◌∷◌, [], not, take, length, drop, MatchResult, IfOk, ⊤};
+ghost use Rattle.std.specs.Prelude.{◌≡◌, ◌≤◌, not, length, IfOk, slice_set};
 ghost use Rattle.itch_book.specs.Orders.{queue};
-ghost use Rattle.itch_depth.specs.Changes.{PutsLevel, best_of, levels, nothing, same_levels, same_sides};
+ghost use Rattle.itch_depth.specs.Changes.{best_of, levels, nothing, same_levels, same_sides};
+ghost use Rattle.itch_depth.specs.Following.{was_other};
 
 use itch_book::OrderBook;
 use itch_codec::Side;
@@ -87,37 +88,23 @@ fn renew_side<B: OrderBook, A: Allocator>(
     ensures changed { IfOk result (λ changed. changed ≡ not (same_levels known.old.items known.new.items)) }
 {
     let (mut last, mut changed, mut count) = (None, false, 0);
-    while let Some(price) = next_of(book, locate, side, last, depth - count) {
+    for place in 0..depth {
+        let Some(price) = book.next_price(locate, side, last) else {
+            break;
+        };
         let (shares, orders) = book.level_total(locate, side, price);
         let level = Level {
             price,
             shares,
             orders,
         };
-        changed |= put_level(known, count, level)?;
+        changed |= put_level(known, place, level)?;
         last = Some(price);
-        count += 1;
+        count = place + 1;
     }
     changed |= count < known.len();
     known.truncate(count);
     Ok(changed)
-}
-
-// Returns the price after this one, unless no more are requested.
-fn next_of<B: OrderBook>(
-    book: &B,
-    locate: u16,
-    side: Side,
-    last: Option<u32>,
-    left: usize,
-) -> Option<u32>
-    ensures { result ≡ next_of left (next_price (B.orders book.now) locate side last) }
-{
-    if left == 0 {
-        None
-    } else {
-        book.next_price(locate, side, last)
-    }
 }
 
 // Puts a level at a place, or at the end. Returns whether another level or none was there.
@@ -127,7 +114,8 @@ fn put_level<A: Allocator>(
     level: Level,
 ) -> Result<bool, AllocError>
     requires { place ≤ length levels.old.items }
-    ensures { PutsLevel place level levels.old.items result levels.new.items }
+    ensures put { IfOk result (λ _. levels.new.items ≡ slice_set levels.old.items place level) }
+    ensures other { IfOk result (λ is_other. is_other ≡ was_other place level levels.old.items) }
 {
     match levels.get_mut(place) {
         Some(there) => {

@@ -1,19 +1,31 @@
 //! The market of a day, and the book of one stock in it.
-ghost use Rattle.std.specs.Prelude.{◌≡◌, ◌==◌, ◌≤◌, true, false, length, OnOk, MatchResult, IfOk, IfSome, IsTrue};
-ghost use Rattle.itch_codec.specs.Messages.{message_of};
-ghost use Rattle.itch_market.specs.Content.{empty, laid};
+ghost use Rattle.std.specs.Prelude.{◌≡◌, IfOk, None};
+ghost use Rattle.itch_market.specs.Content.{Content as AnyMarket, empty, laid};
 ghost use Rattle.itch_market.specs.Effects.{effect};
 ghost use Rattle.itch_market.specs.Reasons.{reason};
-ghost use Rattle.itch_depth.specs.Changes.{best, best_sides, enters, followed};
-ghost use Rattle.itch_depth.specs.Following.{IsFollowing, IsOwn, concerns, is_about, may_concern};
+ghost use Rattle.itch_depth.specs.Changes.{lines_of};
+ghost use Rattle.itch_depth.specs.Following.{FollowsOne, IsFollowing, PassesOne, Renews, WritesLines, concerns, enters, found_by, may_concern};
 
 use super::best::Best;
+use super::lines::{Change, write_change};
 use super::request::{ChangesRequest, OneStock};
 use itch_book::{IndexedBook, OrderBook};
 use itch_codec::{Message, StockDirectory};
 use itch_commands::ToolFault;
-use itch_market::Market;
-use std::alloc::AllocError;
+use itch_frame::CountedWrite;
+use itch_market::{Market, Refused};
+use std::io::Error;
+
+/// The reason why a message is not followed.
+#[derive(Drop)]
+pub enum Unfollowed {
+    /// The market refuses it.
+    Refused(Refused),
+    /// The market took it, and its lines could not be written.
+    Write(Error),
+    /// The market took it, and memory ran out for the market of the stock.
+    OutOfMemory,
+}
 
 /// The market of a day, and the best prices of one stock in it.
 ///
@@ -33,7 +45,7 @@ pub struct Followed<'a, B: OrderBook> {
 impl<'a, B: OrderBook> Followed<'a, B> {
     /// Creates the empty market, without allocating.
     pub fn new(alloc: B::Alloc, request: ChangesRequest<'a>) -> Followed<'a, B>
-        ensures request { result.request.entry ≡ request.entry }
+        ensures request { result.request ≡ request.entry }
         ensures market { result.market ≡ empty }
         ensures following { IsFollowing request.entry result.market result.own result.locate result.best }
     {
@@ -44,27 +56,6 @@ impl<'a, B: OrderBook> Followed<'a, B> {
             locate: None,
             best: Best::new(alloc),
         }
-    }
-
-    /// Returns the locate of the stock, if the directory has it.
-    pub fn locate(&self) -> Option<u16>
-        ensures { result ≡ self.now.locate }
-    {
-        self.locate
-    }
-
-    /// Returns the market of the stock alone.
-    pub fn own(&self) -> &Market<IndexedBook<B::Alloc>>
-        ensures { result.now ≡ self.now.own }
-    {
-        &self.own
-    }
-
-    /// Returns the best prices of the stock.
-    pub fn best(&self) -> &Best<B::Alloc>
-        ensures { result.now ≡ self.now.best }
-    {
-        &self.best
     }
 
     /// Returns whether the message of a payload may be about the stock. A new entry of the directory may be, too.
@@ -81,10 +72,26 @@ impl<'a, B: OrderBook> Followed<'a, B> {
         }
     }
 
-    /// Follows a message that the market took, and returns whether the best prices of the stock have changed.
-    pub fn follow(&mut self, message: &Message<'_>) -> Result<bool, AllocError>
-        ensures follows { IfOk result (λ changed. FollowsOne self.old.request.entry message.now self.old.own self.old.locate self.old.best changed self.new.own self.new.locate self.new.best) }
-        ensures request { self.new.request.entry ≡ self.old.request.entry }
+    /// Applies a message, and returns whether the best prices of the stock have changed. After a fault nothing more can be followed.
+    #[inline(always)]
+    pub fn pass(&mut self, message: &Message<'_>) -> Result<bool, Unfollowed>
+        requires { IsFollowing self.old.request self.old.market self.old.own self.old.locate self.old.best }
+        ensures passes { PassesOne self.old.request message.now self.old.market result self.new.market }
+        ensures following { IfOk result (λ _. IsFollowing self.new.request self.new.market self.new.own self.new.locate self.new.best) }
+        ensures request { self.new.request ≡ self.old.request }
+    {
+        match self.market.apply(message) {
+            Ok(()) => self.follow(message),
+            Err(why) => Err(Unfollowed::Refused(Refused::Rule(why))),
+        }
+    }
+
+    // Follows a message that the market took.
+    fn follow(&mut self, message: &Message<'_>) -> Result<bool, Unfollowed>
+        ensures follows { (before : AnyMarket) → IsFollowing self.old.request before self.old.own self.old.locate self.old.best
+            → reason before message.now ≡ None → laid before ≡ before → self.old.market ≡ laid (effect before message.now)
+            → FollowsOne self.old.request before self.old.market result self.new.own self.new.locate self.new.best }
+        ensures request { self.new.request ≡ self.old.request }
         ensures market { self.new.market ≡ self.old.market }
     {
         if !self.concerns(message) {
@@ -92,14 +99,27 @@ impl<'a, B: OrderBook> Followed<'a, B> {
         }
         if self.own.apply(message).is_err() {
             // The whole market took the message, so only memory can be lacking.
-            return Err(AllocError);
+            return Err(Unfollowed::OutOfMemory);
         }
         if let Message::StockDirectory(_) = message {
             self.locate = self.own.locates().next();
         }
-        match self.locate {
-            Some(locate) => self.best.renew(self.own.book(), locate, self.request.depth),
-            None => Ok(false),
+        self.renew()
+    }
+
+    // Looks at the best prices of the stock, and returns whether they have changed.
+    fn renew(&mut self) -> Result<bool, Unfollowed>
+        ensures renewed { Renews self.old.request.depth self.old.own self.old.locate self.old.best result self.new.best }
+        ensures kept { (self.new.own ≡ self.old.own) × (self.new.locate ≡ self.old.locate) }
+        ensures request { self.new.request ≡ self.old.request }
+        ensures market { self.new.market ≡ self.old.market }
+    {
+        let Some(locate) = self.locate else {
+            return Ok(false);
+        };
+        match self.best.renew(self.own.book(), locate, self.request.depth) {
+            Ok(changed) => Ok(changed),
+            Err(_error) => Err(Unfollowed::OutOfMemory),
         }
     }
 
@@ -123,6 +143,38 @@ impl<'a, B: OrderBook> Followed<'a, B> {
         match self.request.stock {
             OneStock::Locate(locate) => x.header.locate == locate,
             OneStock::Named(name) => x.entry.stock.text() == name,
+        }
+    }
+
+    /// Writes the best prices of the stock after the message with this number, which has this time.
+    pub fn write<W: CountedWrite>(
+        &self,
+        number: u64,
+        time: u64,
+        out: &mut W,
+    ) -> Result<(), Unfollowed>
+        requires { IsFollowing self.now.request self.now.market self.now.own self.now.locate self.now.best }
+        ensures { WritesLines W.contents W.failures (lines_of self.now.request number time self.now.market) out.old result out.new }
+    {
+        let Some(locate) = self.locate else {
+            return Ok(());
+        };
+        let Some(security) = self.own.security(locate) else {
+            return Ok(());
+        };
+        let stock = security.entry.stock;
+        let change = Change {
+            number,
+            time,
+            locate,
+            stock: stock.text(),
+            bids: self.best.bids(),
+            asks: self.best.asks(),
+        };
+        match write_change(self.request.form, self.request.depth, &change, out) {
+            Ok(()) => Ok(()),
+            Err(ToolFault::Write(error)) => Err(Unfollowed::Write(error)),
+            Err(_) => unreachable!(),
         }
     }
 

@@ -1,11 +1,10 @@
 //! The lines of a change of the best prices, in each form.
-ghost use Rattle.std.specs.Prelude.{◌≡◌, ◌≤◌, ◌++◌, ◌∷◌, [], length};
+ghost use Rattle.std.specs.Prelude.{◌≡◌, ◌+◌, ◌≤◌, ◌++◌, length};
 ghost use Rattle.std.specs.Option.{option_copied};
-ghost use Rattle.itch_codec.specs.Fields.{side_byte};
 ghost use Rattle.itch_commands.specs.Outputs.{WritesText};
 ghost use Rattle.itch_commands.specs.Forms.{level_line, title_line};
 ghost use Rattle.itch_commands.specs.declared.form.BookForm.TheVariants as book;
-ghost use Rattle.itch_depth.specs.Changes.{Sides, cells_of, cells, change_head, change_line, columns, csv_line, front, front_line, json_level, json_levels, json_line, level_lines, text_lines};
+ghost use Rattle.itch_depth.specs.Changes.{cells, cells_of, change_head, change_line, columns, csv_line, front, json_level, json_levels, json_line, level_lines, members, text_lines};
 
 use super::best::Level;
 use itch_codec::Side;
@@ -159,7 +158,7 @@ fn write_cells<W: CountedWrite>(
 
 // Returns the number and the time of a message in front of a line.
 fn front(form: BookForm, number: u64, time: u64) -> Line
-    ensures text { result ≡ front form number time }
+    ensures { result ≡ front form number time }
 {
     let mut line = Line::new();
     match form {
@@ -247,7 +246,7 @@ fn json_level(level: &Level) -> Line
 
 // Returns the columns of an ask and a bid.
 fn cells(ask: Option<&Level>, bid: Option<&Level>) -> Line
-    ensures { result ≡ cells (option_copied ask) (option_copied bid) }
+    ensures { result ≡ cells (option_copied ask.entry) (option_copied bid.entry) }
 {
     let mut line = Line::new();
     push_cells(&mut line, ask);
@@ -258,7 +257,7 @@ fn cells(ask: Option<&Level>, bid: Option<&Level>) -> Line
 // Appends the columns of a price: the price and its shares, or two empty ones.
 fn push_cells(line: &mut Line, level: Option<&Level>)
     requires { length line.old ≤ 128 }
-    ensures text { line.new ≡ line.old ++ cells_of (option_copied level) }
+    ensures text { line.new ≡ line.old ++ cells_of (option_copied level.entry) }
     ensures short { length line.new ≤ length line.old + 87 }
 {
     line.text(b",");

@@ -1,33 +1,20 @@
 //! Writes the lines of a day's messages that change the best prices of one stock, one after another.
-ghost use Rattle.std.specs.Prelude.{◌≡◌};
-ghost use Rattle.itch_depth.specs.Changes.{found_by};
+ghost use Rattle.std.specs.Prelude.{◌≡◌, IfOk};
+ghost use Rattle.itch_depth.specs.Following.{IsFollowing, ListsOne, found_by};
 
-use super::book::Followed;
-use super::lines::{Change, write_change};
+use super::book::{Followed, Unfollowed};
 use itch_book::OrderBook;
 use itch_codec::{CodecFault, Message};
 use itch_commands::ToolFault;
 use itch_day::Sink;
 use itch_frame::CountedWrite;
 use itch_market::Refused;
-use std::io::Error;
 
 /// Applies the messages of a day to a market, and writes the lines of those that change the best prices of the stock.
 #[derive(Drop)]
 pub struct ChangeLines<'a, 'b, 'c, B: OrderBook, W: CountedWrite> {
     pub out: &'b mut W,
     pub followed: &'c mut Followed<'a, B>,
-}
-
-/// The reason why a message is not followed.
-#[derive(Drop)]
-pub enum Unfollowed {
-    /// The market refuses it.
-    Refused(Refused),
-    /// The market took it, and its line could not be written.
-    Write(Error),
-    /// The market took it, and memory ran out for the book of the stock.
-    OutOfMemory,
 }
 
 impl<'a, 'b, 'c, B: OrderBook, W: CountedWrite> ChangeLines<'a, 'b, 'c, B, W> {
@@ -38,38 +25,20 @@ impl<'a, 'b, 'c, B: OrderBook, W: CountedWrite> ChangeLines<'a, 'b, 'c, B, W> {
         self.followed.found()
     }
 
-    // Follows a message with this number that the market took, and writes its line.
-    fn follow(&mut self, number: u64, message: &Message<'_>) -> Result<(), Unfollowed> {
-        match self.followed.follow(message) {
-            Ok(true) => self.write(number, message.time().unwrap_or(0)),
-            Ok(false) => Ok(()),
-            Err(_error) => Err(Unfollowed::OutOfMemory),
-        }
-    }
-
-    // Writes the best prices of the stock after the message with this number.
-    fn write(&mut self, number: u64, time: u64) -> Result<(), Unfollowed> {
-        let Some(locate) = self.followed.locate() else {
-            return Ok(());
-        };
-        let Some(security) = self.followed.own().security(locate) else {
-            return Ok(());
-        };
-        let stock = security.entry.stock;
-        let best = self.followed.best();
-        let change = Change {
-            number,
-            time,
-            locate,
-            stock: stock.text(),
-            bids: best.bids(),
-            asks: best.asks(),
-        };
-        let request = self.followed.request;
-        match write_change(request.form, request.depth, &change, self.out) {
-            Ok(()) => Ok(()),
-            Err(ToolFault::Write(error)) => Err(Unfollowed::Write(error)),
-            Err(_) => unreachable!(),
+    // Applies the message with this number, and writes its lines.
+    #[inline(always)]
+    fn pass(&mut self, number: u64, message: &Message<'_>) -> Result<(), Unfollowed>
+        requires { IsFollowing self.old.followed.now.request self.old.followed.now.market self.old.followed.now.own self.old.followed.now.locate self.old.followed.now.best }
+        ensures lists { ListsOne W.contents W.failures self.old.followed.now.request number message.now self.old.followed.now.market self.old.out.now result self.new.followed.now.market self.new.out.now }
+        ensures following { IfOk result (λ _. IsFollowing self.new.followed.now.request self.new.followed.now.market self.new.followed.now.own self.new.followed.now.locate self.new.followed.now.best) }
+        ensures request { self.new.followed.now.request ≡ self.old.followed.now.request }
+        ensures names { (self.new.out.ghost_name ≡ self.old.out.ghost_name) × (self.new.followed.ghost_name ≡ self.old.followed.ghost_name) }
+    {
+        if self.followed.pass(message)? {
+            let time = message.time().unwrap_or(0);
+            self.followed.write(number, time, self.out)
+        } else {
+            Ok(())
         }
     }
 }
@@ -80,14 +49,14 @@ impl<'a, 'b, 'c, B: OrderBook, W: CountedWrite> Sink for ChangeLines<'a, 'b, 'c,
 
     type Fault = Unfollowed;
 
-    ghost is_ready = { λ s _. IsFollowing s.followed.now.request.entry s.followed.now.market s.followed.now.own s.followed.now.locate s.followed.now.best };
+    ghost is_ready = { λ s _. IsFollowing s.followed.now.request s.followed.now.market s.followed.now.own s.followed.now.locate s.followed.now.best };
 
     ghost takes = { λ s number payload t. (t.out.ghost_name ≡ s.out.ghost_name) × (t.followed.ghost_name ≡ s.followed.ghost_name)
-        × (t.followed.now.request.entry ≡ s.followed.now.request.entry)
-        × FollowsMessage W.contents W.failures s.followed.now.request.entry number payload s.followed.now.market s.out.now t.followed.now.market t.out.now };
+        × (t.followed.now.request ≡ s.followed.now.request)
+        × FollowsMessage W.contents W.failures s.followed.now.request number payload s.followed.now.market s.out.now t.followed.now.market t.out.now };
 
     ghost refuses = { λ s number payload why t. (t.out.ghost_name ≡ s.out.ghost_name) × (t.followed.ghost_name ≡ s.followed.ghost_name)
-        × LeavesMessage W.contents W.failures s.followed.now.request.entry number payload s.followed.now.market s.out.now why t.followed.now.market t.out.now };
+        × LeavesMessage W.contents W.failures s.followed.now.request number payload s.followed.now.market s.out.now why t.followed.now.market t.out.now };
 
     #[inline(always)]
     fn take(
@@ -98,10 +67,7 @@ impl<'a, 'b, 'c, B: OrderBook, W: CountedWrite> Sink for ChangeLines<'a, 'b, 'c,
     ) -> Result<(), Unfollowed> {
         let _payload = payload;
         match message {
-            Ok(decoded) => match self.followed.market.apply(decoded) {
-                Ok(()) => self.follow(number, decoded),
-                Err(why) => Err(Unfollowed::Refused(Refused::Rule(why))),
-            },
+            Ok(decoded) => self.pass(number, decoded),
             Err(fault) => Err(Unfollowed::Refused(Refused::Codec(*fault))),
         }
     }
