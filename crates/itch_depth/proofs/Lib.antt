@@ -3,3 +3,4 @@ pub mod OneTime
 pub mod PartsOfDays
 pub mod TimesInTurn
 pub mod MultiplesInTurn
+pub mod PartsInTurn

@@ -98,10 +98,14 @@ text_lines number time locate stock sides =
 abbrev pub json_level : Level → List ℕ
 json_level x = codes "{\"price\":\"" ++ price_text x.price ++ codes "\",\"shares\":" ++ decimal x.shares ++ codes ",\"orders\":" ++ decimal x.orders ++ codes "}"
 
+-- the object of a price after another one
+abbrev pub next_level : Level → List ℕ
+next_level x = 44 ∷ json_level x
+
 -- the objects of the prices of a side, with commas between them
 abbrev pub json_levels : List Level → List ℕ
 json_levels [] = []
-json_levels (x ∷ xs) = json_level x ++ flat_map (λ y. 44 ∷ json_level y) xs
+json_levels (x ∷ xs) = json_level x ++ flat_map next_level xs
 
 -- the members of an object up to the first price
 abbrev pub members : ℕ → List ℕ → List ℕ
@@ -110,7 +114,8 @@ members locate stock = codes "\"locate\":" ++ decimal locate ++ codes ",\"stock\
 -- an object of JSON
 abbrev pub json_line : ℕ → ℕ → ℕ → List ℕ → Sides → List ℕ
 json_line number time locate stock sides =
-    front book.Json number time ++ members locate stock ++ json_levels sides.bids ++ codes "],\"asks\":[" ++ json_levels sides.asks ++ codes "]}\n"
+    front book.Json number time
+    ++ (members locate stock ++ (json_levels sides.bids ++ (codes "],\"asks\":[" ++ (json_levels sides.asks ++ codes "]}\n"))))
 
 -- the columns of a price: the price and its shares, or two empty ones
 abbrev pub cells_of : Option Level → List ℕ
@@ -121,10 +126,14 @@ cells_of (Some x) = 44 ∷ (price_text x.price ++ 44 ∷ decimal x.shares)
 abbrev pub cells : Option Level → Option Level → List ℕ
 cells ask bid = cells_of ask ++ cells_of bid
 
+-- the columns of the ask and the bid at a place, which is counted from 0
+abbrev pub cells_at : List Level → List Level → ℕ → List ℕ
+cells_at asks bids place = cells (slice_get asks place) (slice_get bids place)
+
 -- comma-separated values: the number, the time, and for each of that many places the ask and the bid at it
 abbrev pub csv_line : ℕ → ℕ → ℕ → Sides → List ℕ
 csv_line depth number time sides =
-    front book.Csv number time ++ (flat_map (λ place. cells (slice_get sides.asks place) (slice_get sides.bids place)) (range_with_len 0 depth) ++ 10 ∷ [])
+    front book.Csv number time ++ (flat_map (cells_at sides.asks sides.bids) (range_with_len 0 depth) ++ 10 ∷ [])
 
 -- the names of the columns of a place, which is counted from 0
 abbrev pub columns : ℕ → List ℕ
@@ -136,7 +145,7 @@ columns place =
 abbrev pub change_head : BookForm → ℕ → List ℕ
 change_head book.Text depth = []
 change_head book.Json depth = []
-change_head book.Csv depth = codes "message,time" ++ flat_map columns (range_with_len 0 depth) ++ 10 ∷ []
+change_head book.Csv depth = codes "message,time" ++ (flat_map columns (range_with_len 0 depth) ++ 10 ∷ [])
 
 -- the lines of a change
 abbrev pub change_line : BookForm → ℕ → ℕ → ℕ → ℕ → List ℕ → Sides → List ℕ

@@ -1,5 +1,5 @@
 -- The input, the output and the result of `book --changes`. A file is refused where `check` refuses it, after the lines before.
-use Rattle.std.specs.Prelude.{◌≡◌, ◌⊎◌, ℕ, ◌+◌, ◌*◌, ◌==◌, Bool, true, false, not, List, [], ◌∷◌, ◌++◌, bytes_eq, length, map, slice_get, Option, None, Some, is_some, option_map, Result, Ok, Err}
+use Rattle.std.specs.Prelude.{◌≡◌, ◌⊎◌, ℕ, ◌+◌, ◌*◌, ◌==◌, Bool, true, false, not, List, [], ◌∷◌, ◌++◌, bytes_eq, drop, length, map, slice_get, take, Option, None, Some, is_some, option_map, Result, Ok, Err}
 use Rattle.std.specs.Io.KnownBytes.{Consumes}
 use Rattle.std.specs.List.{filter}
 use Rattle.std.specs.FinMap as finite
@@ -110,6 +110,10 @@ abbrev pub Renews : ℕ → Content → Option ℕ → Sides → Result Bool Unf
 Renews depth own None old (Ok changed) new = (new ≡ old) × (changed ≡ false)
 Renews depth own (Some locate) old (Ok changed) new = (new ≡ best_of depth own.orders locate) × (changed ≡ not (same_sides old new))
 Renews depth own locate old (Err fault) new = fault ≡ unfollowed.OutOfMemory
+
+-- the prices of a side with this one at a place, or at the end
+abbrev pub with_level : ℕ → Level → List Level → List Level
+with_level place level xs = take place xs ++ level ∷ drop (place + 1) xs
 
 -- another price, or none, was at this place
 abbrev pub was_other : ℕ → Level → List Level → Bool

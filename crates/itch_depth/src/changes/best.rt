@@ -1,8 +1,8 @@
 //! The best prices of a book, as they were last looked at.
-ghost use Rattle.std.specs.Prelude.{◌≡◌, ◌≤◌, not, length, IfOk, slice_set};
+ghost use Rattle.std.specs.Prelude.{◌≡◌, ◌≤◌, not, length, IfOk};
 ghost use Rattle.itch_book.specs.Orders.{queue};
 ghost use Rattle.itch_depth.specs.Changes.{best_of, levels, nothing, same_levels, same_sides};
-ghost use Rattle.itch_depth.specs.Following.{was_other};
+ghost use Rattle.itch_depth.specs.Following.{was_other, with_level};
 
 use itch_book::OrderBook;
 use itch_codec::Side;
@@ -114,7 +114,7 @@ fn put_level<A: Allocator>(
     level: Level,
 ) -> Result<bool, AllocError>
     requires { place ≤ length levels.old.items }
-    ensures put { IfOk result (λ _. levels.new.items ≡ slice_set levels.old.items place level) }
+    ensures put { IfOk result (λ _. levels.new.items ≡ with_level place level levels.old.items) }
     ensures other { IfOk result (λ is_other. is_other ≡ was_other place level levels.old.items) }
 {
     match levels.get_mut(place) {

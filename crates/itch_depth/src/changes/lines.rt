@@ -1,10 +1,11 @@
 //! The lines of a change of the best prices, in each form.
 ghost use Rattle.std.specs.Prelude.{◌≡◌, ◌+◌, ◌≤◌, ◌++◌, length};
+ghost use Rattle.std.specs.List.{flat_map, range_with_len};
 ghost use Rattle.std.specs.Option.{option_copied};
 ghost use Rattle.itch_commands.specs.Outputs.{WritesText};
 ghost use Rattle.itch_commands.specs.Forms.{level_line, title_line};
 ghost use Rattle.itch_commands.specs.declared.form.BookForm.TheVariants as book;
-ghost use Rattle.itch_depth.specs.Changes.{cells, cells_of, change_head, change_line, columns, csv_line, front, json_level, json_levels, json_line, level_lines, members, text_lines};
+ghost use Rattle.itch_depth.specs.Changes.{cells, cells_at, cells_of, change_head, change_line, columns, csv_line, front, json_level, json_levels, json_line, level_lines, members, next_level, text_lines};
 
 use super::best::Level;
 use itch_codec::Side;
@@ -42,10 +43,18 @@ fn write_columns<W: CountedWrite>(depth: usize, out: &mut W) -> Result<(), ToolF
     ensures { WritesText W.contents W.failures (change_head book.Csv depth) out.old result out.new }
 {
     write_text(b"message,time", out)?;
+    write_names(depth, out)?;
+    write_text(b"\n", out)
+}
+
+// Writes the names of the columns of the prices.
+fn write_names<W: CountedWrite>(depth: usize, out: &mut W) -> Result<(), ToolFault>
+    ensures { WritesText W.contents W.failures (flat_map columns (range_with_len 0 depth)) out.old result out.new }
+{
     for place in 0..depth {
         write_text(columns(place).as_bytes(), out)?;
     }
-    write_text(b"\n", out)
+    Ok(())
 }
 
 // Returns the names of the columns of a price of each side.
@@ -104,10 +113,22 @@ fn write_levels<W: CountedWrite>(
     ensures { WritesText W.contents W.failures (level_lines front.now side levels.now) out.old result out.new }
 {
     for level in levels {
-        write_text(front.as_bytes(), out)?;
-        write_text(level_line(side, level).as_bytes(), out)?;
+        write_level(front, side, level, out)?;
     }
     Ok(())
+}
+
+// Writes the line of a price.
+fn write_level<W: CountedWrite>(
+    front: &Line,
+    side: Side,
+    level: &Level,
+    out: &mut W,
+) -> Result<(), ToolFault>
+    ensures { WritesText W.contents W.failures (front.now ++ level_line side level.now.price level.now.shares level.now.orders) out.old result out.new }
+{
+    write_text(front.as_bytes(), out)?;
+    write_text(level_line(side, level).as_bytes(), out)
 }
 
 // Writes an object of JSON.
@@ -132,9 +153,15 @@ fn write_array<W: CountedWrite>(levels: &[Level], out: &mut W) -> Result<(), Too
         return Ok(());
     };
     write_text(json_level(first).as_bytes(), out)?;
-    for level in rest {
-        write_text(b",", out)?;
-        write_text(json_level(level).as_bytes(), out)?;
+    write_rest(rest, out)
+}
+
+// Writes the prices after the first one.
+fn write_rest<W: CountedWrite>(levels: &[Level], out: &mut W) -> Result<(), ToolFault>
+    ensures { WritesText W.contents W.failures (flat_map next_level levels.now) out.old result out.new }
+{
+    for level in levels {
+        write_text(next_level(level).as_bytes(), out)?;
     }
     Ok(())
 }
@@ -149,11 +176,23 @@ fn write_cells<W: CountedWrite>(
 {
     let front = front(BookForm::Csv, change.number, change.time);
     write_text(front.as_bytes(), out)?;
+    write_places(depth, change, out)?;
+    write_text(b"\n", out)
+}
+
+// Writes the columns of the prices.
+fn write_places<W: CountedWrite>(
+    depth: usize,
+    change: &Change<'_>,
+    out: &mut W,
+) -> Result<(), ToolFault>
+    ensures { WritesText W.contents W.failures (flat_map (cells_at change.now.asks.now change.now.bids.now) (range_with_len 0 depth)) out.old result out.new }
+{
     for place in 0..depth {
         let cells = cells(change.asks.get(place), change.bids.get(place));
         write_text(cells.as_bytes(), out)?;
     }
-    write_text(b"\n", out)
+    Ok(())
 }
 
 // Returns the number and the time of a message in front of a line.
@@ -241,6 +280,16 @@ fn json_level(level: &Level) -> Line
     line.text(b",\"orders\":");
     line.number(level.orders);
     line.text(b"}");
+    line
+}
+
+// Returns a comma and the object of a price.
+fn next_level(level: &Level) -> Line
+    ensures { result ≡ next_level level.now }
+{
+    let mut line = Line::new();
+    line.text(b",");
+    line.text(json_level(level).as_bytes());
     line
 }
 

@@ -1,0 +1,43 @@
+-- The parts of a text, written one after another.
+use Rattle.std.proofs.Common.{◌≡◌, ℕ, ◌+◌, ◌<◌, ◌≤◌, List, [], ◌∷◌, ◌++◌, flat_map, length, take, drop, Option, Ok, Err, refl, sym, ap, subst, ◌∙◌, append-nil, arith, get_or}
+use Rattle.std.proofs.KnownBytes.{Appends-nil}
+use Rattle.std.proofs.lemmas.List.{flat_map_more, take-append-drop, take_all, take_more}
+use Rattle.std.proofs.lemmas.Grind.{flat_map-append}
+use Rattle.itch_frame.specs.declared.tally.Failures.{Failures}
+use Rattle.itch_commands.specs.declared.fault.ToolFault.{ToolFault}
+use Rattle.itch_commands.specs.Outputs.{WritesText}
+use Rattle.itch_commands.proofs.JoinedTexts.{text_then, text_fails}
+
+module _ {W X : Type 0} (contents : W → Option (List ℕ)) (failures : W → Failures) (part : X → List ℕ) (all : List X) (old : W) where
+  -- the first parts were written
+  abbrev pub AreWritten : ℕ → W → Type 0
+  AreWritten i new = WritesText contents failures (flat_map part (take i all)) old (Ok tt) new
+
+  pub none_written : AreWritten 0 old
+  none_written = (Appends-nil (contents old), refl)
+
+  -- one more is
+  pub one_written : (i : ℕ) (mid new : W) (x : X) → i < length all → get_or all i x ≡ x → AreWritten i mid → WritesText contents failures (part x) mid (Ok tt) new
+      → AreWritten (i + 1) new
+  one_written i mid new x within there so_far written =
+      let more : take (i + 1) all ≡ take i all ++ x ∷ [] = take_more all i x within ∙ ap (λ y. take i all ++ y ∷ []) there in
+      subst (λ text. WritesText contents failures text old (Ok tt) new) (flat_map_more part [] (take i all) x ∙ ap (flat_map part) (sym more))
+      (text_then contents failures (flat_map part (take i all)) (part x) old mid new (Ok tt) so_far written)
+
+  -- a write failed within one
+  pub one_fails : (i : ℕ) (mid new : W) (x : X) (fault : ToolFault) → i < length all → get_or all i x ≡ x → AreWritten i mid
+      → WritesText contents failures (part x) mid (Err fault) new → WritesText contents failures (flat_map part all) old (Err fault) new
+  one_fails i mid new x fault within there so_far written =
+      let rest : List ℕ = flat_map part (drop (i + 1) all) in
+      let more : take (i + 1) all ≡ take i all ++ x ∷ [] = take_more all i x within ∙ ap (λ y. take i all ++ y ∷ []) there in
+      let first : flat_map part (take (i + 1) all) ≡ flat_map part (take i all) ++ part x =
+      ap (flat_map part) more ∙ sym (flat_map_more part [] (take i all) x) in
+      let whole : flat_map part all ≡ (flat_map part (take i all) ++ part x) ++ rest =
+      ap (flat_map part) (sym (take-append-drop (i + 1) all)) ∙ flat_map-append part (take (i + 1) all) (drop (i + 1) all) ∙ ap (λ text. text ++ rest) first in
+      subst (λ text. WritesText contents failures text old (Err fault) new) (sym whole)
+      (text_fails contents failures (flat_map part (take i all) ++ part x) rest old new fault
+      (text_then contents failures (flat_map part (take i all)) (part x) old mid new (Err fault) so_far written))
+
+  -- all are
+  pub all_written : (i : ℕ) (new : W) → length all ≤ i → AreWritten i new → WritesText contents failures (flat_map part all) old (Ok tt) new
+  all_written i new past so_far = subst (λ xs. WritesText contents failures (flat_map part xs) old (Ok tt) new) (take_all i all past) so_far
