@@ -16,27 +16,28 @@ module _ {W X : Type 0} (contents : W → Option (List ℕ)) (failures : W → F
   pub none_written : AreWritten 0 old
   none_written = (Appends-nil (contents old), refl)
 
-  -- one more is
-  pub one_written : (i : ℕ) (mid new : W) (x : X) → i < length all → get_or all i x ≡ x → AreWritten i mid → WritesText contents failures (part x) mid (Ok tt) new
-      → AreWritten (i + 1) new
-  one_written i mid new x within there so_far written =
-      let more : take (i + 1) all ≡ take i all ++ x ∷ [] = take_more all i x within ∙ ap (λ y. take i all ++ y ∷ []) there in
-      subst (λ text. WritesText contents failures text old (Ok tt) new) (flat_map_more part [] (take i all) x ∙ ap (flat_map part) (sym more))
-      (text_then contents failures (flat_map part (take i all)) (part x) old mid new (Ok tt) so_far written)
+  module _ (i : ℕ) (d : X) (within : i < length all) where
+    more : take (i + 1) all ≡ take i all ++ get_or all i d ∷ []
+    more = take_more all i d within
 
-  -- a write failed within one
-  pub one_fails : (i : ℕ) (mid new : W) (x : X) (fault : ToolFault) → i < length all → get_or all i x ≡ x → AreWritten i mid
-      → WritesText contents failures (part x) mid (Err fault) new → WritesText contents failures (flat_map part all) old (Err fault) new
-  one_fails i mid new x fault within there so_far written =
-      let rest : List ℕ = flat_map part (drop (i + 1) all) in
-      let more : take (i + 1) all ≡ take i all ++ x ∷ [] = take_more all i x within ∙ ap (λ y. take i all ++ y ∷ []) there in
-      let first : flat_map part (take (i + 1) all) ≡ flat_map part (take i all) ++ part x =
-      ap (flat_map part) more ∙ sym (flat_map_more part [] (take i all) x) in
-      let whole : flat_map part all ≡ (flat_map part (take i all) ++ part x) ++ rest =
-      ap (flat_map part) (sym (take-append-drop (i + 1) all)) ∙ flat_map-append part (take (i + 1) all) (drop (i + 1) all) ∙ ap (λ text. text ++ rest) first in
-      subst (λ text. WritesText contents failures text old (Err fault) new) (sym whole)
-      (text_fails contents failures (flat_map part (take i all) ++ part x) rest old new fault
-      (text_then contents failures (flat_map part (take i all)) (part x) old mid new (Err fault) so_far written))
+    -- one more is
+    pub one_written : (mid new : W) → AreWritten i mid → WritesText contents failures (part (get_or all i d)) mid (Ok tt) new → AreWritten (i + 1) new
+    one_written mid new so_far written =
+        subst (λ text. WritesText contents failures text old (Ok tt) new) (flat_map_more part [] (take i all) (get_or all i d) ∙ ap (flat_map part) (sym more))
+        (text_then contents failures (flat_map part (take i all)) (part (get_or all i d)) old mid new (Ok tt) so_far written)
+
+    -- a write failed within one
+    pub one_fails : (mid new : W) (fault : ToolFault) → AreWritten i mid → WritesText contents failures (part (get_or all i d)) mid (Err fault) new
+        → WritesText contents failures (flat_map part all) old (Err fault) new
+    one_fails mid new fault so_far written =
+        let x : X = get_or all i d in
+        let rest : List ℕ = flat_map part (drop (i + 1) all) in
+        let first : flat_map part (take (i + 1) all) ≡ flat_map part (take i all) ++ part x = ap (flat_map part) more ∙ sym (flat_map_more part [] (take i all) x) in
+        let whole : flat_map part all ≡ (flat_map part (take i all) ++ part x) ++ rest =
+        ap (flat_map part) (sym (take-append-drop (i + 1) all)) ∙ flat_map-append part (take (i + 1) all) (drop (i + 1) all) ∙ ap (λ text. text ++ rest) first in
+        subst (λ text. WritesText contents failures text old (Err fault) new) (sym whole)
+        (text_fails contents failures (flat_map part (take i all) ++ part x) rest old new fault
+        (text_then contents failures (flat_map part (take i all)) (part x) old mid new (Err fault) so_far written))
 
   -- all are
   pub all_written : (i : ℕ) (new : W) → length all ≤ i → AreWritten i new → WritesText contents failures (flat_map part all) old (Ok tt) new

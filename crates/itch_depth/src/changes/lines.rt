@@ -270,7 +270,8 @@ fn members(locate: u16, stock: &str) -> Line
 
 // Returns the object of a price.
 fn json_level(level: &Level) -> Line
-    ensures { result ≡ json_level level.now }
+    ensures text { result ≡ json_level level.now }
+    ensures short { length result ≤ 160 }
 {
     let mut line = Line::new();
     line.text(b"{\"price\":\"");
