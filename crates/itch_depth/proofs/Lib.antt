@@ -4,3 +4,4 @@ pub mod PartsOfDays
 pub mod TimesInTurn
 pub mod MultiplesInTurn
 pub mod PartsInTurn
+pub mod JsonArrays

@@ -3,6 +3,8 @@ use Rattle.std.proofs.Common.{◌≡◌, ℕ, ◌+◌, ◌<◌, ◌≤◌, List,
 use Rattle.std.proofs.KnownBytes.{Appends-nil}
 use Rattle.std.proofs.lemmas.List.{flat_map_more, take-append-drop, take_all, take_more}
 use Rattle.std.proofs.lemmas.Grind.{flat_map-append}
+use Rattle.std.proofs.lemmas.List.FromFn.{get_or-range_with_len, length-range_with_len}
+use Rattle.std.specs.List.{range_with_len}
 use Rattle.itch_frame.specs.declared.tally.Failures.{Failures}
 use Rattle.itch_commands.specs.declared.fault.ToolFault.{ToolFault}
 use Rattle.itch_commands.specs.Outputs.{WritesText}
@@ -42,3 +44,13 @@ module _ {W X : Type 0} (contents : W → Option (List ℕ)) (failures : W → F
   -- all are
   pub all_written : (i : ℕ) (new : W) → length all ≤ i → AreWritten i new → WritesText contents failures (flat_map part all) old (Ok tt) new
   all_written i new past so_far = subst (λ xs. WritesText contents failures (flat_map part xs) old (Ok tt) new) (take_all i all past) so_far
+
+-- the places below a number
+pub place_at : (depth i : ℕ) → i < depth → get_or (range_with_len 0 depth) i 0 ≡ i
+place_at depth i within = omega (arith, get_or-range_with_len 0 depth i 0 within)
+
+pub is_place : (depth i : ℕ) → i < depth → i < length (range_with_len 0 depth)
+is_place depth i within = omega (arith, length-range_with_len 0 depth)
+
+pub past_places : (depth i : ℕ) → depth ≤ i → length (range_with_len 0 depth) ≤ i
+past_places depth i past = omega (arith, length-range_with_len 0 depth)

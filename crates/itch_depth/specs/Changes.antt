@@ -91,8 +91,8 @@ level_lines ahead side xs = flat_map (λ (x : Level). ahead ++ level_line side x
 -- lines of text: that of the stock, the bids, and the asks
 abbrev pub text_lines : ℕ → ℕ → ℕ → List ℕ → Sides → List ℕ
 text_lines number time locate stock sides =
-    (front book.Text number time ++ title_line locate stock)
-    ++ (level_lines (front book.Text number time) Buy sides.bids ++ level_lines (front book.Text number time) Sell sides.asks)
+    front book.Text number time
+    ++ (title_line locate stock ++ (level_lines (front book.Text number time) Buy sides.bids ++ level_lines (front book.Text number time) Sell sides.asks))
 
 -- the object of a price
 abbrev pub json_level : Level → List ℕ
