@@ -5,3 +5,4 @@ pub mod TimesInTurn
 pub mod MultiplesInTurn
 pub mod PartsInTurn
 pub mod JsonArrays
+pub mod ChangedBooks

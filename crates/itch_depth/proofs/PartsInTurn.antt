@@ -1,10 +1,14 @@
 -- The parts of a text, written one after another.
-use Rattle.std.proofs.Common.{◌≡◌, ℕ, ◌+◌, ◌<◌, ◌≤◌, List, [], ◌∷◌, ◌++◌, flat_map, length, take, drop, Option, Ok, Err, refl, sym, ap, subst, ◌∙◌, append-nil, arith, get_or}
+use Rattle.std.proofs.Common.{◌≡◌, ℕ, ◌+◌, ◌<◌, ◌≤◌, List, [], ◌∷◌, ◌++◌, flat_map, length, take, drop, slice_get, Option, None, Some, Ok, Err, refl, sym, ap, subst, ◌∙◌, append-nil, arith, get_or}
 use Rattle.std.proofs.KnownBytes.{Appends-nil}
 use Rattle.std.proofs.lemmas.List.{flat_map_more, take-append-drop, take_all, take_more}
 use Rattle.std.proofs.lemmas.Grind.{flat_map-append}
 use Rattle.std.proofs.lemmas.List.FromFn.{get_or-range_with_len, length-range_with_len}
+use Rattle.std.proofs.lemmas.Option.{slice_get-get_or, slice_get_past}
+use Rattle.std.specs.Borrow.{Bor}
 use Rattle.std.specs.List.{range_with_len}
+use Rattle.std.specs.Option.{option_copied}
+use Rattle.std.specs.Slice.{IsItemAt}
 use Rattle.itch_frame.specs.declared.tally.Failures.{Failures}
 use Rattle.itch_commands.specs.declared.fault.ToolFault.{ToolFault}
 use Rattle.itch_commands.specs.Outputs.{WritesText}
@@ -54,3 +58,8 @@ is_place depth i within = omega (arith, length-range_with_len 0 depth)
 
 pub past_places : (depth i : ℕ) → depth ≤ i → length (range_with_len 0 depth) ≤ i
 past_places depth i past = omega (arith, length-range_with_len 0 depth)
+
+-- an item that is looked up
+pub at_index : {X : Type 0} (xs : List X) (i : ℕ) (r : Option (Bor X)) → IsItemAt xs i r → option_copied r ≡ slice_get xs i
+at_index xs i None found = sym (slice_get_past xs i found.3)
+at_index xs i (Some x) found = ap Some found.1 ∙ sym (slice_get-get_or xs i x.now found.3.0)
