@@ -6,3 +6,4 @@ pub mod MultiplesInTurn
 pub mod PartsInTurn
 pub mod JsonArrays
 pub mod ChangedBooks
+pub mod BestPrices

@@ -34,7 +34,7 @@ pub fn read_changes<'a>(alloc: Global, options: &ArgMatches<'a>) -> Result<Chang
     if options.get_flag("snapshot") {
         return Err(usage_fault(
             alloc,
-            "--changes excludes --snapshot: a snapshot is one moment",
+            "--changes excludes --snapshot: a snapshot changes no prices",
         )?);
     }
     let (selection, file) = read_booked(alloc, options)?;
