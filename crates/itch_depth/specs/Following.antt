@@ -113,7 +113,7 @@ Renews depth own locate old (Err fault) new = fault ≡ unfollowed.OutOfMemory
 
 -- the prices of a side with this one at a place, or at the end
 abbrev pub with_level : ℕ → Level → List Level → List Level
-with_level place level xs = take place xs ++ level ∷ drop (place + 1) xs
+with_level place level xs = take place xs ++ level ∷ drop 1 (drop place xs)
 
 -- another price, or none, was at this place
 abbrev pub was_other : ℕ → Level → List Level → Bool
