@@ -49,10 +49,11 @@ fn follow_part<R: CountedRead, A: Allocator, B: OrderBook, W: CountedWrite>(
 ) -> Result<bool, ToolFault>
     ensures { FollowsPart W.contents W.failures R.remaining R.failures limit request.entry reader.old reader.new out.old result out.new }
 {
-    let mut followed: Followed<'_, B> = Followed::new(alloc, request);
+    let mut followed: Followed<B> = Followed::new(alloc);
     let mut count = 0;
     let mut lines = ChangeLines {
         out,
+        request,
         followed: &mut followed,
     };
     let stop = read_part(reader, &mut count, &mut lines, limit);

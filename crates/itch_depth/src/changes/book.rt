@@ -4,6 +4,7 @@ ghost use Rattle.itch_market.specs.Content.{Content as AnyMarket, empty, laid};
 ghost use Rattle.itch_market.specs.Effects.{effect};
 ghost use Rattle.itch_market.specs.Reasons.{reason};
 ghost use Rattle.itch_depth.specs.Changes.{lines_of};
+ghost use Rattle.itch_depth.specs.declared.changes.request.ChangesRequest.{ChangesRequest as AnyRequest};
 ghost use Rattle.itch_depth.specs.Following.{FollowsOne, IsFollowing, PassesOne, Renews, WritesLines, concerns, enters, found_by, may_concern};
 
 use super::best::Best;
@@ -32,8 +33,7 @@ pub enum Unfollowed {
 /// A market of the stock alone holds its price levels. So the book of the whole market needs none, and only the messages about the stock
 /// take more time.
 #[derive(Drop)]
-pub struct Followed<'a, B: OrderBook> {
-    pub request: ChangesRequest<'a>,
+pub struct Followed<B: OrderBook> {
     pub market: Market<B>,
     // The market after the messages about the locates that have the stock.
     own: Market<IndexedBook<B::Alloc>>,
@@ -42,15 +42,13 @@ pub struct Followed<'a, B: OrderBook> {
     best: Best<B::Alloc>,
 }
 
-impl<'a, B: OrderBook> Followed<'a, B> {
+impl<B: OrderBook> Followed<B> {
     /// Creates the empty market, without allocating.
-    pub fn new(alloc: B::Alloc, request: ChangesRequest<'a>) -> Followed<'a, B>
-        ensures request { result.request ≡ request.entry }
+    pub fn new(alloc: B::Alloc) -> Followed<B>
         ensures market { result.market ≡ empty }
-        ensures following { IsFollowing request.entry result.market result.own result.locate result.best }
+        ensures following { (request : AnyRequest) → IsFollowing request result.market result.own result.locate result.best }
     {
         Followed {
-            request,
             market: Market::new(alloc),
             own: Market::new(alloc),
             locate: None,
@@ -74,27 +72,33 @@ impl<'a, B: OrderBook> Followed<'a, B> {
 
     /// Applies a message, and returns whether the best prices of the stock have changed. After a fault nothing more can be followed.
     #[inline(always)]
-    pub fn pass(&mut self, message: &Message<'_>) -> Result<bool, Unfollowed>
-        requires { IsFollowing self.old.request self.old.market self.old.own self.old.locate self.old.best }
-        ensures passes { PassesOne self.old.request message.now self.old.market result self.new.market }
-        ensures following { IfOk result (λ _. IsFollowing self.new.request self.new.market self.new.own self.new.locate self.new.best) }
-        ensures request { self.new.request ≡ self.old.request }
+    pub fn pass(
+        &mut self,
+        request: ChangesRequest<'_>,
+        message: &Message<'_>,
+    ) -> Result<bool, Unfollowed>
+        requires { IsFollowing request.entry self.old.market self.old.own self.old.locate self.old.best }
+        ensures passes { PassesOne request.entry message.now self.old.market result self.new.market }
+        ensures following { IfOk result (λ _. IsFollowing request.entry self.new.market self.new.own self.new.locate self.new.best) }
     {
         match self.market.apply(message) {
-            Ok(()) => self.follow(message),
+            Ok(()) => self.follow(request, message),
             Err(why) => Err(Unfollowed::Refused(Refused::Rule(why))),
         }
     }
 
     // Follows a message that the market took.
-    fn follow(&mut self, message: &Message<'_>) -> Result<bool, Unfollowed>
-        ensures follows { (before : AnyMarket) → IsFollowing self.old.request before self.old.own self.old.locate self.old.best
+    fn follow(
+        &mut self,
+        request: ChangesRequest<'_>,
+        message: &Message<'_>,
+    ) -> Result<bool, Unfollowed>
+        ensures follows { (before : AnyMarket) → IsFollowing request.entry before self.old.own self.old.locate self.old.best
             → reason before message.now ≡ None → laid before ≡ before → self.old.market ≡ laid (effect before message.now)
-            → FollowsOne self.old.request before self.old.market result self.new.own self.new.locate self.new.best }
-        ensures request { self.new.request ≡ self.old.request }
+            → FollowsOne request.entry before self.old.market result self.new.own self.new.locate self.new.best }
         ensures market { self.new.market ≡ self.old.market }
     {
-        if !self.concerns(message) {
+        if !self.concerns(request.stock, message) {
             return Ok(false);
         }
         if self.own.apply(message).is_err() {
@@ -104,31 +108,30 @@ impl<'a, B: OrderBook> Followed<'a, B> {
         if let Message::StockDirectory(_) = message {
             self.locate = self.own.locates().next();
         }
-        self.renew()
+        self.renew(request.depth)
     }
 
     // Looks at the best prices of the stock, and returns whether they have changed.
-    fn renew(&mut self) -> Result<bool, Unfollowed>
-        ensures renewed { Renews self.old.request.depth self.old.own self.old.locate self.old.best result self.new.best }
+    fn renew(&mut self, depth: usize) -> Result<bool, Unfollowed>
+        ensures renewed { Renews depth self.old.own self.old.locate self.old.best result self.new.best }
         ensures kept { (self.new.own ≡ self.old.own) × (self.new.locate ≡ self.old.locate) }
-        ensures request { self.new.request ≡ self.old.request }
         ensures market { self.new.market ≡ self.old.market }
     {
         let Some(locate) = self.locate else {
             return Ok(false);
         };
-        match self.best.renew(self.own.book(), locate, self.request.depth) {
+        match self.best.renew(self.own.book(), locate, depth) {
             Ok(changed) => Ok(changed),
             Err(_error) => Err(Unfollowed::OutOfMemory),
         }
     }
 
     // Returns whether a message is about a locate that has the stock, or that gets it.
-    fn concerns(&self, message: &Message<'_>) -> bool
-        ensures { result ≡ concerns self.now.request.stock self.now.own message.now }
+    fn concerns(&self, stock: OneStock<'_>, message: &Message<'_>) -> bool
+        ensures { result ≡ concerns stock.entry self.now.own message.now }
     {
         match message {
-            Message::StockDirectory(x) => self.enters(x),
+            Message::StockDirectory(x) => enters(stock, x),
             _ => match message.header() {
                 Some(header) => self.own.security(header.locate).is_some(),
                 None => false,
@@ -136,25 +139,16 @@ impl<'a, B: OrderBook> Followed<'a, B> {
         }
     }
 
-    // Returns whether an entry of the directory has the stock.
-    fn enters(&self, x: &StockDirectory) -> bool
-        ensures { result ≡ enters self.now.request.stock x.now }
-    {
-        match self.request.stock {
-            OneStock::Locate(locate) => x.header.locate == locate,
-            OneStock::Named(name) => x.entry.stock.text() == name,
-        }
-    }
-
     /// Writes the best prices of the stock after the message with this number, which has this time.
     pub fn write<W: CountedWrite>(
         &self,
+        request: ChangesRequest<'_>,
         number: u64,
         time: u64,
         out: &mut W,
     ) -> Result<(), Unfollowed>
-        requires { IsFollowing self.now.request self.now.market self.now.own self.now.locate self.now.best }
-        ensures { WritesLines W.contents W.failures (lines_of self.now.request number time self.now.market) out.old result out.new }
+        requires { IsFollowing request.entry self.now.market self.now.own self.now.locate self.now.best }
+        ensures { WritesLines W.contents W.failures (lines_of request.entry number time self.now.market) out.old result out.new }
     {
         let Some(locate) = self.locate else {
             return Ok(());
@@ -171,7 +165,7 @@ impl<'a, B: OrderBook> Followed<'a, B> {
             bids: self.best.bids(),
             asks: self.best.asks(),
         };
-        match write_change(self.request.form, self.request.depth, &change, out) {
+        match write_change(request.form, request.depth, &change, out) {
             Ok(()) => Ok(()),
             Err(ToolFault::Write(error)) => Err(Unfollowed::Write(error)),
             Err(_) => unreachable!(),
@@ -179,13 +173,23 @@ impl<'a, B: OrderBook> Followed<'a, B> {
     }
 
     /// Returns true if the directory has the stock, and otherwise its fault.
-    pub fn found(&self) -> Result<bool, ToolFault>
-        ensures { result ≡ found_by self.now.request.stock self.now.locate }
+    pub fn found(&self, stock: OneStock<'_>) -> Result<bool, ToolFault>
+        ensures { result ≡ found_by stock.entry self.now.locate }
     {
-        match (self.locate, self.request.stock) {
+        match (self.locate, stock) {
             (Some(_), _) => Ok(true),
             (None, OneStock::Locate(_)) => Err(ToolFault::UnknownLocate),
             (None, OneStock::Named(_)) => Err(ToolFault::UnknownStock),
         }
+    }
+}
+
+// Returns whether an entry of the directory has the stock.
+fn enters(stock: OneStock<'_>, x: &StockDirectory) -> bool
+    ensures { result ≡ enters stock.entry x.now }
+{
+    match stock {
+        OneStock::Locate(locate) => x.header.locate == locate,
+        OneStock::Named(name) => x.entry.stock.text() == name,
     }
 }
