@@ -77,7 +77,7 @@ impl<B: OrderBook> Followed<B> {
         request: ChangesRequest<'_>,
         message: &Message<'_>,
     ) -> Result<bool, Unfollowed>
-        requires { IsFollowing request.entry self.old.market self.old.own self.old.locate self.old.best }
+        requires { IsFollowing request self.old.market self.old.own self.old.locate self.old.best }
         ensures passes { PassesOne request.entry message.now self.old.market result self.new.market }
         ensures following { IfOk result (λ _. IsFollowing request.entry self.new.market self.new.own self.new.locate self.new.best) }
     {
@@ -147,7 +147,7 @@ impl<B: OrderBook> Followed<B> {
         time: u64,
         out: &mut W,
     ) -> Result<(), Unfollowed>
-        requires { IsFollowing request.entry self.now.market self.now.own self.now.locate self.now.best }
+        requires { IsFollowing request self.now.market self.now.own self.now.locate self.now.best }
         ensures { WritesLines W.contents W.failures (lines_of request.entry number time self.now.market) out.old result out.new }
     {
         let Some(locate) = self.locate else {
