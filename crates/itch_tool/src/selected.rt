@@ -21,9 +21,13 @@ impl<'a> Selected<'a> {
             }
             Job::Points(PointWords { only, .. }) => Selected::new(*only, None, None),
             Job::Books(words) => Selected::of_books(words),
-            Job::Changes(ChangeWords { selection, limit, .. }) => {
-                Selected::by(*selection, Some(*limit))
-            }
+            Job::Changes(
+                ChangeWords {
+                    selection,
+                    limit,
+                    ..
+                },
+            ) => { Selected::by(*selection, Some(*limit)) }
             _ => Selected::nothing(),
         }
     }

@@ -2,7 +2,7 @@
 
 use crate::words::commands::usage_fault;
 use crate::words::duration::read_duration;
-use crate::words::request::{read_booked, read_book_form, read_depth};
+use crate::words::request::{read_book_form, read_booked, read_depth};
 use crate::words::time::read_time;
 use clap::{ArgMatches, Error};
 use itch_depth::BookRequest;
