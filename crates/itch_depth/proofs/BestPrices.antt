@@ -1,9 +1,9 @@
 -- The best prices of a side, looked at one after another.
-use Rattle.std.proofs.Common.{◌≡◌, ℕ, zero, suc, ◌+◌, ◌<◌, ◌≤◌, Bool, true, false, not, ◌||◌, List, [], ◌∷◌, ◌++◌, length, take, drop, set, slice_get, Option, None, Some, refl, sym, ap, ap₂, ◌∙◌, arith, get_or, append-nil, length-append}
-use Rattle.std.proofs.lemmas.List.{take_all, take_more}
+use Rattle.std.proofs.Common.{◌≡◌, ℕ, zero, suc, ◌+◌, ◌<◌, ◌≤◌, true, false, not, List, [], ◌∷◌, ◌++◌, length, drop, set, refl, sym, ap, ap₂, ◌∙◌, arith, get_or}
+use Rattle.std.proofs.lemmas.List.{take_all}
 use Rattle.std.proofs.lemmas.Option.{slice_get-get_or, slice_get_past}
 use Rattle.itch_depth.specs.declared.changes.best.Level.{Level}
-use Rattle.itch_depth.specs.Changes.{same_level, same_levels}
+use Rattle.itch_depth.specs.Changes.{same_level}
 use Rattle.itch_depth.specs.Following.{is_level, was_other, with_level}
 
 drop_past : {X : Type 0} (n : ℕ) (xs : List X) → length xs ≤ n → drop n xs ≡ []

@@ -1,5 +1,5 @@
 -- The prices of a side in JSON.
-use Rattle.std.proofs.Common.{◌≡◌, ℕ, ◌-◌, ◌≤◌, List, [], ◌∷◌, ◌++◌, flat_map, length, take, drop, sym, ap, get_or, arith}
+use Rattle.std.proofs.Common.{◌≡◌, ◌-◌, ◌≤◌, List, [], ◌∷◌, ◌++◌, flat_map, length, take, drop, sym, ap, get_or, arith}
 use Rattle.std.proofs.lemmas.List.{take_all}
 use Rattle.itch_depth.specs.Changes.{json_level, json_levels, next_level}
 use Rattle.itch_depth.specs.declared.changes.best.Level.{Level}

@@ -1,5 +1,5 @@
 -- The parts of a text, written one after another.
-use Rattle.std.proofs.Common.{◌≡◌, ℕ, ◌+◌, ◌<◌, ◌≤◌, List, [], ◌∷◌, ◌++◌, flat_map, length, take, drop, slice_get, Option, None, Some, Ok, Err, refl, sym, ap, subst, ◌∙◌, append-nil, arith, get_or}
+use Rattle.std.proofs.Common.{◌≡◌, ℕ, ◌+◌, ◌<◌, ◌≤◌, List, [], ◌∷◌, ◌++◌, flat_map, length, take, drop, slice_get, Option, None, Some, Ok, Err, refl, sym, ap, subst, ◌∙◌, arith, get_or}
 use Rattle.std.proofs.KnownBytes.{Appends-nil}
 use Rattle.std.proofs.lemmas.List.{flat_map_more, take-append-drop, take_all, take_more}
 use Rattle.std.proofs.lemmas.Grind.{flat_map-append}

@@ -1,6 +1,5 @@
-use Rattle.std.proofs.Common.{Ok, Err, ℕ, List, ap, sym, [], ◌∷◌, ◌++◌, codes, flat_map, subst, ◌∙◌}
+use Rattle.std.proofs.Common.{Err, ℕ, List, [], ◌∷◌, ◌++◌, codes, flat_map}
 use Rattle.std.proofs.lemmas.Result.{err_from_is_err_and}
-use Rattle.itch_commands.specs.Outputs.{WritesText}
 use Rattle.itch_commands.proofs.JoinedTexts.{text_fails, text_then}
 use Rattle.std.specs.List.{range_with_len}
 use Rattle.itch_depth.specs.Changes.{columns}

@@ -1,6 +1,5 @@
-use Rattle.std.proofs.Common.{Ok, Err, ◌++◌, subst, ◌∙◌}
+use Rattle.std.proofs.Common.{◌++◌}
 use Rattle.std.proofs.lemmas.Result.{err_from_is_err_and}
-use Rattle.itch_commands.specs.Outputs.{WritesText}
 use Rattle.itch_commands.specs.Forms.{level_line}
 use Rattle.itch_depth.specs.declared.changes.best.Level.{Level}
 use Rattle.itch_depth.proofs.PartsInTurn.{all_written, one_fails, one_written}

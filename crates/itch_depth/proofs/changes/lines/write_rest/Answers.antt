@@ -1,4 +1,4 @@
-use Rattle.std.proofs.Common.{Ok, Err, ◌++◌, subst, ◌∙◌}
+use Rattle.std.proofs.Common.{Ok, Err, subst, ◌∙◌}
 use Rattle.std.proofs.lemmas.Result.{err_from_is_err_and}
 use Rattle.itch_commands.specs.Outputs.{WritesText}
 use Rattle.itch_depth.specs.Changes.{next_level}
