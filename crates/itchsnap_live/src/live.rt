@@ -7,14 +7,11 @@ mod days;
 mod figures;
 mod keeping;
 
-use crate::feed_side::{FeedSide, SHARE};
-use crate::question::{agreed, ask_session, asks_session};
-use crate::scout::Scout;
-use crate::status::{STATUS, StatusPort};
 use client_side::ClientSide;
 use day::Day;
 use itch_book::{IndexedBook, OrderBook};
 use itch_codec::Alpha;
+use itch_feeds::{FeedSide, SHARE, STATUS, Scout, StatusPort, agreed, ask_session, asks_session};
 use itch_frame::CountedWrite;
 use itch_join::Joiner;
 use itch_live::Desk;

@@ -1,11 +1,10 @@
 //! What a live server opens before it serves.
 
 use crate::live::Serving;
-use crate::start::Start;
-use crate::status::StatusPort;
 use itch_book::OrderBook;
 use itch_codec::Alpha;
 use itch_day::Mark;
+use itch_feeds::{Start, StatusPort};
 use itch_join::Joiner;
 use itch_live::{Follower, Sessions};
 use itch_records::{

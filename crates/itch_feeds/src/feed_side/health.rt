@@ -6,7 +6,7 @@ use itch_status::{Cause, FeedState};
 
 impl FeedSide<'_> {
     /// The state of the feed, and why it is not followed, as far as that is known.
-    pub(crate) fn state(&self) -> (FeedState, Option<Cause>) {
+    pub fn state(&self) -> (FeedState, Option<Cause>) {
         if self.is_over() {
             return (FeedState::Ended, None);
         }
@@ -20,22 +20,22 @@ impl FeedSide<'_> {
     }
 
     /// How long ago the login was accepted that was accepted last.
-    pub(crate) fn accepted_for_ms(&self, now_ms: u64) -> u64 {
+    pub fn accepted_for_ms(&self, now_ms: u64) -> u64 {
         now_ms.saturating_sub(self.accepted_ms)
     }
 
     /// The place of that server, from 1.
-    pub(crate) fn server_number(&self) -> u64 {
+    pub fn server_number(&self) -> u64 {
         (self.server() as u64).saturating_add(1)
     }
 
     /// How often a connection was lost, or was not made.
-    pub(crate) fn losses(&self) -> u64 {
+    pub fn losses(&self) -> u64 {
         self.losses
     }
 
     /// The timestamp of the last message, in nanoseconds since midnight.
-    pub(crate) fn market_ns(&self) -> Option<u64> {
+    pub fn market_ns(&self) -> Option<u64> {
         self.market_ns
     }
 

@@ -26,7 +26,7 @@ use std::net::{Net, SocketAddr};
 use std::rt::{Clock, Files};
 
 /// What is read of the feed at a time, at most.
-pub(crate) const SHARE: usize = 1 << 18;
+pub const SHARE: usize = 1 << 18;
 
 // A connection, and what is still to be sent there.
 #[derive(Drop)]
@@ -49,7 +49,7 @@ impl Connection {
 
 /// The connection of a follower, which is made again where it was lost.
 #[derive(Drop)]
-pub(crate) struct FeedSide<'a> {
+pub struct FeedSide<'a> {
     route: Route<'a>,
     // Whom it logs in as.
     account: Logins<'a>,
@@ -111,14 +111,14 @@ impl<'a> FeedSide<'a> {
     }
 
     /// Takes note of what is ready.
-    pub(crate) fn note(&mut self, event: &Event) {
+    pub fn note(&mut self, event: &Event) {
         if let Some(connection) = &mut self.connection {
             connection.socket.note(event);
         }
     }
 
     /// Whether there is something to do before anything else is ready.
-    pub(crate) fn is_busy(&self) -> bool {
+    pub fn is_busy(&self) -> bool {
         match &self.connection {
             Some(connection) => !self.piece.is_empty() || connection.socket.is_readable(),
             None => false,
@@ -126,15 +126,12 @@ impl<'a> FeedSide<'a> {
     }
 
     /// Whether a connection is due at this moment.
-    pub(crate) fn is_due(&self, now_ms: u64) -> bool {
+    pub fn is_due(&self, now_ms: u64) -> bool {
         self.connection.is_none() && now_ms >= self.again_at
     }
 
     /// Begins a turn: connects where that is due. The login is read again before that.
-    pub(crate) fn begin_turn<
-        R: Net + Clock + Files<File = File> + Eprint + AllocGlobal,
-        B: OrderBook,
-    >(
+    pub fn begin_turn<R: Net + Clock + Files<File = File> + Eprint + AllocGlobal, B: OrderBook>(
         &mut self,
         log: &mut Log<'_, R>,
         turns: &Turns<'_, R>,
@@ -185,7 +182,7 @@ impl<'a> FeedSide<'a> {
     }
 
     /// Ends a turn: sends what is pending, and a heartbeat where one is due. A server that was silent for too long is lost.
-    pub(crate) fn end_turn<R: Eprint, B: OrderBook>(
+    pub fn end_turn<R: Eprint, B: OrderBook>(
         &mut self,
         log: &mut Log<'_, R>,
         follower: &mut Follower<B>,
@@ -284,7 +281,7 @@ impl<'a> FeedSide<'a> {
     /// The next step, or `None` if nothing more has come or this turn's share is read.
     ///
     /// A message that is taken is written to `record`.
-    pub(crate) fn step<R: Eprint, B: OrderBook, W: CountedWrite>(
+    pub fn step<R: Eprint, B: OrderBook, W: CountedWrite>(
         &mut self,
         log: &mut Log<'_, R>,
         follower: &mut Follower<B>,
@@ -322,7 +319,7 @@ impl<'a> FeedSide<'a> {
     }
 
     /// Begins another day: no login was accepted in its session yet.
-    pub(crate) fn begin_day(&mut self, now_ms: u64) {
+    pub fn begin_day(&mut self, now_ms: u64) {
         self.drop_connection(now_ms);
         self.route.begin();
         self.was_accepted = false;
@@ -333,12 +330,12 @@ impl<'a> FeedSide<'a> {
     }
 
     /// Has so many bytes read once more in this turn.
-    pub(crate) fn renew(&mut self) {
+    pub fn renew(&mut self) {
         self.share = SHARE;
     }
 
     /// Whom it logs in as.
-    pub(crate) fn login(&self) -> Login {
+    pub fn login(&self) -> Login {
         self.account.first()
     }
 
@@ -353,12 +350,12 @@ impl<'a> FeedSide<'a> {
     }
 
     /// The address that was connected to last.
-    pub(crate) fn address(&self) -> Option<SocketAddr> {
+    pub fn address(&self) -> Option<SocketAddr> {
         self.address
     }
 
     /// The place of the server that is connected to, or is next, among those of the feed.
-    pub(crate) fn server(&self) -> usize {
+    pub fn server(&self) -> usize {
         self.route.server()
     }
 
@@ -368,12 +365,12 @@ impl<'a> FeedSide<'a> {
     }
 
     /// Whether the server has accepted a login.
-    pub(crate) fn was_accepted(&self) -> bool {
+    pub fn was_accepted(&self) -> bool {
         self.was_accepted
     }
 
     /// Whether the feed has ended its session.
-    pub(crate) fn is_over(&self) -> bool {
+    pub fn is_over(&self) -> bool {
         self.connection.is_none() && self.again_at == u64::MAX
     }
 

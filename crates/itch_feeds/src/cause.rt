@@ -1,7 +1,7 @@
 //! Why a feed was lost.
 ghost use Rattle.std.specs.Prelude.{◌≡◌};
 ghost use Rattle.std.specs.IoError.{error_kind};
-ghost use Rattle.itchsnap_live.specs.Losses.{code_cause, kind_cause};
+ghost use Rattle.itch_feeds.specs.Losses.{code_cause, kind_cause};
 
 use itch_status::Cause;
 use std::io::{self, ErrorKind};

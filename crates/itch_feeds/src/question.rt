@@ -1,6 +1,6 @@
 //! Which session a feed is in that rejects the session of a record.
 ghost use Rattle.std.specs.Prelude.{◌≡◌};
-ghost use Rattle.itchsnap_live.specs.Questions.{asks_session};
+ghost use Rattle.itch_feeds.specs.Questions.{asks_session};
 
 use crate::feed_side::FeedSide;
 use crate::start::Start;
@@ -34,7 +34,7 @@ pub fn asks_session(code: u8, was_accepted: bool, was_asked: bool) -> bool
 }
 
 /// The fault of a record of one session, where the feed says that it is in another.
-pub(crate) fn agreed(session: Alpha<10>, asked: Option<Alpha<10>>) -> Result<(), LiveFault> {
+pub fn agreed(session: Alpha<10>, asked: Option<Alpha<10>>) -> Result<(), LiveFault> {
     if let Some(named) = asked {
         if is_another(&session, &named) {
             return Err(LiveFault::Record(RecordFault::OtherSession { session, named }));
@@ -45,7 +45,7 @@ pub(crate) fn agreed(session: Alpha<10>, asked: Option<Alpha<10>>) -> Result<(),
 
 /// Asks a feed's server of this address which session it is in, by a login for whichever that is; none where it does not answer within two seconds, or cannot be
 /// asked.
-pub(crate) fn ask_session<R, B>(
+pub fn ask_session<R, B>(
     log: &Log<'_, R>,
     feed: &FeedSide<'_>,
     address: SocketAddr,
@@ -73,7 +73,7 @@ where
 }
 
 /// A follower that has no session yet.
-pub(crate) fn nameless_follower<B: OrderBook<Alloc = Global>>(
+pub fn nameless_follower<B: OrderBook<Alloc = Global>>(
     alloc: Global,
     credentials: &Credentials,
     joiner: Joiner<B>,

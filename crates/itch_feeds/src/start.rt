@@ -24,7 +24,7 @@ const EVENTS: usize = 1_024;
 
 /// What follows a feed until its session is known, under whose name clients are served.
 #[derive(Drop)]
-pub(crate) struct Start<'r, 'a, R: Clock> {
+pub struct Start<'r, 'a, R: Clock> {
     pub log: Log<'r, R>,
     pub turns: Turns<'r, R>,
     pub feed: FeedSide<'a>,
@@ -41,7 +41,7 @@ where
     R: Net + Clock + Files<File = File> + Eprint + AllocGlobal,
 {
     /// No connection yet. The feed's socket will have this number.
-    pub(crate) fn new(
+    pub fn new(
         rt: &'r R,
         log: Log<'r, R>,
         servers: Servers<'a>,
@@ -63,12 +63,12 @@ where
     }
 
     /// Takes note of what is recorded already.
-    pub(crate) fn note_record(&mut self, record: &Record) {
+    pub fn note_record(&mut self, record: &Record) {
         self.figures.recorded = record.figures();
     }
 
     /// Follows the feed until its session is known.
-    pub(crate) fn find_session<B: OrderBook<Alloc = Global>>(
+    pub fn find_session<B: OrderBook<Alloc = Global>>(
         &mut self,
         follower: &mut Follower<B>,
     ) -> Result<Option<Alpha<10>>, LiveFault> {

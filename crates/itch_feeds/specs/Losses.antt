@@ -4,8 +4,8 @@ use Rattle.std.specs.declared.io.ErrorKind.{ErrorKind}
 use Rattle.std.specs.declared.io.ErrorKind.TheVariants as kind
 use Rattle.itch_status.specs.declared.cause.Cause.{Cause}
 use Rattle.itch_status.specs.declared.cause.Cause.TheVariants as cause
-use Rattle.itchsnap_live.specs.declared.feed_line.Trouble.{Trouble}
-use Rattle.itchsnap_live.specs.declared.feed_line.Trouble.TheVariants as trouble
+use Rattle.itch_feeds.specs.declared.feed_line.Trouble.{Trouble}
+use Rattle.itch_feeds.specs.declared.feed_line.Trouble.TheVariants as trouble
 
 -- the cause that a failed call on a socket is
 abbrev pub kind_cause : ErrorKind → Cause

@@ -18,7 +18,7 @@ use std::net::{IpAddr, Net, SocketAddr, ToSocketAddrs};
 use std::rt::{Clock, Files};
 
 /// The number of the port's socket, and after it those of its connections: no client has such a number.
-pub(crate) const STATUS: usize = 1 << 20;
+pub const STATUS: usize = 1 << 20;
 
 /// The most connections at a time.
 const MOST: usize = 16;
@@ -28,7 +28,7 @@ const SHARE: usize = 4;
 
 /// A port that is listened on for requests, and its connections.
 #[derive(Drop)]
-pub(crate) struct StatusPort {
+pub struct StatusPort {
     callers: Callers,
     connections: Vec<Option<Connection>>,
     buffer: Vec<u8>,
@@ -36,7 +36,7 @@ pub(crate) struct StatusPort {
 
 impl StatusPort {
     /// Listens on the first address of this name, and says on standard error which it is.
-    pub(crate) fn open<R: Net + Clock + Eprint + AllocGlobal>(
+    pub fn open<R: Net + Clock + Eprint + AllocGlobal>(
         log: &mut Log<'_, R>,
         registry: &Registry,
         place: Place<'_>,
@@ -65,7 +65,7 @@ impl StatusPort {
     }
 
     /// Takes note that the socket of this number is ready.
-    pub(crate) fn note(&mut self, token: usize, event: &Event) {
+    pub fn note(&mut self, token: usize, event: &Event) {
         if token == STATUS {
             return self.callers.note();
         }
@@ -76,7 +76,7 @@ impl StatusPort {
     }
 
     /// Whether there is something to do before anything else is ready.
-    pub(crate) fn is_busy(&self) -> bool {
+    pub fn is_busy(&self) -> bool {
         self.connections.iter().any(|connection| match connection {
             Some(connection) => connection.is_busy(),
             None => false,
@@ -84,7 +84,7 @@ impl StatusPort {
     }
 
     /// Accepts who calls, as far as there is room and a descriptor that is not spared, and reads what was asked.
-    pub(crate) fn hear<R: Files<File = File> + AllocGlobal>(
+    pub fn hear<R: Files<File = File> + AllocGlobal>(
         &mut self,
         rt: &R,
         registry: &Registry,
@@ -140,7 +140,7 @@ impl StatusPort {
     }
 
     /// Whether somebody is to be answered.
-    pub(crate) fn is_asked(&self) -> bool {
+    pub fn is_asked(&self) -> bool {
         self.connections.iter().any(|connection| match connection {
             Some(connection) => connection.asked().is_some(),
             None => false,
@@ -148,7 +148,7 @@ impl StatusPort {
     }
 
     /// Answers who has asked, with these figures.
-    pub(crate) fn answer<R: Clock + AllocGlobal>(&mut self, rt: &R, figures: &Figures) {
+    pub fn answer<R: Clock + AllocGlobal>(&mut self, rt: &R, figures: &Figures) {
         let mut left = SHARE;
         for connection in self.connections.iter_mut() {
             if left > 0
@@ -162,7 +162,7 @@ impl StatusPort {
     }
 
     /// Writes the answers, and closes the connections that are over.
-    pub(crate) fn tell(&mut self, now_ms: u64) {
+    pub fn tell(&mut self, now_ms: u64) {
         for connection in self.connections.iter_mut() {
             if let Some(some) = connection
                 && some.write(now_ms)

@@ -1,7 +1,7 @@
 -- The line of what has become of a feed.
 use Rattle.std.specs.Prelude.{ℕ, List, ◌++◌, codes, decimal}
-use Rattle.itchsnap_live.specs.declared.feed_line.FeedLine.{FeedLine}
-use Rattle.itchsnap_live.specs.declared.feed_line.FeedLine.TheVariants.{GlimpseAccepted, GlimpseLost, Accepted, Joined, Lost, Ended}
+use Rattle.itch_feeds.specs.declared.feed_line.FeedLine.{FeedLine}
+use Rattle.itch_feeds.specs.declared.feed_line.FeedLine.TheVariants.{GlimpseAccepted, GlimpseLost, Accepted, Joined, Lost, Ended}
 
 -- what has become of it, in words
 abbrev pub feed_words : FeedLine → List ℕ

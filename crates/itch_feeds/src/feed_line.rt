@@ -1,6 +1,6 @@
 //! What has become of the feed, in a line.
 ghost use Rattle.std.specs.Prelude.{◌≡◌};
-ghost use Rattle.itchsnap_live.specs.Losses.{trouble_cause};
+ghost use Rattle.itch_feeds.specs.Losses.{trouble_cause};
 
 use crate::cause::cause_of_code;
 use itch_codec::Alpha;
@@ -28,7 +28,7 @@ pub(crate) enum FeedLine {
 
 impl Display for FeedLine {
     ghost use Rattle.std.specs.Prelude.{Some};
-    ghost use Rattle.itchsnap_live.specs.FeedLines.{feed_words};
+    ghost use Rattle.itch_feeds.specs.FeedLines.{feed_words};
 
     ghost output = { λ line. Some (feed_words line) };
 

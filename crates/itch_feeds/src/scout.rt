@@ -22,7 +22,7 @@ const PAUSE_MS: u64 = 5_000;
 
 /// A connection of its own to the feed, for a login to whichever session that is in. Nothing is said of it.
 #[derive(Drop)]
-pub(crate) struct Scout<'r, 'a, R, B: OrderBook> {
+pub struct Scout<'r, 'a, R, B: OrderBook> {
     log: Log<'r, R>,
     feed: FeedSide<'a>,
     follower: Follower<B>,
@@ -33,11 +33,7 @@ where
     R: Net + Clock + Files<File = File> + Eprint + AllocGlobal,
 {
     /// One that connects to the servers of a feed, with its login; none where memory is refused. Its socket will have this number.
-    pub(crate) fn of(
-        log: &Log<'r, R>,
-        feed: &FeedSide<'a>,
-        token: usize,
-    ) -> Option<Scout<'r, 'a, R, B>> {
+    pub fn of(log: &Log<'r, R>, feed: &FeedSide<'a>, token: usize) -> Option<Scout<'r, 'a, R, B>> {
         let alloc = log.runtime().alloc();
         let mut log = log.another().ok()?;
         log.mute();
@@ -56,23 +52,23 @@ where
     }
 
     /// Takes note of what is ready.
-    pub(crate) fn note(&mut self, event: &Event) {
+    pub fn note(&mut self, event: &Event) {
         self.feed.note(event);
     }
 
     /// Whether a connection is due at this moment.
-    pub(crate) fn is_due(&self, now_ms: u64) -> bool {
+    pub fn is_due(&self, now_ms: u64) -> bool {
         self.feed.is_due(now_ms)
     }
 
     /// Whether there is something to read before anything else is ready.
-    pub(crate) fn is_busy(&self) -> bool {
+    pub fn is_busy(&self) -> bool {
         self.feed.is_busy()
     }
 
     /// Does what is due, and returns the session that the feed names, once it does: then the connection is closed, and the feed asked again
     /// some seconds later.
-    pub(crate) fn turn(&mut self, turns: &Turns<'_, R>, now_ms: u64) -> Option<Alpha<10>> {
+    pub fn turn(&mut self, turns: &Turns<'_, R>, now_ms: u64) -> Option<Alpha<10>> {
         self.feed
             .begin_turn(&mut self.log, turns, &mut self.follower, now_ms);
         self.read(now_ms);
