@@ -1,8 +1,8 @@
 //! `itchsnap`: market snapshots from day files of TotalView-ITCH 5.0 messages.
 //!
 //! `itchsnap_cli::words` parses the command line. The commands over files are those of `itch_commands`; `run` opens files and standard
-//! streams for them. `serve` and `fetch` use `itch_sessions`, over sockets; `live`, `follow` and `feed` use `itchsnap_live` and
-//! `itch_clients`, and `status` asks a live server over HTTP.
+//! streams for them. `serve` and `fetch` use `itch_sessions`, over sockets; `live`, `follow` and `feed` use `itchsnap_live`,
+//! `itch_feeds` and `itch_clients`, and `status` asks a live server over HTTP.
 #![tactic(auto)]
 
 mod at;
