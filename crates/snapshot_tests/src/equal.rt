@@ -28,19 +28,6 @@ pub fn same_in<T: PartialEq + Debug + Copy>(
     assert_eq!(rt; value, expected, "case {case:?}");
 }
 
-/// Ends the test unless these are shown the same, and names the case: faults of the system have no equality.
-pub fn same_shown<T: Debug>(
-    rt: &impl Host,
-    case: impl Debug + Copy,
-    value: &T,
-    expected: &T,
-) -> Result<(), AllocError> {
-    let value = format!(in rt.alloc(); "{value:?}")?;
-    let expected = format!(in rt.alloc(); "{expected:?}")?;
-    same_in(rt, case, value.as_str(), expected.as_str());
-    Ok(())
-}
-
 /// Ends the test unless this is printed so.
 pub fn same_words<T: Display>(rt: &impl Host, value: &T, expected: &str) -> Result<(), AllocError> {
     let words = format!(in rt.alloc(); "{value}")?;

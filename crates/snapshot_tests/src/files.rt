@@ -1,17 +1,16 @@
-//! Day files, snapshots and markets that the tables use.
-use crate::equal::{Host, same};
+//! Days and snapshots that the tables use. The helpers have no contract, so that a proof of a test need not carry what a call leaves.
+use crate::equal::Host;
 use itch_book::OrderBook;
 use itch_codec::Seq;
-use itch_frame::{BlockReader, CountedRead, CountedWrite, FrameFault};
-use itch_market::{Market, ReplayEnd, replay};
+use itch_frame::{BlockReader, CountedWrite};
+use itch_market::Market;
 use itch_snapshot::{
     SnapFault, SnapshotReader, read_snapshot, same_market, snapshot_len, write_snapshot,
 };
-use std::alloc::{Allocator, Global};
+use std::alloc::Global;
 use std::test::Fail;
-use test_doubles::days::blocks;
+use test_doubles::PieceReader;
 use test_doubles::payloads::*;
-use test_doubles::{FuseWriter, PieceReader};
 
 /// A day with one order, of 93 bytes, and its snapshot, of 116.
 pub(crate) const ONE_ORDER: &[&[u8]] = &[EVENT, AAPL, ADD_1];
@@ -20,33 +19,6 @@ pub(crate) const ONE_ORDER_SNAPSHOT: &[&[u8]] = &[EVENT, AAPL, ADD_1, END_4];
 
 /// The snapshot of `REPLACED`.
 pub(crate) const REPLACED_SNAPSHOT: &[&[u8]] = &[AAPL, ADD_2, NAMED_3, END_5];
-
-/// What a day with these payloads leaves.
-pub(crate) fn market<B: OrderBook>(
-    alloc: Global,
-    memory: B::Alloc,
-    payloads: &[&[u8]],
-) -> Result<Market<B>, Fail> {
-    let day = blocks(alloc, payloads)?;
-    let mut market = Market::new(memory);
-    replay_from(
-        alloc,
-        PieceReader::new(day.written(), 64, None),
-        &mut market,
-    )?;
-    Ok(market)
-}
-
-/// Replays what this reader gives. This helper and those below have no contract, so that a proof of a test need not carry what
-/// the call leaves.
-pub(crate) fn replay_from<B: OrderBook>(
-    alloc: Global,
-    reader: PieceReader<'_>,
-    market: &mut Market<B>,
-) -> Result<ReplayEnd, Fail> {
-    let mut reader = BlockReader::new(alloc, reader)?;
-    Ok(replay(&mut reader, market))
-}
 
 /// Writes the snapshot of a small market, closed with this number.
 pub(crate) fn write<W: CountedWrite, B: OrderBook>(
@@ -101,14 +73,4 @@ pub(crate) fn are_same<A: OrderBook, B: OrderBook>(
 
 pub(crate) fn seq(rt: &impl Host, number: u64) -> Seq {
     Seq::new(number).expect(rt, "a sequence number")
-}
-
-/// A reader has this block next.
-pub(crate) fn gives<R: CountedRead, A: Allocator>(
-    rt: &impl Host,
-    reader: &mut BlockReader<R, A>,
-    want: Option<&[u8]>,
-) -> Result<(), FrameFault> {
-    same(rt, reader.next_block()?, want);
-    Ok(())
 }

@@ -1,22 +1,17 @@
-//! Tests of `itch_snapshot`, `itch_join` and `itch_soup` over their public items alone, each crate in the module of its name, and the examples of the
-//! libraries' pages and of the guide.
+//! Tests of `itch_snapshot` and `itch_join` over their public items alone, each crate in the module of its name.
 //!
-//! They see what no clause says: snapshots and packets byte by byte, calls that succeed with ample memory, failures of devices, and each allocation that is
-//! refused. `files` and `sessions` have what several of them use.
+//! They see what no clause says: snapshots byte by byte, calls that succeed with ample memory, failures of devices, and each allocation that is refused.
+//! `files` has what several of them use.
 //!
-//! Hostile use of snapshots and sessions is in modules of its own: `refused_memory` has each allocation of a call refused in turn, `broken_input` each
-//! beginning of a session and each of its bytes at each value, and `failing_devices` each read and each write failing in turn.
+//! Hostile use of snapshots is in modules of its own: `refused_memory` has each allocation of a call refused in turn, and `failing_devices` each write
+//! failing in turn.
 //!
 //! The helpers take any book and most have no contract: what owns a market or a joiner of a concrete book then has few exits, and the proof of a test does
 //! not carry what each call leaves.
 #![tactic(auto)]
 
 #[cfg(test)]
-mod broken_input;
-#[cfg(test)]
 mod equal;
-#[cfg(test)]
-mod examples;
 #[cfg(test)]
 mod failing_devices;
 #[cfg(test)]
@@ -26,8 +21,4 @@ mod join;
 #[cfg(test)]
 mod refused_memory;
 #[cfg(test)]
-mod sessions;
-#[cfg(test)]
 mod snapshot;
-#[cfg(test)]
-mod soup;

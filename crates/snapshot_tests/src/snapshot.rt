@@ -1,6 +1,6 @@
 //! Worked days and snapshots: what is written of each, what is read, and how each is refused.
 use crate::equal::{Host, TestResult, same, same_words};
-use crate::files::{REPLACED_SNAPSHOT, are_same, finished, market, read_from, seq, write};
+use crate::files::{REPLACED_SNAPSHOT, are_same, finished, read_from, seq, write};
 use itch_book::{ListBook, OrderBook};
 use itch_codec::CodecFault;
 use itch_frame::FrameFault;
@@ -11,6 +11,7 @@ use itch_snapshot::{
 use std::alloc::Global;
 use std::test::Fail;
 use test_doubles::days::{REPLACED, blocks};
+use test_doubles::markets::market;
 use test_doubles::payloads::*;
 use test_doubles::{FuseWriter, PieceReader};
 

@@ -9,12 +9,13 @@
 //! assert!(list.push(1).is_ok());
 //! ```
 //!
-//! `payloads` and `messages` have the messages of the tests' tables, as bytes and as values, and `days` what is made of those. A library may not end the
-//! process, so what compares is in the crates of tests.
+//! `payloads` and `messages` have the messages of the tests' tables, as bytes and as values, `days` what is made of those, and `markets` what days leave. A
+//! library may not end the process, so what compares is in the crates of tests.
 #![tactic(auto)]
 
 pub mod days;
 mod devices;
+pub mod markets;
 pub mod messages;
 pub mod payloads;
 mod refusing;

@@ -1,12 +1,13 @@
 //! Snapshots written, read and written again, and a day cut at each of its messages.
 use super::{REPLACED_SNAPSHOT, are_same, blocks, market, seq, write};
 use crate::equal::{Host, TestResult, same};
-use crate::files::{read, replay_from};
+use crate::files::read;
 use itch_book::{ListBook, OrderBook};
 use itch_codec::Seq;
 use itch_market::{Market, Stop};
 use itch_snapshot::laws;
 use std::test::Fail;
+use test_doubles::markets::replay_from;
 use test_doubles::payloads::*;
 use test_doubles::{FuseWriter, PieceReader};
 

@@ -2,10 +2,11 @@
 
 use super::{check_snapshot, file_of};
 use crate::equal::{Host, TestResult, same, same_words};
-use crate::files::{REPLACED_SNAPSHOT, replay_from};
+use crate::files::REPLACED_SNAPSHOT;
 use itch_book::{IndexedBook, ListBook, OrderBook};
 use itch_market::Market;
 use test_doubles::days::REPLACED;
+use test_doubles::markets::replay_from;
 use test_doubles::payloads::*;
 use test_doubles::{FuseWriter, PieceReader};
 

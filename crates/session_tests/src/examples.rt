@@ -3,7 +3,7 @@
 mod best;
 
 use crate::equal::{Host, TestResult, same};
-use crate::files::{are_same, market, read, write};
+use crate::files::{are_same, read, write};
 use itch_book::{IndexedBook, ListBook, Order, OrderBook};
 use itch_codec::{Alpha, Message, Seq, Side, decode, encode};
 use itch_frame::{BlockReader, Counted, write_block};
@@ -12,6 +12,7 @@ use itch_market::{Market, Refusal};
 use itch_soup::{ClientAct, ClientSession, Credentials, Origin, parse_packet};
 use std::test::Fail;
 use test_doubles::FuseWriter;
+use test_doubles::markets::market;
 use test_doubles::payloads::*;
 
 #[test]

@@ -1,6 +1,6 @@
 //! A served session that the tables use: its login, its answers, and both of its ends over memory.
 use crate::equal::{Host, TestResult, same};
-use crate::files::{are_same, market, seq};
+use crate::files::{are_same, seq};
 use itch_book::{ListBook, OrderBook};
 use itch_codec::{Alpha, Seq};
 use itch_frame::{BlockReader, CountedRead, CountedWrite};
@@ -12,6 +12,7 @@ use itch_soup::{
 use std::alloc::{Allocator, Global};
 use std::test::Fail;
 use test_doubles::days::Blocks;
+use test_doubles::markets::market;
 use test_doubles::payloads::*;
 use test_doubles::{FuseWriter, PieceReader};
 

@@ -1,4 +1,6 @@
-//! One session served and fetched.
+//! Devices that fail while a session is served and fetched: each read and each write failing in turn, in pieces that cut every block.
+//!
+//! What was read before a failed read is kept, so that a call may go on; before a failed write exactly a beginning was written.
 use crate::equal::{Host, TestResult, same};
 use crate::sessions::{
     FROM_1, FROM_3, LOGIN_1, LOGIN_3, fetch, fetch_fault, serve, serve_from, served_market,

@@ -1,6 +1,6 @@
-//! A session fetched, and one served, which takes no memory.
+//! Memory refused while a session is fetched: the first allocation, then the second, and so on, until a run meets no refusal. A run ends with the
+//! ordinary result or because memory ran out. To serve a session takes no memory.
 use crate::equal::{Host, TestResult, same};
-use crate::files::market;
 use crate::sessions::{
     FROM_1, FROM_3, LOGIN_1, LOGIN_3, REST_3, SERVED, fetched, is_served_market, serve,
     third_fetched,
@@ -12,6 +12,7 @@ use itch_snapshot::SnapFault;
 use itch_soup::SoupFault;
 use std::alloc::{Allocator, Global};
 use std::test::Fail;
+use test_doubles::markets::market;
 use test_doubles::{PieceReader, Refusing};
 
 type Refused<'a> = &'a Refusing<Global>;

@@ -1,0 +1,49 @@
+//! Comparisons that end a test. They have no contract, so that a proof of a test does not carry how a value is shown. A library may
+//! not end the process, so each crate of tests has those that it uses.
+use std::alloc::AllocError;
+use std::fmt::{Debug, Display};
+use std::process::Abort;
+use std::test::Fail;
+
+/// The runtime of a test: it can end the process, and allocates memory.
+pub trait Host: Abort + AllocGlobal {}
+
+impl<T: Abort + AllocGlobal> Host for T {}
+
+/// The result of a test, and of a helper that can fail.
+pub type TestResult = Result<(), Fail>;
+
+/// Ends the test unless these are equal.
+pub fn same<T: PartialEq + Debug + Copy>(rt: &impl Abort, value: T, expected: T) {
+    assert_eq!(rt; value, expected);
+}
+
+/// Ends the test unless these are equal, and names the case.
+pub fn same_in<T: PartialEq + Debug + Copy>(
+    rt: &impl Abort,
+    case: impl Debug + Copy,
+    value: T,
+    expected: T,
+) {
+    assert_eq!(rt; value, expected, "case {case:?}");
+}
+
+/// Ends the test unless these are shown the same, and names the case: faults of the system have no equality.
+pub fn same_shown<T: Debug>(
+    rt: &impl Host,
+    case: impl Debug + Copy,
+    value: &T,
+    expected: &T,
+) -> Result<(), AllocError> {
+    let value = format!(in rt.alloc(); "{value:?}")?;
+    let expected = format!(in rt.alloc(); "{expected:?}")?;
+    same_in(rt, case, value.as_str(), expected.as_str());
+    Ok(())
+}
+
+/// Ends the test unless this is printed so.
+pub fn same_words<T: Display>(rt: &impl Host, value: &T, expected: &str) -> Result<(), AllocError> {
+    let words = format!(in rt.alloc(); "{value}")?;
+    same(rt, words.as_str(), expected);
+    Ok(())
+}
