@@ -3,8 +3,8 @@
 //! They see what no clause says: packets and sessions byte by byte, failures of devices, and each allocation that is refused. `files` and `sessions` have
 //! what several of them use.
 //!
-//! Hostile use of sessions is in modules of its own: `refused_memory` has each allocation of a call refused in turn, `broken_input` each beginning of a
-//! session and each of its bytes at each value, and `failing_devices` each read and each write failing in turn.
+//! Tests of hostile use have modules of their own: in `refused_memory` each allocation of a call is refused in turn, `broken_input` passes in each beginning
+//! of a session and each of its bytes at each value, and in `failing_devices` each read and each write fails in turn.
 //!
 //! The helpers take any book and most have no contract: what owns a market of a concrete book then has few exits, and the proof of a test does not carry
 //! what each call leaves.

@@ -3,8 +3,8 @@
 //! They see what no clause says: snapshots byte by byte, calls that succeed with ample memory, failures of devices, and each allocation that is refused.
 //! `files` has what several of them use.
 //!
-//! Hostile use of snapshots is in modules of its own: `refused_memory` has each allocation of a call refused in turn, and `failing_devices` each write
-//! failing in turn.
+//! Tests of hostile use have modules of their own: in `refused_memory` each allocation of a call is refused in turn, and in `failing_devices` each write
+//! fails in turn.
 //!
 //! The helpers take any book and most have no contract: what owns a market or a joiner of a concrete book then has few exits, and the proof of a test does
 //! not carry what each call leaves.
@@ -13,12 +13,8 @@
 #[cfg(test)]
 mod equal;
 #[cfg(test)]
-mod failing_devices;
-#[cfg(test)]
 mod files;
 #[cfg(test)]
 mod join;
-#[cfg(test)]
-mod refused_memory;
 #[cfg(test)]
 mod snapshot;

@@ -17,7 +17,9 @@ use test_doubles::{FuseWriter, PieceReader};
 
 mod again;
 mod books;
+mod failing_devices;
 mod partial;
+mod refused_memory;
 
 #[test]
 fn the_laws_of_snapshots() {

@@ -2,7 +2,7 @@
 //! the ordinary result or because memory ran out; then all is as it was before the call, or as its page says, and the same call succeeds once there is
 //! memory.
 //!
-//! The messages of a snapshot are taken one by one, a snapshot file is read, and some calls take no memory. A joiner is in `join`.
+//! The messages of a snapshot are taken one by one, and a snapshot file is read. Other calls take no memory.
 use crate::equal::{Host, TestResult, same};
 use crate::files::{REPLACED_SNAPSHOT, are_same, finished, read_from, seq, write};
 use itch_book::{IndexedBook, ListBook, OrderBook};
