@@ -1,9 +1,8 @@
-//! Tests of the program's parts: the commands over files, sessions over sockets, the core of a live server, and the parsing of the command
-//! line.
+//! Tests of the program's parts: the commands over files, the parsing of the command line, and reports of progress.
 //!
 //! They cover behaviour that a run of the program does not show: the lines and exit statuses of faults that no run reaches, writes that
-//! fail without a buffer before them, sets of all locates, complete days of calls on a live server's core, and the parsed command lines.
-//! Behaviour that can be seen from outside is tested in `tests/program`.
+//! fail without a buffer before them, sets of all locates, and the parsed command lines. Behaviour that can be seen from outside is tested in
+//! `tests/program`.
 //!
 //! The helpers take any book and most have no contract: the proof of a test then does not have to know the effect of each call.
 #![tactic(auto)]
@@ -13,8 +12,6 @@ mod commands;
 #[cfg(test)]
 mod equal;
 #[cfg(test)]
-mod live;
-#[cfg(test)]
-mod sessions;
+mod progress;
 #[cfg(test)]
 mod words;

@@ -1,9 +1,7 @@
 //! The line and the exit status of each fault.
 
 use crate::equal::{Host, TestResult, same, same_in};
-use itch_checkpoints::Latest;
 use itch_codec::CodecFault;
-use itch_commands::snap::Mark;
 use itch_commands::{
     Expected, FeedPart, Limit, Misfit, Source, ToolFault, Unmet, status, system_fault,
 };
@@ -161,37 +159,4 @@ fn a_feed_fits_to_a_snapshot_or_not(rt: HostRuntime) {
     same(&rt, part.wanted(7).after, Some(0));
     same(&rt, FeedPart::whole().misfit(u64::MAX), None);
     same(&rt, FeedPart::whole().wanted(1), Limit::whole());
-}
-
-#[test]
-fn the_nearest_checkpoint_is_not_beyond(rt: HostRuntime) {
-    let at = |count, latest| Mark {
-        count,
-        offset: 100 * count,
-        latest,
-    };
-    let after = |count| Limit::counted(Some(count));
-    let before = |time| Limit {
-        after: None,
-        until: Some(time),
-    };
-    let cases = [
-        (at(2, Some(5)), after(3), true),
-        (at(3, Some(5)), after(3), true),
-        (at(4, Some(5)), after(3), false),
-        (at(1, Some(5)), after(3), false),
-        (at(2, Some(5)), before(6), true),
-        (at(2, Some(6)), before(6), false),
-        (at(2, None), before(0), true),
-    ];
-    for (mark, limit, wanted) in cases {
-        same_in(&rt, mark, mark.is_nearer(&at(1, None), limit), wanted);
-    }
-    let read = |latest: Latest, limit| latest.mark(2, 200, limit);
-    let known = read(Latest::Known(Some(5)), before(6));
-    same(&rt, known, Some(at(2, Some(5))));
-    same(&rt, read(Latest::Known(None), before(6)), Some(at(2, None)));
-    same(&rt, read(Latest::Unknown, before(6)), None);
-    same(&rt, read(Latest::Unknown, after(3)), Some(at(2, None)));
-    same(&rt, Mark::new().count, 0);
 }

@@ -1,8 +1,7 @@
 //! The write of each byte of a fetched snapshot fails, with no buffer before it, and so does the flush of an answer.
 use crate::equal::{Host, TestResult, same, same_in};
-use itch_book::OrderBook;
+use itch_book::{OrderBook, SettledBook};
 use itch_codec::{Alpha, Seq};
-use itch_commands::Book;
 use itch_frame::{BlockReader, CountedRead};
 use itch_market::Market;
 use itch_sessions::SessionFault;
@@ -149,7 +148,13 @@ fn a_flush_of_an_answer(rt: HostRuntime) -> TestResult {
     let next = Seq::new(1).ok_or("a number")?;
     let mut reader = BlockReader::new(alloc, PieceReader::new(LOGIN, 64, None))?;
     let mut writer = Sending::new(Stuck);
-    let is_fault = is_fault::<_, _, Book<Global>, _>(&rt, alloc, &mut reader, &mut writer, next);
+    let is_fault = is_fault::<_, _, SettledBook<Global>, _>(
+        &rt,
+        alloc,
+        &mut reader,
+        &mut writer,
+        next,
+    );
     assert!(rt; is_fault);
     same(&rt, writer.failures().count(), 1);
     Ok(())
