@@ -3,11 +3,11 @@
 use crate::feed_side::{FeedSide, SHARE};
 use itch_book::{IndexedBook, OrderBook};
 use itch_codec::{decode, encode, json};
+use itch_faults::{LiveFault, Step};
 use itch_frame::{Counted, CountedWrite, FrameFault, write_block};
 use itch_join::Joiner;
 use itch_live::{Follower, Sessions};
 use itch_market::Market;
-use itch_records::{LiveFault, Step};
 use itch_sessions::log::Log;
 use itch_sessions::log::form::LogForm;
 use itch_sessions::sessions::{Sending, current_session, write_text};

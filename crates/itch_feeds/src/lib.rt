@@ -17,7 +17,7 @@ mod status;
 
 pub use feed_side::{FeedSide, SHARE};
 pub use follow::{Following, follow_feed};
-pub use question::{agreed, ask_session, asks_session, nameless_follower};
+pub use question::{agreed, ask_session, asks_session, at_the_first, nameless_follower};
 pub use scout::Scout;
 pub use start::Start;
 pub use status::{STATUS, StatusPort};

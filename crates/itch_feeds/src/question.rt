@@ -6,13 +6,13 @@ use crate::feed_side::FeedSide;
 use crate::start::Start;
 use itch_book::OrderBook;
 use itch_codec::Alpha;
+use itch_faults::{LiveFault, RecordFault};
 use itch_join::Joiner;
 use itch_live::{Follower, Sessions};
-use itch_records::{LiveFault, RecordFault, at_the_first};
 use itch_sessions::log::Log;
 use itch_sessions::log::form::LogForm;
 use itch_sessions::sessions::current_session;
-use itch_sessions::{Logins, is_another};
+use itch_sessions::{Logins, SessionFault, is_another};
 use itch_soup::Credentials;
 use std::alloc::Global;
 use std::fs::File;
@@ -24,6 +24,9 @@ const MOST_MS: u64 = 2_000;
 
 /// The number of the socket.
 const FEED: usize = 0;
+
+/// The End of Snapshot of a market with no messages.
+const NOTHING_BEFORE: &[u8] = b"G                   1";
 
 /// Whether a feed that rejects the login for a record with this code is asked which session it is in: once, and only one that has accepted no
 /// login. Otherwise its server is one that lacks the session for now.
@@ -70,6 +73,14 @@ where
         return None;
     };
     start.ask(address, &mut follower, MOST_MS)
+}
+
+/// A joiner that has the market before the first message.
+pub fn at_the_first<B: OrderBook>(joiner: &mut Joiner<B>) -> Result<(), SessionFault> {
+    match joiner.snapshot(NOTHING_BEFORE) {
+        Ok(_) => Ok(()),
+        Err(_) => Err(SessionFault::OutOfMemory),
+    }
 }
 
 /// A follower that has no session yet.

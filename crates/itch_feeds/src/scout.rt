@@ -4,16 +4,16 @@ use crate::feed_side::{FeedSide, SHARE};
 use crate::question::nameless_follower;
 use itch_book::OrderBook;
 use itch_codec::Alpha;
-use itch_frame::tally::Failures;
+use itch_frame::Counted;
 use itch_join::Joiner;
 use itch_live::Follower;
-use itch_records::Recording;
 use itch_sessions::log::Log;
 use itch_sessions::sessions::current_session;
 use itch_sessions::{Logins, Servers, Turns};
 use mio::event::Event;
 use std::alloc::Global;
 use std::fs::File;
+use std::io;
 use std::net::Net;
 use std::rt::{Clock, Files};
 
@@ -82,7 +82,7 @@ where
 
     // Reads what has come, until a session is named.
     fn read(&mut self, now_ms: u64) {
-        let mut nowhere: Recording<File> = Recording::Nowhere(Failures::none());
+        let mut nowhere = Counted::new(io::sink());
         for _packet in 0..SHARE {
             match self
                 .feed

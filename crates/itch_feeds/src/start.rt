@@ -4,15 +4,16 @@ use crate::feed_side::{FeedSide, SHARE};
 use crate::status::{STATUS, StatusPort};
 use itch_book::OrderBook;
 use itch_codec::Alpha;
-use itch_frame::tally::Failures;
+use itch_faults::LiveFault;
+use itch_frame::Counted;
 use itch_live::Follower;
-use itch_records::{LiveFault, Record, Recording};
 use itch_sessions::log::Log;
 use itch_sessions::{Logins, SPARED, Servers, Spare, Turns};
-use itch_status::Figures;
+use itch_status::{Figures, Recorded};
 use mio::Token;
 use std::alloc::Global;
 use std::fs::File;
+use std::io;
 use std::net::{Net, SocketAddr};
 use std::rt::{Clock, Files};
 
@@ -63,8 +64,8 @@ where
     }
 
     /// Takes note of what is recorded already.
-    pub fn note_record(&mut self, record: &Record) {
-        self.figures.recorded = record.figures();
+    pub fn note_record(&mut self, recorded: Option<Recorded>) {
+        self.figures.recorded = recorded;
     }
 
     /// Follows the feed until its session is known.
@@ -173,7 +174,7 @@ where
         follower: &mut Follower<B>,
         now_ms: u64,
     ) -> Result<(), LiveFault> {
-        let mut nowhere: Recording<File> = Recording::Nowhere(Failures::none());
+        let mut nowhere = Counted::new(io::sink());
         for _packet in 0..SHARE {
             let step = self
                 .feed

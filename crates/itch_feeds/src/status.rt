@@ -3,7 +3,7 @@
 mod connection;
 
 use connection::Connection;
-use itch_records::LiveFault;
+use itch_faults::LiveFault;
 use itch_sessions::log::Log;
 use itch_sessions::log::lines::StatusOn;
 use itch_sessions::{Caller, Callers, Link, Place, Socket, Spare, VERSION, Who, date};

@@ -3,6 +3,7 @@ ghost use Rattle.std.specs.Prelude.{◌≡◌, ◌<◌, ◌++◌, IfOk, OnOk};
 ghost use Rattle.itch_records.specs.DayFiles.{digit, file_character, file_stem, is_plain};
 
 use itch_codec::Alpha;
+use itch_faults::LiveFault;
 use itch_sessions::log::entry::{Event, Level, write_text};
 use itch_sessions::log::form::LogForm;
 use itch_sessions::name_of;
@@ -27,6 +28,13 @@ impl DayPaths {
             snapshots: None,
         }
     }
+}
+
+/// Why a live server has ended, and where the files of the day were, as far as that was known.
+#[derive(Debug, Drop)]
+pub struct DayFault {
+    pub fault: LiveFault,
+    pub paths: DayPaths,
 }
 
 /// Makes a folder, unless it is there.

@@ -1,13 +1,11 @@
 //! The record of a live server: a day file that this process alone appends to, and the session that it is of.
 
-use crate::fault::{LiveFault, Owned, RecordFault};
 use crate::recording::Recording;
 use crate::replay::Replay;
 use crate::session_file::{read_session, write_session};
-use crate::step::record_fault;
-use crate::watch::{Change, Seen, change_of};
 use itch_codec::Alpha;
 use itch_day::Mark;
+use itch_faults::{Change, LiveFault, Owned, RecordFault, Seen, change_of, record_fault};
 use itch_frame::tally::Failures;
 use itch_sessions::SessionFault;
 use itch_sessions::log::Log;

@@ -2,11 +2,10 @@
 ghost use Rattle.std.specs.Prelude.{◌≡◌};
 ghost use Rattle.itch_records.specs.Readiness.{next_stop};
 
-use crate::fault::{LiveFault, RecordFault};
-use crate::step::stop_of;
 use itch_book::OrderBook;
 use itch_codec::{CodecFault, MOST_MESSAGES, Message};
 use itch_day::{Limit, Mark, Sink, Stop as DayStop, read_part};
+use itch_faults::{LiveFault, RecordFault, stop_of};
 use itch_frame::{BlockReader, Buffered, FrameFault};
 use itch_join::{JoinFault, Live};
 use itch_live::Follower;

@@ -1,9 +1,9 @@
 //! Where a live server begins: before the first message, or with the newest snapshot of its folder that fits the record.
 
-use crate::fault::LiveFault;
 use itch_book::OrderBook;
 use itch_checkpoints::{Checkpoint, Unfit, fingerprint_before, nearest, why_unfit};
 use itch_day::{Limit, Mark};
+use itch_faults::LiveFault;
 use itch_frame::{BlockReader, Buffered};
 use itch_join::Joiner;
 use itch_sessions::SessionFault;
@@ -18,19 +18,8 @@ use std::fs::{self, File};
 use std::io::{self, BufReader, ErrorKind};
 use std::rt::Files;
 
-/// The End of Snapshot of a market with no messages.
-const NOTHING_BEFORE: &[u8] = b"G                   1";
-
 /// So many snapshots that do not fit are passed over. Then the whole record is replayed.
 const MOST_UNFIT: usize = 16;
-
-/// A joiner that has the market before the first message.
-pub fn at_the_first<B: OrderBook>(joiner: &mut Joiner<B>) -> Result<(), SessionFault> {
-    match joiner.snapshot(NOTHING_BEFORE) {
-        Ok(_) => Ok(()),
-        Err(_) => Err(SessionFault::OutOfMemory),
-    }
-}
 
 /// A record that is to be replayed: its path, and how many bytes it has.
 #[derive(Clone, Copy)]

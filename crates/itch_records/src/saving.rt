@@ -4,13 +4,13 @@ ghost use Rattle.itch_snapshot.specs.Snapshot.{snap};
 ghost use Rattle.itch_records.specs.Recordings.{IsFlushed};
 ghost use Rattle.itch_records.specs.Savings.{is_wanted};
 
-use crate::fault::{LiveFault, Owned};
 use crate::recording::Recording;
 use crate::snapshot_folder::{KeptLines, clean, keep_lines, list, remove};
 use itch_book::OrderBook;
 use itch_checkpoints::fingerprint_before;
 use itch_codec::{GREATEST_SEQ, Seq};
 use itch_day::Mark;
+use itch_faults::{LiveFault, Owned};
 use itch_market::Market;
 use itch_sessions::SessionFault;
 use itch_sessions::log::Log;

@@ -1,7 +1,7 @@
 //! The file beside a record that names the feed's session: the messages of another day have the same numbers.
 
-use crate::fault::{LiveFault, RecordFault};
 use itch_codec::Alpha;
+use itch_faults::{LiveFault, RecordFault};
 use itch_sessions::{SessionFault, VERSION};
 use std::fs::{self, File};
 use std::io::{self, ErrorKind, Read, Write};

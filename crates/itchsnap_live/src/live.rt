@@ -11,13 +11,13 @@ use client_side::ClientSide;
 use day::Day;
 use itch_book::{IndexedBook, OrderBook};
 use itch_codec::Alpha;
+use itch_faults::{LiveFault, Step};
 use itch_feeds::{FeedSide, SHARE, STATUS, Scout, StatusPort, agreed, ask_session, asks_session};
 use itch_frame::CountedWrite;
 use itch_join::Joiner;
 use itch_live::Desk;
 use itch_records::{
-    DayFault, DayPaths, LiveFault, Ready, RecordLoss, RecordPlace, RecordWords, SnapshotWords,
-    Step, is_caught_up,
+    DayFault, DayPaths, Ready, RecordLoss, RecordPlace, RecordWords, SnapshotWords, is_caught_up,
 };
 use itch_sessions::log::Log;
 use itch_sessions::log::form::LogForm;

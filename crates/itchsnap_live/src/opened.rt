@@ -4,12 +4,11 @@ use crate::live::Serving;
 use itch_book::OrderBook;
 use itch_codec::Alpha;
 use itch_day::Mark;
-use itch_feeds::{Start, StatusPort};
+use itch_faults::LiveFault;
+use itch_feeds::{Start, StatusPort, at_the_first};
 use itch_join::Joiner;
 use itch_live::{Follower, Sessions};
-use itch_records::{
-    DayPaths, LiveFault, Record, Replay, Replayed, Saver, at_the_first, make_folder, newest,
-};
+use itch_records::{DayPaths, Record, Replay, Replayed, Saver, make_folder, newest};
 use itch_sessions::log::Log;
 use itch_sessions::sessions::{Listening, Login, current_session};
 use itch_sessions::{Callers, SessionFault, called};

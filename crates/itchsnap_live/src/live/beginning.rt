@@ -6,10 +6,11 @@ use super::{Accounts, FEED, LISTENER, Server, Serving};
 use crate::opened::{Begun, follower_of, listen, open_files, open_status};
 use itch_book::OrderBook;
 use itch_codec::Alpha;
+use itch_faults::LiveFault;
 use itch_feeds::{Start, nameless_follower};
 use itch_join::Joiner;
 use itch_live::{Desk, Follower};
-use itch_records::{DayBegun, DayPaths, LiveFault, RecordPlace, stem_of};
+use itch_records::{DayBegun, DayPaths, RecordPlace, stem_of};
 use itch_sessions::log::Log;
 use itch_sessions::sessions::{Login, current_session};
 use itch_sessions::{Callers, Logins, Servers, SessionFault};
@@ -67,7 +68,7 @@ where
         joiner,
         session,
     } = begun;
-    start.note_record(&files.record);
+    start.note_record(files.record.figures());
     let mut follower = follower_of(alloc, serving, login, session, joiner)?;
     session_of(&mut start, &mut follower)?;
     let session = follower.session().unwrap_or(current_session());

@@ -2,7 +2,8 @@
 
 use super::{READING_MS, Server};
 use itch_book::OrderBook;
-use itch_records::{DayPaths, LiveFault, RecordLoss, RecordPart, next_stop};
+use itch_faults::LiveFault;
+use itch_records::{DayPaths, RecordLoss, RecordPart, next_stop};
 use itch_status::Tally;
 use std::alloc::Global;
 use std::fs::File;

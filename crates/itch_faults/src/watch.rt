@@ -1,6 +1,6 @@
 //! Whether a file that is written is still the one that was opened, with all that was written.
 ghost use Rattle.std.specs.Prelude.{◌≡◌};
-ghost use Rattle.itch_records.specs.Watching.{change_of};
+ghost use Rattle.itch_faults.specs.Watching.{change_of};
 
 use std::fmt::{self, Display, Formatter};
 use std::fs::Metadata;

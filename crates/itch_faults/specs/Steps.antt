@@ -14,8 +14,8 @@ use Rattle.itch_live.specs.declared.news.News.{News}
 use Rattle.itch_live.specs.declared.news.News.TheVariants as news
 use Rattle.itch_sessions.specs.declared.session_fault.SessionFault.{SessionFault}
 use Rattle.itch_sessions.specs.declared.session_fault.SessionFault.TheVariants as session_fault
-use Rattle.itch_records.specs.declared.step.Step.{Step}
-use Rattle.itch_records.specs.declared.step.Step.TheVariants.{On, Accepted, Joined, Taken, Ended, Rejected, OtherSession, NoMemory, Lost}
+use Rattle.itch_faults.specs.declared.step.Step.{Step}
+use Rattle.itch_faults.specs.declared.step.Step.TheVariants.{On, Accepted, Joined, Taken, Ended, Rejected, OtherSession, NoMemory, Lost}
 
 -- why a message of the feed is refused, as a replay says it
 abbrev pub stop_of : Cause → Stop

@@ -1,8 +1,8 @@
 -- What another process did to a file that is written.
 use Rattle.std.specs.Prelude.{◌==◌, ◌||◌, not, nat_lt, Option, None, Some, if◌then◌else◌}
-use Rattle.itch_records.specs.declared.watch.Seen.{Seen}
-use Rattle.itch_records.specs.declared.watch.Change.{Change}
-use Rattle.itch_records.specs.declared.watch.Change.TheVariants.{Removed, Replaced, CutShort, Appended}
+use Rattle.itch_faults.specs.declared.watch.Seen.{Seen}
+use Rattle.itch_faults.specs.declared.watch.Change.{Change}
+use Rattle.itch_faults.specs.declared.watch.Change.TheVariants.{Removed, Replaced, CutShort, Appended}
 
 -- it was removed, where its path leads to none; replaced, where it leads to another; otherwise its length tells
 abbrev pub change_of : Seen → Option Seen → Option Change

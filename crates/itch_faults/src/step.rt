@@ -1,6 +1,6 @@
 //! What a follower does about the news of its feed.
 ghost use Rattle.std.specs.Prelude.{◌≡◌};
-ghost use Rattle.itch_records.specs.Steps.{record_fault, refusal_of, rejection_ends, snapshot_fault_of, step_of, stop_of, unrecorded};
+ghost use Rattle.itch_faults.specs.Steps.{record_fault, refusal_of, rejection_ends, snapshot_fault_of, step_of, stop_of, unrecorded};
 
 use itch_codec::Alpha;
 use itch_frame::FrameFault;

@@ -1,8 +1,7 @@
 //! Why a live server, or what follows a feed, has ended: its lines on standard error, and the program's status.
 ghost use Rattle.std.specs.Prelude.{◌≡◌};
-ghost use Rattle.itch_records.specs.LiveFaults.{live_status, record_status};
+ghost use Rattle.itch_faults.specs.LiveFaults.{live_status, record_status};
 
-use crate::day_files::DayPaths;
 use crate::watch::Change;
 use itch_codec::Alpha;
 use itch_live::Source;
@@ -46,13 +45,6 @@ pub enum LiveFault {
         snapshot: Alpha<10>,
         feed: Alpha<10>,
     },
-}
-
-/// Why a live server has ended, and where the files of the day were, as far as that was known.
-#[derive(Debug, Drop)]
-pub struct DayFault {
-    pub fault: LiveFault,
-    pub paths: DayPaths,
 }
 
 /// What one process at a time may write to.
@@ -279,7 +271,7 @@ impl Display for RecordFault {
 impl Error for LiveFault {}
 
 impl From<SessionFault> for LiveFault {
-    ghost use Rattle.itch_records.specs.declared.fault.LiveFault.TheVariants.{Session};
+    ghost use Rattle.itch_faults.specs.declared.fault.LiveFault.TheVariants.{Session};
 
     ghost from_gives = { λ fault live. live ≡ Session fault };
 
@@ -290,7 +282,7 @@ impl From<SessionFault> for LiveFault {
 
 impl From<AllocError> for LiveFault {
     ghost use Rattle.itch_sessions.specs.declared.session_fault.SessionFault.TheVariants.{OutOfMemory};
-    ghost use Rattle.itch_records.specs.declared.fault.LiveFault.TheVariants.{Session};
+    ghost use Rattle.itch_faults.specs.declared.fault.LiveFault.TheVariants.{Session};
 
     ghost from_gives = { λ _ live. live ≡ Session OutOfMemory };
 

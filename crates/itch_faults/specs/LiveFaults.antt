@@ -2,10 +2,10 @@
 use Rattle.std.specs.Prelude.{ℕ}
 use Rattle.itch_market.specs.Statuses.{stop_status}
 use Rattle.itch_sessions.specs.SessionFaults.{session_status}
-use Rattle.itch_records.specs.declared.fault.LiveFault.{LiveFault}
-use Rattle.itch_records.specs.declared.fault.LiveFault.TheVariants.{Session, Record, SessionFile, StatusPort, InUse, OtherSession, Refused, GlimpseSession}
-use Rattle.itch_records.specs.declared.fault.RecordFault.{RecordFault}
-use Rattle.itch_records.specs.declared.fault.RecordFault.TheVariants as «record»
+use Rattle.itch_faults.specs.declared.fault.LiveFault.{LiveFault}
+use Rattle.itch_faults.specs.declared.fault.LiveFault.TheVariants.{Session, Record, SessionFile, StatusPort, InUse, OtherSession, Refused, GlimpseSession}
+use Rattle.itch_faults.specs.declared.fault.RecordFault.{RecordFault}
+use Rattle.itch_faults.specs.declared.fault.RecordFault.TheVariants as «record»
 
 -- that of a record: as of a day file that is replayed; 3 where its file was changed
 abbrev pub record_status : RecordFault → ℕ

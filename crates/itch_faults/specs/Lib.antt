@@ -1,0 +1,3 @@
+pub mod LiveFaults
+pub mod Steps
+pub mod Watching
