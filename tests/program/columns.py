@@ -94,7 +94,7 @@ def anything_but_one_type_is_a_usage_fault(program):
         yield from differs(f"{words}: names --types", b"--csv needs --orders, or one type, such as --types A" in error, True)
     for words in (("--json", "--csv"), ("--names", "--csv"), ("--json", "--names")):
         status, _, error = ended(program, "show", "--types", "A", *words)
-        yield from differs(f"{words}: status", (status, b"exclude each other" in error), (2, True))
+        yield from differs(f"{words}: status", (status, b"cannot be used with" in error), (2, True))
 
 
 RUNS = [

@@ -208,8 +208,9 @@ def each_allocation_of_a_connection_ends_the_serving(program):
 def what_is_no_snapshot_is_not_written(program):
     refused = file("START AAPL MSFT_AT_1")
     answers = {
-        b"\0\x02JA": ("rejected A", None),
-        b"\0\x02JS": ("rejected S", None),
+        b"\0\x02JA": ("rejected A\n  not authorized: the user name or the password is not the server's", None),
+        b"\0\x02JS": ("rejected S\n  the server does not have this session, or this message", None),
+        b"\0\x02JX": ("rejected X", None),
         acceptance(1) + ENDED: ("ended early", None),
         b"": ("ended early", None),
         ENDED: ("ended early", None),
@@ -241,7 +242,7 @@ def a_rest_is_written_as_it_comes(program):
 
 def what_is_no_rest_is_not_written(program):
     answers = {
-        b"\0\x02JS": ("rejected S", None),
+        b"\0\x02JS": ("rejected S\n  the server does not have this session, or this message", None),
         answer(1): ("session fault", "accepted from 1, not from 3"),
         answer(4): ("session fault", "accepted from 4, not from 3"),
         acceptance(3) + ENDED: ("ended early", None),

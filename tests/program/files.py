@@ -57,7 +57,8 @@ def each_refused_file_has_its_line(program):
     with tempfile.TemporaryDirectory() as folder:
         shim = failing.build_shim(folder)
         for blocks, reason in REFUSED.items():
-            wanted = 1, b"", f"itchsnap: {reason}\n".encode()
+            hint = "  day.itch: this looks like a snapshot, not a day file\n" if reason.endswith("unexpected end") else ""
+            wanted = 1, b"", f"itchsnap: {reason}\n{hint}".encode()
             yield from differs(f"check of {blocks}", ended(program, "check", "day.itch", day=file(blocks)), wanted)
             with open(f"{folder}/day.itch", "wb") as day:
                 day.write(file(blocks))

@@ -21,7 +21,7 @@ from typing import NamedTuple
 
 import large
 from common import differs, readable, split
-from living import (BEAT, CLIENT_BEAT, ENDED, LOGIN, PATIENCE, SILENCE, Feed, acceptance, answer, connect, day_of, fetch, folder_with, live,
+from living import (BEAT, CLIENT_BEAT, ENDED, LOGIN, PATIENCE, REJECTED, SILENCE, Feed, acceptance, answer, connect, day_of, fetch, folder_with, live,
                     number_in, number_of, packet, plays, received, sends)
 
 ACCEPTED = len(acceptance(1))
@@ -427,7 +427,7 @@ def a_feed_that_refuses_a_login_once_is_asked_again(program):
     yield from differs("ended", (status, feed.asked(), lines[-1]), (0, [1, 6, 6], f"feed: ended at {len(split(day)) + 1}\n"))
     with Feed(sends(b"\0\x02JA")) as feed, live(program, feed.port) as server:
         status, output, lines = server.ended()
-    yield from differs("refused", (status, output, lines[-1], len(feed.logins)), (1, b"", "itchsnap: rejected A\n", 1))
+    yield from differs("refused", (status, output, lines[-2:], len(feed.logins)), (1, b"", REJECTED, 1))
 
 
 def a_feed_that_ends_before_any_message_is_asked_again(program):

@@ -117,7 +117,7 @@ def at_reads_the_day_from_its_checkpoint_on(program):
         for count in (5, 6, 7):
             wanted = 0, snapped(folder, program, "--after", str(count)), b""
             yield from differs(count, ended_in(folder, program, "at", "snapshots", "rest.itch", str(count)), wanted)
-        yield from differs("from 2 on", ended_in(folder, program, "at", "snapshots", "rest.itch", "4"), (1, b"", b"itchsnap: only 2 messages\n"))
+        yield from differs("from 2 on", ended_in(folder, program, "at", "snapshots", "rest.itch", "4"), (1, b"", b"itchsnap: only 2 messages\n  rest.itch: 4 messages are requested\n"))
 
 
 def at_passes_over_lines_that_are_no_checkpoints(program):
@@ -138,7 +138,7 @@ def at_is_refused_as_join_is(program):
 
         yield from differs("no folder", ended_in(folder, program, "at", "snapshots", "1.itch", "6"), missing("index.jsonl"))
         write_checkpoints(folder, program, [2])
-        yield from differs("beyond the end", ended_in(folder, program, "at", "snapshots", "1.itch", "8"), (1, b"", b"itchsnap: only 7 messages\n"))
+        yield from differs("beyond the end", ended_in(folder, program, "at", "snapshots", "1.itch", "8"), (1, b"", b"itchsnap: only 7 messages\n  1.itch: 8 messages are requested\n"))
         for point in ("", "+1", "10:61", "x"):
             yield from differs(point, ended_in(folder, program, "at", "snapshots", "1.itch", point)[:2], (2, b""))
         (Path(folder) / "snapshots/2.snap").unlink()

@@ -12,6 +12,13 @@ from large import entry, stock
 
 DAY = file("START AAPL BUY_1")
 BAD_LIST = 2, b"", b"itchsnap: bad locate list\n"
+ITEM = b"  %s: not a locate from 0 to 65535, nor an ascending range such as 1-40\n"
+LIST_FILE = b"  %s: a list has locates from 0 to 65535 and ascending ranges such as 1-40, one per line or between commas\n"
+
+
+def bad_list(cause):
+    """How a command with a bad list ends, with this second line."""
+    return *BAD_LIST[:2], BAD_LIST[2] + cause
 # The arguments of a command that has a list, without the list.
 COMMANDS = (
     ("snap", "no.itch", "--only", "LIST", "--output", "no/out"),
@@ -35,14 +42,16 @@ def a_bad_list_is_found_before_a_file_is_opened(program):
         for command in COMMANDS:
             for words in ("x", "2-1", "@bad"):
                 got = ended_in(folder, program, *(words if word == "LIST" else word for word in command))
-                yield from differs((command, words), got, BAD_LIST)
+                cause = LIST_FILE % b"bad" if words == "@bad" else ITEM % words.encode()
+                yield from differs((command, words), got, bad_list(cause))
             missing = 3, b"", b"itchsnap: cannot open\n  gone: No such file or directory (os error 2)\n"
             got = ended_in(folder, program, *("@gone" if word == "LIST" else word for word in command))
             yield from differs((command, "@gone"), got, missing)
 
 
 def a_bad_login_is_found_before_a_file_is_opened(program):
-    for user, password, line in (("seven77", "p", "bad user"), ("u", "eleven_long", "bad password")):
+    for user, password, line in (("seven77", "p", "bad user\n  a user name has 1 to 6 printable characters"),
+                                 ("u", "eleven_long", "bad password\n  a password has 1 to 10 printable characters")):
         words = "fetch", "--port", "1", "--user", user, "--pass", password, "--output", "no/out"
         yield from differs(line, ended(program, *words), (2, b"", f"itchsnap: {line}\n".encode()))
 
@@ -62,7 +71,7 @@ def a_list_in_a_file_has_any_size(program):
             yield from differs(name, ended_in(folder, program, "snap", "day.itch", "--only", "@list"), wanted)
         for name, data in {"a comma": b"1,\n2", "no locate": b"\n \n", "nothing": b"", "a space": b"1, 2", "not a locate": b"65536", "zeros": b"0" * 70_000 + b"1"}.items():
             (Path(folder) / "list").write_bytes(data)
-            yield from differs(name, ended_in(folder, program, "snap", "day.itch", "--only", "@list"), BAD_LIST)
+            yield from differs(name, ended_in(folder, program, "snap", "day.itch", "--only", "@list"), bad_list(LIST_FILE % b"list"))
 
 
 def a_list_that_is_no_text_is_no_list(program):
@@ -70,7 +79,7 @@ def a_list_that_is_no_text_is_no_list(program):
         (Path(folder) / "day.itch").write_bytes(DAY)
         for data in (b"\377", b"1\n2\377\n", b"1,\300\200,2"):
             (Path(folder) / "list").write_bytes(data)
-            yield from differs(data, ended_in(folder, program, "snap", "day.itch", "--only", "@list"), BAD_LIST)
+            yield from differs(data, ended_in(folder, program, "snap", "day.itch", "--only", "@list"), bad_list(LIST_FILE % b"list"))
 
 
 def directory(count):

@@ -14,7 +14,7 @@ import time
 from pathlib import Path
 
 from common import differs, ended_in, readable, split
-from living import (BEAT, CLIENT_BEAT, ENDED, LOGIN, PATIENCE, SILENCE, WORDS, Feed, Running, acceptance, answer, block_in, connect, day_of,
+from living import (BEAT, CLIENT_BEAT, ENDED, LOGIN, PATIENCE, REJECTED, SILENCE, WORDS, Feed, Running, acceptance, answer, block_in, connect, day_of,
                     feeding, fetch, folder_with, large_server, live, number_of, packet, plays, received, recorded, sends, session_in, snapshot_after,
                     told, without_first_beats)
 
@@ -161,7 +161,7 @@ def a_first_login_that_is_not_authorised_ends_it(program):
             words = ["--glimpse", f"127.0.0.1:{feed.port}"] if glimpse else []
             with live(program, feed.port, *words) as server:
                 status, output, lines = server.ended()
-        yield from differs("ended", (status, output, lines), (1, b"", ["itchsnap: rejected A\n"]))
+        yield from differs("ended", (status, output, lines), (1, b"", REJECTED))
     for scripts, asked in (([sends(b"\0\x02JS")], [1, 1]), ([plays(day, until=5), sends(b"\0\x02JA"), sends(b"\0\x02JS")], [1, 6, 6, 6])):
         with Feed(*scripts, plays(day, then=ENDED)) as feed, live(program, feed.port) as server:
             status, output, lines = server.ended()

@@ -15,6 +15,7 @@ from common import ended_in, split
 
 LOGIN = b"\0\x2fLuser  secret    " + b" " * 10 + b"1".rjust(20)
 WORDS = "--user", "user", "--pass", "secret"
+REJECTED = ["itchsnap: rejected A\n", "  not authorized: the user name or the password is not the server's\n"]
 ENDED, BEAT, CLIENT_BEAT = b"\0\x01Z", b"\0\x01H", b"\0\x01R"
 # How long a process may take to start, and to do what is waited for.
 PATIENCE = 60

@@ -18,6 +18,8 @@ LONGEST = 65_535
 # Codes of itchsnap.h.
 OK, KEPT, JOINED, CONFLICT = 0, 64, 68, 73
 
+# What a list is, where an item is too long to be quoted.
+LISTED = b"  a list has locates from 0 to 65535 and ascending ranges such as 1-40, between commas"
 
 def of_locates(snapshot, wanted):
     """A snapshot cut down to some locates."""
@@ -38,7 +40,7 @@ def a_list_of_1000_locates_is_read(program):
     yield from differs("snap", ended(program, "snap", "day.itch", "--only", words, day=day), (0, cut, b""))
     yield from differs("join", ended(program, "join", "start.itch", "day.itch", "--only", words, day=day, start=large.closing(1)), (0, cut, b""))
     yield from differs("a list with an empty end", ended(program, "snap", "day.itch", "--only", words + ",", day=day),
-                       (2, b"", b"itchsnap: bad locate list\n"))
+                       (2, b"", b"itchsnap: bad locate list\n" + LISTED + b"\n"))
 
 
 def a_list_of_1000_stocks_is_read(program):
@@ -61,7 +63,7 @@ def books_and_stocks_of_65536_locates_are_found(program):
     yield from differs("book of all", ended(program, "book", "0-65535", "day.itch", day=day), (0, b"".join(titles), b""))
     yield from differs("book of the last", ended(program, "book", "--stock", "S0065535,S0000000", "day.itch", day=day), (0, titles[0] + titles[-1], b""))
     yield from differs("book without the last", ended(program, "book", "0-65535", "day.itch", day=large.locates(65_535)[0]),
-                       (1, b"", b"itchsnap: unknown locate\n"))
+                       (1, b"", b"itchsnap: unknown locate\n  day.itch: no locate 65535\n"))
     yield from differs("snap of the last", ended(program, "snap", "--stock", "S0065535", "day.itch", day=day),
                        (0, of_locates(snapshot, [65_535]), b""))
     same = b"".join(large.block(b"R", it, b"SAME    " + large.ENTRY) for it in range(65_536))
@@ -89,11 +91,11 @@ def a_word_of_100000_letters_is_refused(program):
     word = "x" * 100_000
     for words, status, line in (
             (["check", word], 3, f"itchsnap: cannot open\n  {word}: File name too long (os error 36)".encode()),
-            (["snap", "--only", word], 2, b"itchsnap: bad locate list"),
-            (["book", word], 2, b"itchsnap: bad locate list"),
+            (["snap", "--only", word], 2, b"itchsnap: bad locate list\n" + LISTED),
+            (["book", word], 2, b"itchsnap: bad locate list\n" + LISTED),
             (["snap", "--stock", word], 1, b"itchsnap: unknown stock\n  standard input: no stock has more than 8 characters"),
-            (["fetch", "--port", "1", "--user", word, "--pass", "p"], 2, b"itchsnap: bad user"),
-            (["fetch", "--port", "1", "--user", "u", "--pass", word], 2, b"itchsnap: bad password")):
+            (["fetch", "--port", "1", "--user", word, "--pass", "p"], 2, b"itchsnap: bad user\n  a user name has 1 to 6 printable characters"),
+            (["fetch", "--port", "1", "--user", "u", "--pass", word], 2, b"itchsnap: bad password\n  a password has 1 to 10 printable characters")):
         yield from differs(words[0], ended(program, *words), (status, b"", line + b"\n"))
 
 

@@ -95,7 +95,7 @@ def on_terminal(words):
 
 
 def a_snapshot_is_kept_from_a_terminal(program):
-    login = ["--port", "1", "--user", "u", "--pass", "p"]
+    login = ["127.0.0.1:1", "--user", "u", "--pass", "p"]
     for words in (["snap", OPENING], ["canon", SNAPSHOT], ["join", SNAPSHOT, OPENING], ["fetch", *login]):
         status, shown, error = on_terminal([program, *words])
         if (status, shown) != (2, b"") or not error.startswith(b"error: a snapshot is not written to a terminal"):
@@ -298,6 +298,13 @@ def the_page_has_each_command_and_option(program):
     for option in {it for text in helps for it in re.findall(r"--[a-z][a-z-]*[a-z]", text)}:
         if not re.search(rf"\n\.TP\n\.[BRI]+ .*{option}\b", page):
             yield f"the page lacks the option {option}"
+    explained = re.findall(r"^\.TP\n\.[BRI]+ .*?--([a-z-]+)", page.split("\n.SH OPTIONS\n")[1].split("\n.SH ENVIRONMENT\n")[0], re.M)
+    shown = {it for text in helps for it in re.findall(r"^ +(?:-[hV], )?--([a-z-]+)", text, re.M)}
+    yield from differs("options that only the page has", sorted({*explained} - shown), [])
+    for name, text in zip(names, helps[1:]):
+        synopsis = "\n".join(re.findall(rf"^\.B itchsnap {name}\n((?:(?!\.br|\.SH).*\n)*)", page, re.M))
+        options = {it for it in re.findall(r"^ +(?:-h, )?--([a-z-]+)", text, re.M)} - {"help"}
+        yield from differs(f"synopsis of {name}", {*re.findall(r"--([a-z-]+)", synopsis)}, options)
     if f'"itchsnap {version(program).split()[1]}"' not in page:
         yield "the page is that of another version"
 

@@ -116,10 +116,10 @@ def a_file_that_has_no_password_is_told(program):
             "none": (None, (3, b"", b"itchsnap: cannot open\n  none: No such file or directory (os error 2)\n")),
             ".": (None, (3, b"", b"itchsnap: cannot open\n  .: Is a directory (os error 21)\n")),
             "bytes": (b"\xff\n", (3, b"", b"itchsnap: cannot open\n  bytes: stream did not contain valid UTF-8\n")),
-            "empty": (b"", (2, b"", b"itchsnap: bad password\n")),
-            "line": (b"\nsecret\n", (2, b"", b"itchsnap: bad password\n")),
-            "long": (b"12345678901\n", (2, b"", b"itchsnap: bad password\n")),
-            "/dev/zero": (None, (2, b"", b"itchsnap: bad password\n")),
+            "empty": (b"", (2, b"", b"itchsnap: bad password\n  a password has 1 to 10 printable characters\n")),
+            "line": (b"\nsecret\n", (2, b"", b"itchsnap: bad password\n  a password has 1 to 10 printable characters\n")),
+            "long": (b"12345678901\n", (2, b"", b"itchsnap: bad password\n  a password has 1 to 10 printable characters\n")),
+            "/dev/zero": (None, (2, b"", b"itchsnap: bad password\n  a password has 1 to 10 printable characters\n")),
         }
         for name, (data, wanted) in rows.items():
             if data is not None:
@@ -140,7 +140,7 @@ def a_variable_that_is_not_utf_8_is_no_password(program):
 def a_session_is_asked_for(program):
     yield from is_served(program, (("--session", "ITCHSNAP", *PASS), {}), *PASS)
     with serving(program, *PASS) as (process, _, port):
-        yield from differs("another session", fetch(program, port, "--session", "GLIMPSE", *PASS), (1, b"", b"itchsnap: rejected S\n"))
+        yield from differs("another session", fetch(program, port, "--session", "GLIMPSE", *PASS), (1, b"", b"itchsnap: rejected S\n  the server does not have this session, or this message\n"))
         output, error = process.communicate(timeout=60)
     yield from differs("its line", (process.returncode, output, error), (0, b"connection 1: rejected S\n", b""))
 
@@ -151,7 +151,7 @@ def a_rest_follows_what_is_before_it(program):
     last = len(whole)
     rests = {n: (0, b"".join(whole[n - 1:]), b"") for n in (1, 2, last - 1, last)}
     rests[last + 1] = 1, b"", b"itchsnap: ended early\n"
-    rests[last + 2] = 1, b"", b"itchsnap: rejected S\n"
+    rests[last + 2] = 1, b"", b"itchsnap: rejected S\n  the server does not have this session, or this message\n"
     for first, wanted in rests.items():
         with serving(program, *PASS) as (process, _, port):
             yield from differs(f"from {first}", fetch(program, port, "--from", str(first), "--session", "ITCHSNAP", "--timeout", "60", *PASS), wanted)

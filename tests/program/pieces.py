@@ -191,7 +191,8 @@ def beginning(command, it, held):
         truncated = held - starts[it.whole(held)]
         return 1, command.shown(held), it.line(held, f"truncated, {truncated} bytes held").encode()
     if it.is_snapshot:
-        return 1, b"", it.line(held, "no end of snapshot").encode()
+        hint = f"  {it.name}: if this is a day file, use itchsnap snap to make its snapshot\n"
+        return 1, b"", (it.line(held, "no end of snapshot") + hint).encode()
     return {"check": (0, b"ok %d messages\n" % it.whole(held), b""), "show": (0, command.shown(held), b"")}.get(command.words[0])
 
 

@@ -252,7 +252,7 @@ def a_peer_that_breaks_the_protocol_is_not_waited_for(program):
 def a_wrong_password_is_rejected(program):
     with Server(program, EXAMPLES / "opening.itch", 1) as server:
         got = fetch(program, server.port, password="wrong")
-        if got != (1, b"", b"itchsnap: rejected A\n"):
+        if got != (1, b"", b"itchsnap: rejected A\n  not authorized: the user name or the password is not the server's\n"):
             yield f"fetched with {got}"
         yield from server.differences("rejected A")
 

@@ -11,7 +11,7 @@ import time
 from pathlib import Path
 
 from common import differs, ended_in, split
-from living import (ENDED, PATIENCE, WORDS, Feed, Running, acceptance, answer, day_of, feeding, fetch, folder_with, number_of, plays, sends,
+from living import (ENDED, PATIENCE, REJECTED, WORDS, Feed, Running, acceptance, answer, day_of, feeding, fetch, folder_with, number_of, plays, sends,
                     session_in, snapshot_after)
 
 QUICK = {"RES_OPTIONS": "timeout:1 attempts:1", "LOCALDOMAIN": ""}
@@ -116,7 +116,7 @@ def a_rejection_that_is_tried_again_is_tried_at_the_next(program):
         yield from differs("said", lines, wanted)
     with Feed(sends(b"\0\x02JA")) as one, Feed(plays(day, then=ENDED)) as other, live(program, at(one.port), at(other.port)) as server:
         status, _, lines = server.ended()
-        yield from differs("wrong words", (status, lines[-1], other.asked()), (1, "itchsnap: rejected A\n", []))
+        yield from differs("wrong words", (status, lines[-2:], other.asked()), (1, REJECTED, []))
 
 
 def a_refused_message_names_its_server(program):

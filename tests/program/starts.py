@@ -15,8 +15,8 @@ from pathlib import Path
 TOP = Path(__file__).resolve().parent.parent.parent
 # Where no toolchain is.
 PLAIN = "/usr/bin:/bin"
-NAMES = ("itch_frame itch_codec itch_status itch_day itch_checkpoints itch_book itch_market itch_snapshot itch_soup itch_join itch_live itch_commands "
-         "itch_sessions itch_records itch_clients itchsnap_live itchsnap_cli itch_tool").split()
+NAMES = ("itch_frame itch_codec itch_status itch_day itch_history itch_checkpoints itch_book itch_market itch_snapshot itch_soup itch_join itch_live "
+         "itch_commands itch_sessions itch_records itch_clients itchsnap_live itchsnap_cli itch_tool").split()
 CHANGED = "crates/itch_frame/src/lib.rt"
 # Where ./install puts the program and its other files, in its order.
 PLACES = ["bin/itchsnap", "share/man/man1/itchsnap.1", "share/bash-completion/completions/itchsnap", "share/zsh/site-functions/_itchsnap",

@@ -2,6 +2,7 @@
 
 RUNS lists the runs. Each is a function that is given the program and yields the differences.
 """
+import gzip
 import re
 import shutil
 import subprocess
@@ -10,6 +11,7 @@ from pathlib import Path
 
 from common import differs, ended, file
 
+TOP = Path(__file__).resolve().parent.parent.parent
 LOGIN = "--user user --pass secret"
 HELP = "snap --help", "fetch --help", "--version"
 # The files of the examples in the help.
@@ -62,6 +64,15 @@ FAULTS = [
     "show --reference -1",
     "show --reference 0x1",
     "show --reference 1 --reference 2",
+    "show day.itch --history",
+    "show day.itch --reference 1 --history --history",
+    "show day.itch --reference 1 --history=1",
+    "show --reference 1 --history",
+    "show - --reference 1 --history",
+    "show day.snap --reference 1 --history --snapshot",
+    "show day.itch --reference 1 --history --csv",
+    "show day.itch --reference 1 --history --names --json",
+    "cut day.itch --history",
     "check --types A",
     "snap --reference 1",
     "book 1 --names",
@@ -157,8 +168,192 @@ def help_ends_with_status_0(program):
 
 def commands(program):
     """The names of the commands, of which help has a line each."""
-    listed = ended(program, "--help")[1].decode().split("Commands:\n")[1].split("\n\n")[0]
-    return [name for name in re.findall(r"^  (\S+) ", listed, re.M) if name != "help"]
+    listed = ended(program, "--help")[1].decode().split("Options:\n")[0]
+    return [name for name in re.findall(r"^  ([a-z]+)  ", listed, re.M) if name != "help"]
+
+
+def help_of(program, *words):
+    """The help, which ends with status 0, as its parts: each heading with its lines."""
+    status, output, error = ended(program, *words)
+    assert (status, error) == (0, b""), (words, status, error)
+    return {title: lines.splitlines() for title, lines in re.findall(r"^([A-Z][^:\n]*):\n((?:  .*\n|\n(?=  ))*)", output.decode(), re.M)}
+
+
+# The commands under each heading of the help.
+TOPICS = {
+    "Look into a file": ["check", "info", "show", "book", "compare", "cut"],
+    "Make and use snapshots": ["snap", "join", "at", "canon"],
+    "Serve and follow over SoupBinTCP": ["serve", "fetch", "live", "follow", "feed", "status"],
+    "Other commands": ["completions", "help"],
+}
+
+
+def help_lists_commands_by_topic(program):
+    for words in (["--help"], ["-h"], ["help"]):
+        parts = help_of(program, *words)
+        for topic, names in TOPICS.items():
+            yield from differs(f"{words}: {topic}", [line.split()[0] for line in parts.get(topic, [])], names)
+    page = (TOP / "docs/OUTPUT.md").read_text().split("## Exit codes")[1].split("##")[0]
+    codes = re.findall(r"^\| (\d+) \| (.*) \|$", page, re.M)
+    long = help_of(program, "--help")
+    shown = [line.split(maxsplit=1) for line in long["Exit codes"]]
+    yield from differs("codes", [it for it, _ in shown], [it for it, _ in codes])
+    yield from differs("their meaning", [wanted for (_, meaning), (_, wanted) in zip(shown, codes) if not wanted.startswith(meaning)], [])
+    yield from differs("examples", len(long["Examples"]), 2)
+    text = ended(program, "--help")[1]
+    yield from differs("the manual's name", text.endswith(b"\n\nManual: man itchsnap\n"), True)
+    yield from differs("the short help has no codes", "Exit codes" in help_of(program, "-h"), False)
+
+
+def examples_of_the_help_run(program):
+    for example in help_of(program, "--help")["Examples"]:
+        with tempfile.TemporaryDirectory() as name:
+            folder = Path(name)
+            (folder / "day.itch").write_bytes(file(FILES["day.itch"]))
+            (folder / "day.itch.gz").write_bytes(gzip.compress(file(FILES["day.itch"])))
+            done = subprocess.run(["bash", "-c", f'set -o pipefail; itchsnap() {{ "$0" "$@"; }}; {example}', program], cwd=folder,
+                                  capture_output=True, timeout=60)
+        yield from differs(example, (done.returncode, bool(done.stdout), done.stderr), (0, True, b""))
+
+
+def help_lists_options_by_group(program):
+    """Each option has a heading; `--help` adds to what `-h` says, and begins with the same line."""
+    for command in commands(program):
+        short, long = (ended(program, command, it)[1].decode() for it in ("-h", "--help"))
+        yield from differs(f"{command}: an option without a heading", "\nOptions:\n" in short, False)
+        yield from differs(f"{command}: the same options", *(re.findall(r"^ +(?:-h, )?--([a-z-]+)", it, re.M) for it in (short, long)))
+        yield from differs(f"{command}: first line", long.splitlines()[0], short.splitlines()[0])
+        yield from differs(f"{command}: more", len(long.split("\n\nUsage:")[0]) > len(short.split("\n\nUsage:")[0]), True)
+        yield from differs(f"{command}: help", ended(program, "help", command)[1].decode(), long)
+    for command, groups in {"live": ["Feed", "Server", "Clients", "Recording", "Help"], "show": ["Arguments", "Input", "Selection", "Output", "Help"]}.items():
+        yield from differs(f"{command}: groups", [it for it in help_of(program, command, "-h")], groups)
+
+
+def ranges_of_the_help_are_true(program):
+    found = 0
+    for command in commands(program):
+        for option, least, most in re.findall(r"--([a-z-]+) <.*\[(\d+)\.\.(\d+)\]", ended(program, command, "-h")[1].decode()):
+            found += 1
+            for number in [int(most) + 1] + [int(least) - 1] * (int(least) > 0):
+                status, output, error = ended(program, command, f"--{option}={number}")
+                wanted = f"{number} is not in {least}..={most}".encode()
+                yield from differs(f"{command} --{option} {number}", (status, output, wanted in error), (2, b"", True))
+            for number in (least, most):
+                yield from differs(f"{command} --{option} {number}", b"is not in" in ended(program, command, f"--{option}={number}", "--help=1")[2], False)
+    yield from differs("ranges", found > 5, True)
+
+
+def usage_of(program, command):
+    """The lines of the usage in the help of a command."""
+    lines = ended(program, command, "-h")[1].decode().split("\n\nUsage: ")[1].split("\n\n")[0]
+    return [it.strip() for it in lines.splitlines()]
+
+
+def usage_names_what_is_required(program):
+    """Each line of a usage without one of its required arguments is an error that names it, or another line's."""
+    yield from differs("book", usage_of(program, "book"), ["itchsnap book [OPTIONS] <LOCATE> [FILE]", "itchsnap book [OPTIONS] --stock <LIST> [FILE]"])
+    yield from differs("fetch", usage_of(program, "fetch"), ["itchsnap fetch [OPTIONS] --user <U> <HOST:PORT>"])
+    for command in commands(program):
+        for line in usage_of(program, command):
+            yield from differs(f"{command}: the command", line.startswith(f"itchsnap {command}"), True)
+            needed = re.findall(r"--[a-z-]+ <[A-Z:]+>|(?<= )<[A-Z:]+>", re.sub(r"\[[^]]*\]", "", line))
+            values = {"--feed <HOST:PORT>": "--feed=h:1", "--glimpse <HOST:PORT>": "--glimpse=h:2", "<HOST:PORT>": "h:1", "<LOCATE>": "1", "<SHELL>": "bash"}
+            words = [values.get(it) or (f"{it.split()[0]}=1" if it.startswith("-") else "1") for it in needed]
+            for left_out in range(len(words)):
+                status, output, error = ended(program, command, *words[:left_out], *words[left_out + 1:])
+                yield from differs(f"{line} without {needed[left_out]}", (status, output, error.startswith(b"error: ")), (2, b"", True))
+
+
+def options_of(program, command):
+    """The options that the help of a command shows, each with whether it has a value."""
+    return re.findall(r"^ +(?:-h, )?--([a-z-]+)(?: (<\S+>))?", ended(program, command, "-h")[1].decode(), re.M)
+
+
+def each_option_is_given_once_and_with_its_value(program):
+    """But for --feed. The usage is that of the command."""
+    for command in commands(program):
+        for option, value in options_of(program, command):
+            if option == "help":
+                continue
+            twice = [f"--{option}={it}" if value else f"--{option}" for it in ("1", "1")]
+            rows = [[f"--{option}"] if value else [f"--{option}=1"], *([] if option == "feed" else [twice])]
+            for words in rows:
+                status, output, error = ended(program, command, *words)
+                yield from differs(f"{command} {words}", (status, output, error.startswith(b"error: ")), (2, b"", True))
+                yield from differs(f"{command} {words}: usage", re.findall(rb"^Usage: itchsnap (\S+)", error, re.M) in ([], [command.encode()]), True)
+
+
+# Arguments that cannot be combined, and those that need others: the words, and what the first line of the error says.
+RULES = {
+    "show --json --csv --orders": "the argument '--json' cannot be used with '--csv'",
+    "show --names --json": "the argument '--names' cannot be used with '--json'",
+    "show --names --csv --types A": "the argument '--names' cannot be used with '--csv'",
+    "show --snapshot --after 1": "the argument '--snapshot' cannot be used with '--after <N>'",
+    "show --snapshot --until 9:30": "the argument '--snapshot' cannot be used with '--until <TIME>'",
+    "show --snapshot --from 1": "the argument '--snapshot' cannot be used with '--from <N>'",
+    "show --snapshot --since 9:30": "the argument '--snapshot' cannot be used with '--since <TIME>'",
+    "show --orders --snapshot": "the argument '--orders' cannot be used with '--snapshot'",
+    "book 1 --json --csv": "the argument '--json' cannot be used with '--csv'",
+    "book 1 --snapshot --after 1": "the argument '--snapshot' cannot be used with '--after <N>'",
+    "book 1 day.itch --stock AAPL": "the argument '[LOCATE]' cannot be used with '--stock <LIST>'",
+    "book": "one of '<LOCATE>' and '--stock <LIST>' is required",
+    "compare a b --first --snapshot": "the argument '--first' cannot be used with '--snapshot'",
+    "compare a b --snapshot --until 9": "the argument '--snapshot' cannot be used with '--until <TIME>'",
+    "snap --only 1 --stock AAPL": "the argument '--only <LIST>' cannot be used with '--stock <LIST>'",
+    "snap --to d --stock AAPL": "the argument '--to <DIR>' cannot be used with '--stock <LIST>'",
+    "snap --to d --output o": "the argument '--to <DIR>' cannot be used with '--output <PATH>'",
+    "snap --to d --every 5 --after 5": "the argument '--every <N>' cannot be used with '--after <N>'",
+    "snap --every 5": "the following required arguments were not provided:",
+    "snap --after 1,2": "several points require '--to <DIR>', a folder for their snapshots",
+    "snap --to d --after 1 --until 9": "only one of '--after <N>', '--until <TIME>' and '--every <N>' can be used with '--to <DIR>'",
+    "canon --check --output o": "the argument '--check' cannot be used with '--output <PATH>'",
+    "join a b --only 1 --stock A": "the argument '--only <LIST>' cannot be used with '--stock <LIST>'",
+    "serve f --port 1 --count 1 --user u --pass p --pass-file f": "the argument '--pass <W>' cannot be used with '--pass-file <FILE>'",
+    "fetch h:1 --port 1 --user u --pass p": "the argument '[HOST:PORT]' cannot be used with '--port <P>'",
+    "fetch h --user u --pass p": "a server is HOST:PORT, with an IPv6 address in brackets and a port from 1 to 65535",
+    "fetch --user u --pass p": "the following required arguments were not provided:",
+    "live --feed h:1 --port 0 --user u --pass p --to d": "the following required arguments were not provided:",
+    "live --feed h:1 --port 0 --user u --pass p --keep 5": "the following required arguments were not provided:",
+    "live --feed h:1 --port 0 --user u --pass p --glimpse-session S": "the following required arguments were not provided:",
+    "live --feed h:1 --port 0 --user u --pass p --record r --glimpse h:2": "the argument '--record <FILE>' cannot be used with '--glimpse <HOST:PORT>'",
+    "live --feed h:1 --port 0 --user u --pass p --record r --records d": "the argument '--record <FILE>' cannot be used with '--records <DIR>'",
+    "live --feed h:1 --port 0 --user u --pass p --sync no": "'--sync <WHEN>' and '--record-optional' require '--record <FILE>' or '--records <DIR>'",
+    "live --feed h:1 --port 0 --user u --pass p --sync now": "invalid value 'now' for '--sync <WHEN>'",
+    "live --feed h:1 --port 0 --user u --users f": "the argument '--user <U>' cannot be used with '--users <FILE>'",
+    "follow --feed h:1 --glimpse h:2 --user u --pass p --whole --json": "the argument '--whole' cannot be used with '--json'",
+    "feed f --port 0 --user u --pass p --rate 1 --clock 1": "the argument '--rate <N>' cannot be used with '--clock <X>'",
+    "completions csh": "invalid value 'csh' for '<SHELL>'",
+}
+
+
+def arguments_that_break_a_rule_are_named(program):
+    """In clap's words, with the usage of the command where there is one."""
+    for line, wanted in RULES.items():
+        status, output, error = ended(program, *line.split())
+        yield from differs(line, (status, output, error.decode().splitlines()[:1]), (2, b"", [f"error: {wanted}"]))
+        usage = re.findall(r"^Usage: itchsnap (\S+)", error.decode(), re.M)
+        yield from differs(f"{line}: usage", usage, [] if "invalid value" in wanted else line.split()[:1])
+
+
+def old_names_are_accepted_and_hidden(program):
+    shown = {command: [it for it, _ in options_of(program, command)] for command in ("join", "fetch", "live")}
+    for command, new, old in (("join", "first-number", "from"), ("live", "to", "snapshots"), ("fetch", "from", "host"), ("fetch", "from", "port")):
+        yield from differs(f"{command} --{old}", (new in shown[command], old in shown[command]), (True, False))
+        yield from differs(f"{command} --{old}: completed", f"--{old} " in " ".join(completed(program, "itchsnap", command, "--")[1]) + " ", False)
+    with tempfile.TemporaryDirectory() as name:
+        folder = Path(name)
+        (folder / "early.snap").write_bytes(file("START AAPL END_3"))
+        (folder / "rest.itch").write_bytes(file("BUY_1"))
+        joined = [subprocess.run([program, "join", "early.snap", "rest.itch", option, "3"], cwd=folder, capture_output=True, timeout=60)
+                  for option in ("--first-number", "--from")]
+        for done in joined:
+            yield from differs("joined", (done.returncode, done.stdout, done.stderr), (0, file("START AAPL BUY_1 END_4"), b""))
+    # A fault after the words shows that they are accepted.
+    live_words = "live --feed h:1 --port 0 --user seven77 --pass p --every 5".split()
+    for option in ("--to", "--snapshots"):
+        yield from differs(option, ended(program, *live_words, option, "d")[2].splitlines()[0], b"itchsnap: bad user")
+    for words in (["127.0.0.1:1"], ["[::1]:1"], ["--host", "127.0.0.1", "--port", "1"], ["--port", "1"]):
+        yield from differs(words, ended(program, "fetch", *words, "--user", "seven77", "--pass", "p")[2].splitlines()[0], b"itchsnap: bad user")
 
 
 def example_of(program, command):
@@ -195,10 +390,10 @@ def completed(program, *typed):
 
 def bash_completes_what_is_typed(program):
     rows = {
-        ("itchsnap", "c"): ["check", "compare", "canon", "cut", "completions"],
+        ("itchsnap", "c"): ["check", "compare", "cut", "canon", "completions"],
         ("itchsnap", ""): [*commands(program), "help", "--help", "--version"],
-        ("itchsnap", "snap", "--"): ["--after", "--until", "--every", "--to", "--only", "--stock", "--output", "--progress", "--help"],
-        ("itchsnap", "fetch", "--host", "h", "--p"): ["--port", "--pass", "--pass-file"],
+        ("itchsnap", "snap", "--"): ["--after", "--until", "--only", "--stock", "--to", "--every", "--output", "--progress", "--help"],
+        ("itchsnap", "fetch", "h:1", "--p"): ["--pass", "--pass-file"],
         ("itchsnap", "completions", ""): ["bash", "zsh", "fish", "--help"],
         # A file's name is completed by the shell itself.
         ("itchsnap", "snap", "d"): [],
@@ -235,7 +430,7 @@ def quotes_of_completions_are_closed(program):
 
 def zsh_completions_escape_what_ends_a_help_text(program):
     for line in ended(program, "completions", "zsh")[1].splitlines():
-        for text in re.findall(rb"'--[a-z-]+\[(.*)\](?::[a-z]+:[_a-z]*)?'", line):
+        for text in re.findall(rb"'--[a-z-]+\[(.*)\](?::[a-z]+:(?:[_a-z]*|\([a-z -]*\)))?'", line):
             if re.search(rb"(?<!\\)[][:]", text):
                 yield f"zsh: {line!r}"
 
@@ -243,12 +438,15 @@ def zsh_completions_escape_what_ends_a_help_text(program):
 def paths_are_completed_where_they_are_written(program):
     """Where a file or a folder is written, as where one is read; no path is completed where a number is."""
     zsh, fish = (ended(program, "completions", shell)[1].decode() for shell in ("zsh", "fish"))
-    for option in ("output", "to", "record", "snapshots", "pass-file", "feed-pass-file"):
+    for option in ("output", "to", "record", "records", "users", "pass-file", "feed-pass-file"):
         yield from differs(f"{option} of zsh", set(re.findall(rf"'--{option}\[.*\](.*)'", zsh)), {":file:_files"})
         yield from differs(f"{option} of fish", set(re.findall(rf" -l {option}( -\w)? -d ", fish)), {" -r"})
     for option in ("port", "after", "clients"):
         yield from differs(f"{option} of zsh", set(re.findall(rf"'--{option}\[.*\](.*)'", zsh)), {":value:"})
         yield from differs(f"{option} of fish", set(re.findall(rf" -l {option}( -\w)? -d ", fish)), {" -x"})
+    # Of one that is chosen from some, those are completed.
+    yield from differs("sync of zsh", re.findall(r"'--sync\[.*\](.*)'", zsh), [":value:(no second message )"])
+    yield from differs("sync of fish", re.findall(r" -l sync (.*) -d ", fish), ["-x -a 'no second message '"])
 
 
 def other_words_are_a_usage_fault(program):
@@ -257,22 +455,44 @@ def other_words_are_a_usage_fault(program):
         status, output, error = ended(program, *line.split())
         if (status, output) != (2, b"") or not error.startswith(b"error: "):
             yield f"{line}: status {status}, {output!r}, {error!r}"
+        command = line.split()[0].encode()
+        if b"\nUsage: " in error and command != b"unknown" and b"\nUsage: itchsnap " + command + b" " not in error:
+            yield f"{line}: the usage of another command: {error!r}"
 
 
-def no_words_are_a_usage_fault(program):
-    status, output, error = ended(program)
-    if (status, output) != (2, b"") or not error:
-        yield f"status {status}, {output!r}, {error!r}"
+def no_words_print_the_short_help(program):
+    """As an error."""
+    yield from differs("without words", ended(program), (2, b"", ended(program, "-h")[1]))
 
 
 def other_texts_are_no_lists_of_locates(program):
+    """The second line quotes the first item that is neither a locate nor a range, where it can be quoted."""
     for text in NO_LISTS:
-        yield from differs(repr(text), ended(program, "snap", f"--only={text}"), (2, b"", b"itchsnap: bad locate list\n"))
-        yield from differs(f"{text!r} of a book", ended(program, "book", "--", text), (2, b"", b"itchsnap: bad locate list\n"))
+        bad = next(it for it in text.split(",") if not is_item(it))
+        cause = f"{bad}: not a locate from 0 to 65535, nor an ascending range such as 1-40"
+        if not re.fullmatch(r"[!-~]{1,20}", bad):
+            cause = "a list has locates from 0 to 65535 and ascending ranges such as 1-40, between commas"
+        wanted = 2, b"", f"itchsnap: bad locate list\n  {cause}\n".encode()
+        yield from differs(repr(text), ended(program, "snap", f"--only={text}"), wanted)
+        yield from differs(f"{text!r} of a book", ended(program, "book", "--", text), wanted)
+
+
+def is_item(text):
+    """Whether a text is a locate or a range."""
+    found = re.fullmatch(r"([0-9]+)(?:-([0-9]+))?", text)
+    return bool(found) and int(found[1]) <= int(found[2] or found[1]) <= 65_535
 
 
 RUNS = [
     help_ends_with_status_0,
+    help_lists_commands_by_topic,
+    examples_of_the_help_run,
+    help_lists_options_by_group,
+    ranges_of_the_help_are_true,
+    usage_names_what_is_required,
+    each_option_is_given_once_and_with_its_value,
+    arguments_that_break_a_rule_are_named,
+    old_names_are_accepted_and_hidden,
     each_command_has_an_example,
     bash_completes_what_is_typed,
     completions_have_every_option,
@@ -280,6 +500,6 @@ RUNS = [
     zsh_completions_escape_what_ends_a_help_text,
     paths_are_completed_where_they_are_written,
     other_words_are_a_usage_fault,
-    no_words_are_a_usage_fault,
+    no_words_print_the_short_help,
     other_texts_are_no_lists_of_locates,
 ]

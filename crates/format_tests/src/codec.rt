@@ -1,4 +1,4 @@
-//! Vectors of the public standard's layouts, both ways, and what no contract says.
+//! Vectors of the public standard's layouts, in both directions, and behaviour that no contract states.
 use crate::equal::{Host, TestResult, holds_in, same, same_words};
 use itch_codec::{
     Alpha, AlphaFault, CodecFault, Encoder, Message, Seq, Side, Stamp, Undecoded, decode, encode,
@@ -14,14 +14,14 @@ mod vectors;
 
 use vectors::VECTORS;
 
-// The message is spelled by these bytes, and read off them.
+// Checks that the message is encoded as these bytes, and decoded from them.
 fn agree(rt: &impl Host, bytes: &[u8], message: &Message<'_>) {
     same(rt, encode(message).bytes(), bytes);
     same(rt, Encoder::new().encode(message), bytes);
     is_read(rt, bytes, Ok(message));
 }
 
-// This is read off these bytes.
+// Checks the result of decoding these bytes.
 fn is_read(rt: &impl Host, bytes: &[u8], want: Result<&Message<'_>, &CodecFault>) {
     same(rt, decode(bytes).as_ref(), want);
 }
@@ -116,7 +116,7 @@ fn faults(rt: HostRuntime) {
     }
 }
 
-// A text is taken as these bytes, which are taken as the text, or has this fault.
+// Checks that a text is converted to these bytes and back, or has this fault.
 fn check_text(rt: &impl Host, text: &str, want: Result<&[u8; 4], AlphaFault>) {
     match (Alpha::<4>::from_text(text), want) {
         (Ok(alpha), Ok(bytes)) => {

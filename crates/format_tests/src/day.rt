@@ -7,12 +7,12 @@ use std::io::BufReader;
 use test_doubles::PieceReader;
 use test_doubles::days::Blocks;
 
-// System events at 1, 2, 3, 3 and 4 nanoseconds after midnight, and an empty block; each message has 14 bytes with its length.
+// System events at 1, 2, 3, 3 and 4 nanoseconds after midnight, and an empty block. Each message has 14 bytes with its length.
 const DAY: &[u8] =
     b"\0\x0cS\0\0\0\0\0\0\0\0\0\x01O\0\x0cS\0\0\0\0\0\0\0\0\0\x02S\0\x0cS\0\0\0\0\0\0\0\0\0\x03Q\
 \0\x0cS\0\0\0\0\0\0\0\0\0\x03M\0\x0cS\0\0\0\0\0\0\0\0\0\x04E\0\0";
 
-// The limits of parts of the day, why each part goes no further, and how many messages were taken until then.
+// The limits of parts of the day, why each part ends, and how many messages were taken by then.
 const PARTS: [(Option<u64>, Option<u64>, &str, u64); 8] = [
     (Some(1), None, "full", 1),
     (None, Some(3), "late", 2),
@@ -24,7 +24,7 @@ const PARTS: [(Option<u64>, Option<u64>, &str, u64); 8] = [
     (Some(9), None, "end", 5),
 ];
 
-// Takes what spells a message, but refuses the one with this number. It keeps the number of the last one that it took.
+// A sink that accepts valid messages, but refuses the one with this number. It keeps the number of the last one that it accepted.
 #[derive(Drop)]
 struct Picky {
     refused: u64,
@@ -61,7 +61,7 @@ impl Sink for Picky {
     }
 }
 
-// A word for a stop.
+// Returns a word for a stop.
 fn word(stop: &Stop<u64>) -> &'static str {
     match stop {
         Stop::Full => "full",
@@ -74,7 +74,7 @@ fn word(stop: &Stop<u64>) -> &'static str {
     }
 }
 
-// Reads a part of a day after so many messages, or a further one, and returns why it goes no further.
+// Reads a part of a day after `count` messages, or a further part, and returns why it ends.
 fn read(
     reader: &mut Blocks<'_>,
     count: &mut u64,
@@ -92,12 +92,12 @@ fn read(
     word(&stop)
 }
 
-// Reads a day to its end after so many messages.
+// Reads the rest of a day after `count` messages.
 fn rest(reader: &mut Blocks<'_>, count: &mut u64, sink: &mut Picky) -> &'static str {
     read(reader, count, sink, Limit::whole(), false)
 }
 
-// Each part goes on where the one before it stopped.
+// Checks that each part continues where the one before it ended.
 fn goes_on(rt: &impl Host, reader: &mut Blocks<'_>, is_further: bool) {
     let mut count = 0;
     let mut sink = Picky::refusing(0);
@@ -121,7 +121,7 @@ fn a_part_goes_on_where_the_one_before_it_stopped(rt: HostRuntime) -> TestResult
     Ok(())
 }
 
-// Takes each odd message from its payload alone, and the others decoded. It counts the former, and whether all came in order.
+// A sink that takes each odd message from its payload, and the others decoded. It counts the former, and checks that all come in order.
 #[derive(Drop)]
 struct Hasty {
     at_once: u64,
@@ -169,7 +169,7 @@ impl Sink for Hasty {
     }
 }
 
-// Reads a part of the day through a buffer of this size: so many messages are taken in order, and so many of them at once.
+// Reads a part of the day through a buffer of this size, and checks that `taken` messages arrive in order, `at_once` of them undecoded.
 fn takes_together(
     rt: &impl Host,
     capacity: usize,
@@ -192,8 +192,8 @@ fn takes_together(
     Ok(())
 }
 
-// The first block is read, so its message is decoded. None is taken at once where a block does not fit the buffer, or where the time of a
-// message has to be known.
+// The message of the first block is decoded, because its block is read. All messages are decoded if a block does not fit the buffer, or if
+// the time of each message is needed.
 #[test]
 fn messages_at_hand_are_taken_together(rt: HostRuntime) -> TestResult {
     for (capacity, after, until, taken, at_once) in [
@@ -210,7 +210,7 @@ fn messages_at_hand_are_taken_together(rt: HostRuntime) -> TestResult {
     Ok(())
 }
 
-// The third message is refused twice, and then taken.
+// Checks that the third message is refused twice, and then accepted.
 fn refuses_twice(rt: &impl Host, reader: &mut Blocks<'_>) {
     let mut count = 0;
     let mut sink = Picky::refusing(3);
@@ -231,7 +231,7 @@ fn a_refused_message_is_left(rt: HostRuntime) -> TestResult {
     Ok(())
 }
 
-// So many messages are taken until this stops them, however often it is asked.
+// Checks that `taken` messages are accepted before this stop, in repeated calls too.
 fn stops(rt: &impl Host, reader: &mut Blocks<'_>, word: &'static str, taken: u64) {
     let mut count = 0;
     let mut sink = Picky::refusing(0);
@@ -256,7 +256,7 @@ fn says_why_a_part_goes_no_further(rt: HostRuntime) -> TestResult {
     Ok(())
 }
 
-// A read fails, and then the part goes on to its end.
+// Checks that a read fails, and that the part then continues to its end.
 fn fails_and_goes_on(rt: &impl Host, reader: &mut Blocks<'_>, at: u64) {
     let mut count = 0;
     let mut sink = Picky::refusing(0);
@@ -277,7 +277,7 @@ fn nothing_is_lost_whichever_read_fails(rt: HostRuntime) -> TestResult {
     Ok(())
 }
 
-// The mark after the messages before a time.
+// Returns the mark after the messages before a time.
 fn mark_at(reader: &mut Blocks<'_>, until: u64) -> Mark {
     let sink = Picky::refusing(0);
     let mark = Mark::new();

@@ -18,8 +18,8 @@ mod memory;
 // Five blocks, one of them empty.
 const STREAM: &[u8] = b"\x00\x01S\x00\x02RR\x00\x00\x00\x05AAAAA\x00\x01D";
 
-// The splitter takes `taken` of these bytes, and then holds `held` of its block, which is ready or not. This helper and those
-// below have no contract, so that a proof of a test need not carry what each call leaves.
+// Checks that the splitter consumes `taken` of these bytes, then holds `held` bytes of its block, and whether the block is complete. This
+// helper and those below have no contract, so that a proof of a test does not have to know the effect of each call.
 fn takes<A: Allocator>(
     rt: &impl Host,
     splitter: &mut Splitter<A>,
@@ -51,7 +51,7 @@ fn the_laws_of_streams() {
     laws::one_day();
 }
 
-// Cuts the blocks out of a piece, of at most eight, and writes them again.
+// Splits a piece into at most eight blocks, and writes them again.
 fn copy_piece<A: Allocator, W: CountedWrite>(
     splitter: &mut Splitter<A>,
     writer: &mut W,
@@ -83,7 +83,7 @@ fn cuts_a_stream_the_same_in_any_pieces(rt: HostRuntime) -> TestResult {
     Ok(())
 }
 
-// The next block is this one, or there is none.
+// Checks that the next block is this one, or that there is none.
 fn gives<R: CountedRead, A: Allocator>(
     rt: &impl Host,
     reader: &mut BlockReader<R, A>,
@@ -97,7 +97,7 @@ fn fails<R: CountedRead, A: Allocator>(rt: &impl Host, reader: &mut BlockReader<
     assert!(rt; matches!(reader.next_block(), Err(FrameFault::Read(_))));
 }
 
-// The input ends inside a block, of which this many bytes are held, however often it is asked.
+// Checks that the input ends inside a block with this number of bytes held, in repeated calls too.
 fn is_truncated<R: CountedRead, A: Allocator>(
     rt: &impl Host,
     reader: &mut BlockReader<R, A>,
@@ -110,12 +110,11 @@ fn is_truncated<R: CountedRead, A: Allocator>(
     }
 }
 
-// Writes a block.
 fn write<W: CountedWrite>(writer: &mut W, payload: &[u8]) -> Result<(), FrameFault> {
     write_block(writer, payload)
 }
 
-// What was written is this one block.
+// Checks that exactly this block was written.
 fn holds_block(rt: &impl Host, written: &[u8], payload: &[u8]) -> TestResult {
     let mut reader = BlockReader::new(rt.alloc(), PieceReader::new(written, 1000, None))?;
     for want in [Some(payload), None] {
@@ -124,7 +123,7 @@ fn holds_block(rt: &impl Host, written: &[u8], payload: &[u8]) -> TestResult {
     Ok(())
 }
 
-// Writes the longest block, and none of the longer payload.
+// Writes the longest block, and checks that a longer payload is refused.
 fn writes_longest(rt: &impl Host, longest: &[u8], long: &[u8]) -> TestResult {
     let mut writer = FuseWriter::new(rt.alloc(), 70_000, None);
     write(&mut writer, longest)?;
@@ -170,7 +169,7 @@ fn reads_on_after_a_failure(rt: HostRuntime) -> TestResult {
     Ok(())
 }
 
-// The messages of the stream, which end twice, shown as an empty one.
+// Checks the messages of the stream, which ends twice. An empty row means no message.
 fn gives_messages(rt: &impl Host, reader: &mut Blocks<'_>) -> Result<(), FrameFault> {
     for want in [b"S".as_slice(), b"RR", b"", b"AAAAA", b"D", b"", b""] {
         let want = if want.is_empty() { None } else { Some(want) };
@@ -186,7 +185,7 @@ fn messages_end_at_an_empty_block_and_at_the_end(rt: HostRuntime) -> TestResult 
     Ok(())
 }
 
-// A read fails, then there is a message, and then a truncated block.
+// Checks a failed read, then a message, and then a truncated block.
 fn gives_one_message(rt: &impl Host, reader: &mut Blocks<'_>) -> Result<(), FrameFault> {
     assert!(rt; matches!(reader.next_message(), Err(FrameFault::Read(_))));
     same(rt, reader.next_message()?, Some(b"z".as_slice()));
@@ -204,7 +203,7 @@ fn a_message_comes_after_a_failed_read(rt: HostRuntime) -> TestResult {
     Ok(())
 }
 
-// Reads blocks and writes them again, going on after each failed read, and returns how many reads failed.
+// Reads blocks and writes them again, continuing after each failed read, and returns how many reads failed.
 fn copy_blocks<R: CountedRead, W: CountedWrite, A: Allocator>(
     reader: &mut BlockReader<R, A>,
     writer: &mut W,
@@ -221,7 +220,7 @@ fn copy_blocks<R: CountedRead, W: CountedWrite, A: Allocator>(
     Ok(failures)
 }
 
-// Copies the stream through a reader that has it, whole whichever read fails, and returns how many reads failed.
+// Copies the stream through a reader, checks that it is complete whichever read fails, and returns how many reads failed.
 fn copies_stream<R: CountedRead, A: Allocator>(
     rt: &impl Host,
     reader: &mut BlockReader<R, A>,
@@ -246,7 +245,7 @@ fn loses_nothing_whichever_read_fails(rt: HostRuntime) -> TestResult {
     Ok(())
 }
 
-// Copies the stream through a source of its own.
+// Copies the stream through a new reader of this source.
 fn copies_through<R: CountedRead + Drop>(
     rt: &impl Host,
     source: R,
@@ -270,7 +269,7 @@ fn blocks_are_the_same_through_any_buffer(rt: HostRuntime) -> TestResult {
     Ok(())
 }
 
-// There is a block, then a read fails, and then there is a truncated block.
+// Checks a block, then a failed read, and then a truncated block.
 fn gives_one_block<R: CountedRead, A: Allocator>(
     rt: &impl Host,
     reader: &mut BlockReader<R, A>,
@@ -303,7 +302,7 @@ fn says_how_much_of_a_block_is_held(rt: HostRuntime) -> TestResult {
     Ok(())
 }
 
-// The failure of a writer that has no more room says how much of a block was sent.
+// Checks that a writer without more room fails, and reports how much of a block was sent.
 fn has_no_room<W: CountedWrite>(rt: &impl Host, writer: &mut W, want: usize) {
     assert!(rt;
         matches!(write_block(writer, b"abc"), Err(FrameFault::Write { sent, .. }) if sent == want)
@@ -320,7 +319,7 @@ fn counts_the_failures_of_standard_writers(rt: HostRuntime) {
     same(&rt, room, *b"\x00\x03ab");
 }
 
-// A reader of this begins with a block, or else with a failure.
+// Checks that a reader begins with this block, or with a failure.
 fn begins<R: CountedRead + Drop>(rt: &impl Host, source: R, block: Option<&[u8]>) -> TestResult {
     let mut reader = BlockReader::new(rt.alloc(), source)?;
     match block {

@@ -1,9 +1,10 @@
-//! Tests of `itch_codec`, `itch_frame`, `itch_day` and `itch_book::table` over their public items alone, each crate in the module of its name.
+//! Tests of `itch_codec`, `itch_frame`, `itch_day` and `itch_book::table` through their public items only, each crate in the module with its
+//! name.
 //!
-//! They see what no clause says: vectors of the formats byte by byte, calls that succeed with ample memory, failures of devices, and each allocation that
-//! is refused.
+//! They cover behaviour that no clause states: vectors of the formats byte by byte, calls that succeed with ample memory, failures of
+//! devices, and each allocation refused in turn.
 //!
-//! The helpers have no contract, so that the proof of a test does not carry what each call leaves.
+//! The helpers have no contract, so that a proof of a test does not have to know the effect of each call.
 #![tactic(auto)]
 
 #[cfg(test)]

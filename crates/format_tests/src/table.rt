@@ -1,5 +1,5 @@
-//! The table of links over its public items alone: calls beside a hash map, hostile keys and the memory that they take, and each
-//! allocation that is refused.
+//! The table of links through its public items only: calls next to a hash map, hostile keys and their memory, and each allocation refused in
+//! turn.
 mod beside_a_map;
 mod calls;
 mod hostile_keys;

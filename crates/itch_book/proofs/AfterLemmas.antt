@@ -1,4 +1,4 @@
--- What stands after an order in its locate.
+-- The orders after an order in its locate.
 use Rattle.std.proofs.Common.{◌≡◌, ℕ, ◌==◌, ◌&&◌, Bool, true, false, eqb, not, List, [], ◌∷◌, ◌++◌, filter, find, Option, Some, None, refl, sym, ap, ◌∙◌, subst}
 use Rattle.std.specs.List.{AllByRecursion}
 use Rattle.std.proofs.lemmas.Bool.{false≢true, and_parts}
@@ -20,7 +20,7 @@ use Rattle.itch_book.proofs.PutLemmas.{level_says}
 use Rattle.itch_book.proofs.FrontLemmas.{find_wider, find_alike, find_none, none_find, in_sides, sides_apart}
 use Rattle.itch_book.proofs.IndexLemmas.{line_at}
 
--- the orders after one do not stand before it
+-- the orders after one are not before it
 back_of : (r : ℕ) (xs : List Order) (x : Order) → IsInOrder stands_before xs → get xs r ≡ Some x → AllByRecursion (λ z. stands_before z x ≡ false) (following r xs)
 back_of r [] x order h = tt
 back_of r (y ∷ ys) x order h =
@@ -32,7 +32,7 @@ order_following : (r : ℕ) (xs : List Order) → IsInOrder stands_before xs →
 order_following r [] order = tt
 order_following r (y ∷ ys) order = by_test (has_reference r y) (λ e. simp e order.1) (λ e. simp e (order_following r ys order.1))
 
--- what none passes that the order does not stand before is first passed after it
+-- if a property holds for no order that x is not before, the first order with it is after x
 skip_to : (f : Order → Bool) (r : ℕ) (xs : List Order) (x : Order) → ((z : Order) → stands_before x z ≡ false → f z ≡ false) → IsInOrder stands_before xs → get xs r ≡ Some x → find f xs ≡ find f (following r xs)
 skip_to f r [] x none order h = refl
 skip_to f r (y ∷ ys) x none order h =
@@ -54,7 +54,7 @@ following_filter p r (y ∷ ys) x h k =
     let rest = following_filter p r ys x it k in
     by_test (p y) (λ f. simp (f, e) rest) (λ f. simp (f, e) rest))
 
--- keys in two parts, at the first place of one
+-- keys in two parts, split at the first occurrence of one
 pub parts_first : (j : ℕ) (ks : List ℕ) → In j ks → (xs ys : List ℕ) × (ks ≡ xs ++ j ∷ ys) × NotIn j xs
 parts_first j [] i = absurd (false≢true i)
 parts_first j (k ∷ ks) i =
@@ -64,7 +64,7 @@ parts_first j (k ∷ ks) i =
     let rest = parts_first j ks it in
     (k ∷ rest.0, rest.1, ap (λ (ts : List ℕ). k ∷ ts) rest.2, simp e rest.3))
 
--- the order stands before what is neither before it nor at its price
+-- the order is before any order that is neither before it nor at its price
 strict : (x z : Order) → stands_before z x ≡ false → is_level x.locate x.side x.price z ≡ false → stands_before x z ≡ true
 strict x z a n = by_test (stands_before x z) (λ e. e)
     (λ e. absurd (false≢true (sym n ∙ sym (ties_level x z) ∙ both (stands_before x z) (stands_before z x) e a)))
@@ -101,7 +101,7 @@ module _ (xs : List Order) (book : IsBook xs) (r : ℕ) (x : Order) (live : get 
       (λ z a u e f n. level_before x u z e (strict x z a n)) tail back)
       y h
 
-  -- what is next in price stands after it
+  -- the next order by price is after it
   skip_next : find (is_next x.locate x.side (Some x.price)) xs ≡ find (is_next x.locate x.side (Some x.price)) (following r xs)
   skip_next = skip_to (is_next x.locate x.side (Some x.price)) r xs x
       (λ z n. by_test (is_next x.locate x.side (Some x.price) z)
@@ -109,7 +109,7 @@ module _ (xs : List Order) (book : IsBook xs) (r : ℕ) (x : Order) (live : get 
       absurd (false≢true (sym n ∙ stands_of x.locate x.side x z own_side parts.0 ∙ parts.1)))
       (λ e. e)) book.in_place live
 
-  -- an order after it that is not next is on the other side
+  -- an order after it that is not next by price is on the other side
   not_next : (z : Order) → stands_before z x ≡ false → is_level x.locate x.side x.price z ≡ false → is_next x.locate x.side (Some x.price) z ≡ false → is_of x.locate x.side z ≡ false
   not_next z a n m = by_test (is_of x.locate x.side z)
       (λ e. let worse : is_worse x.side (Some x.price) z.price ≡ true = sym (stands_of x.locate x.side x z own_side e) ∙ strict x z a n in
@@ -119,14 +119,14 @@ module _ (xs : List Order) (book : IsBook xs) (r : ℕ) (x : Order) (live : get 
   not_level : find (is_level x.locate x.side x.price) (following r xs) ≡ None → AllByRecursion (λ z. (stands_before z x ≡ false) × (is_level x.locate x.side x.price z ≡ false)) tail
   not_level none = All-both_rec (λ z. stands_before z x ≡ false) (λ z. is_level x.locate x.side x.price z ≡ false) tail back (none_find (is_level x.locate x.side x.price) tail none)
 
-  -- an order of the locate after one that is not of its side is an ask after a bid
+  -- an order of the locate after it and not of its side is an ask after a bid
   turned : (s : Side) → x.side ≡ s → (z : Order) → stands_before z x ≡ false → is_in x.locate z ≡ true → is_of x.locate x.side z ≡ false → (s ≡ Buy) × (is_of x.locate Sell z ≡ true)
   turned Buy e z a i n = (refl, in_sides x.locate z i (subst (λ t. is_of x.locate t z ≡ false) e n))
   turned Sell e z a i n = by_test (is_of x.locate Buy z)
       (λ f. absurd (false≢true (sym a ∙ sides_apart x.locate z x f (subst (λ t. is_of x.locate t x ≡ true) e own_side))))
       (λ f. absurd (false≢true (sym (subst (λ t. is_of x.locate t z ≡ false) e n) ∙ in_sides x.locate z i f)))
 
-  -- the first one at the next price
+  -- the first order at the next price
   pub next_price_here : (y : Order) → find (is_level x.locate x.side x.price) (following r xs) ≡ None → find (is_next x.locate x.side (Some x.price)) xs ≡ Some y → find (is_in x.locate) (following r xs) ≡ Some y
   next_price_here y none h = find_wider (is_in x.locate) (is_next x.locate x.side (Some x.price)) tail (order_following r xs book.in_place)
       (λ z e. (and_parts (is_in x.locate z) (same_side z.side x.side) (and_parts (is_of x.locate x.side z) (is_worse x.side (Some x.price) z.price) e).0).0)
@@ -141,7 +141,7 @@ module _ (xs : List Order) (book : IsBook xs) (r : ℕ) (x : Order) (live : get 
       → AllByRecursion (λ z. ((stands_before z x ≡ false) × (is_level x.locate x.side x.price z ≡ false)) × (is_next x.locate x.side (Some x.price) z ≡ false)) tail
   none_next none last = All-both_rec (λ z. (stands_before z x ≡ false) × (is_level x.locate x.side x.price z ≡ false)) (λ z. is_next x.locate x.side (Some x.price) z ≡ false) tail (not_level none) (none_find (is_next x.locate x.side (Some x.price)) tail (sym skip_next ∙ last))
 
-  -- after the last ask stands none
+  -- no order follows the last ask
   pub last_ask : x.side ≡ Sell → find (is_level x.locate x.side x.price) (following r xs) ≡ None → find (is_next x.locate x.side (Some x.price)) xs ≡ None → find (is_in x.locate) (following r xs) ≡ None
   last_ask side none last = find_none (is_in x.locate) tail
       (All-weaker_rec (λ z. ((stands_before z x ≡ false) × (is_level x.locate x.side x.price z ≡ false)) × (is_next x.locate x.side (Some x.price) z ≡ false)) (λ z. is_in x.locate z ≡ false)
@@ -150,7 +150,7 @@ module _ (xs : List Order) (book : IsBook xs) (r : ℕ) (x : Order) (live : get 
       let no : Sell ≡ Buy = other.0 in absurd (let no_one : ⊥ = cc in no_one))
       (λ i. i)) tail (none_next none last))
 
-  -- and after the last bid the first ask
+  -- and the first ask follows the last bid
   pub last_bid : x.side ≡ Buy → find (is_level x.locate x.side x.price) (following r xs) ≡ None → find (is_next x.locate x.side (Some x.price)) xs ≡ None → find (is_in x.locate) (following r xs) ≡ find (is_of x.locate Sell) xs
   last_bid side none last =
       find_alike (is_in x.locate) (is_of x.locate Sell) tail
@@ -185,7 +185,7 @@ module _ (references : ℕ → Option ℕ) (bids asks : List (Place × ℕ)) (w 
           absurd (false≢true (sym (not_in_head k j js n) ∙ subst (λ t. eqb k t ≡ true) (sym same) (eqb_itself k))))
           (λ e. simp e rest)
 
-  -- what stands after the order in its queue is after it at its price
+  -- the orders after it in its queue are those after it at its price
   pub line_after : (before after_it : List ℕ) → NotIn k before → (is.listed k x here).keys ≡ before ++ k ∷ after_it → find (is_level x.locate x.side x.price) (following r (indexed w bids asks)) ≡ first (found w.orders after_it)
   line_after before ks n parts =
       let place = is.listed k x here in

@@ -1,4 +1,4 @@
--- What each change leaves of the orders by arrival.
+-- The orders by arrival after each change.
 use Rattle.std.proofs.Common.{◌≡◌, ℕ, ◌≤◌, ◌<◌, ◌+◌, ◌-◌, ◌==◌, true, false, not, eqb, List, [], ◌∷◌, map, length, filter, Option, Some, None, IsSome, IsSomeAnd, option_map, refl, sym, ap, ◌∙◌, subst, arith}
 use Rattle.std.specs.List.{AllByRecursion}
 use Rattle.std.specs.List.Sorted.{IsPermutation}
@@ -24,7 +24,7 @@ use Rattle.itch_book.proofs.PlaceLemmas.{taken_all, without_there}
 abbrev pub orders_of : Held → List Order
 orders_of v = v.orders
 
--- as many orders as entries
+-- there are as many orders as entries
 pub as_many : (es : List (ℕ × Arrived)) → length es ≡ length (settled (values_of es))
 as_many es =
     let a = length-map es (λ (e : ℕ × Arrived). e.1) in
@@ -35,7 +35,7 @@ none_there : (o : Option Order) → o ≡ None → IsSome o → ⊥
 none_there None e h = let no_one : ⊥ = cc in no_one
 none_there (Some x) e h = let no_one : ⊥ = cc in no_one
 
--- what is there is found
+-- an order in the list is found
 pub there : (r next : ℕ) (es : List (ℕ × Arrived)) (os : List Order) → IsArrived es next → settled (values_of es) ≡ os → IsSome (get os r) → IsSome (lookup (eqb r) es)
 there r next es os is view some = by (lookup (eqb r) es) refl
   where
@@ -57,7 +57,7 @@ fresh_there r next es os is view none = by (lookup (eqb r) es) refl
     by None e = refl
     by (Some x) e = absurd (let no : None ≡ Some x.order = sym none ∙ found_there r next es os x is view e in let no_one : ⊥ = cc in no_one)
 
--- it stands under its own reference
+-- it is stored under its own reference
 pub own_there : (r : ℕ) (es : List (ℕ × Arrived)) (x : Arrived) → AllByRecursion (λ (e : ℕ × Arrived). e.0 ≡ e.1.order.reference) es → lookup (eqb r) es ≡ Some x → x.order.reference ≡ r
 own_there r [] x k h = absurd (let no_one : ⊥ = cc in no_one)
 own_there r (e ∷ es) x k h =
@@ -112,7 +112,7 @@ module _ (r next : ℕ) (es fs : List (ℕ × Arrived)) (is : IsArrived es next)
     apart = shuffled_apart (filter (λ x. not (holds r x)) (values_of es)) (values_of fs) left_values (filter_apart (λ x. not (holds r x)) (values_of es) is.apart);
   }
 
--- where all of an order is taken, it goes
+-- an order is removed if all of its shares are taken
 all_gone : (r n : ℕ) (xs : List Order) (x : Order) → IsBook xs → get xs r ≡ Some x → x.shares - n ≡ 0 → taken r n xs ≡ without r xs
 all_gone r n xs x b found none = taken_all r n xs x b.distinct b.live found none ∙ sym (without_there r xs b.distinct)
 
@@ -122,7 +122,7 @@ cut_taken r n next es fs x is s found none =
     cut_is r next es fs is s
     ∙ ap lay (sym (all_gone r n (settled (values_of es)) x.order is.book (found_there r next es (settled (values_of es)) x is refl found) none))
 
--- where some is left, every order stays
+-- every order remains if some of its shares are left
 some_left : (r n : ℕ) (xs : List Order) (x : Order) → AllByRecursion IsLive xs → IsDistinct xs → get xs r ≡ Some x → 0 < x.shares - n → taken r n xs ≡ map (less r n) xs
 some_left r n xs x live d found some = filter_all has_shares (map (less r n) xs) (All-map_rec (λ y. has_shares y ≡ true) (less r n) xs (kept xs live d found))
   where
@@ -169,7 +169,7 @@ module _ (r n next : ℕ) (es fs : List (ℕ × Arrived)) (x : Arrived) (is : Is
         let c = is.apart m in omega arith);
   }
 
--- orders that were put in snapshot order
+-- orders that were sorted into snapshot order
 module _ (next : ℕ) (es fs : List (ℕ × Arrived)) (is : IsArrived es next) (sorted : values_of fs ≡ in_order comes_before (values_of es)) where
   pub settled_is : settled (values_of fs) ≡ settled (values_of es)
   settled_is = ap settled sorted ∙ ap (map its_order) (in_order-twice comes_before arrival_order (values_of es))

@@ -1,4 +1,4 @@
--- The orders of a price stand side by side in a line in order: between the ends of two searches.
+-- The orders at a price are contiguous in a sorted line: between the ends of two searches.
 use Rattle.std.proofs.Common.{◌≡◌, ℕ, ◌≤◌, ◌<◌, ◌+◌, ◌-◌, ◌==◌, nat_lt, Bool, true, false, not, ◌&&◌, List, [], ◌∷◌, ◌++◌, map, length, take, drop, filter, get_or, None, refl, sym, ap, ap₂, ◌∙◌, subst, arith, inl, inr}
 use Rattle.std.specs.List.{sum_by}
 use Rattle.std.specs.List.Sorted.{IsPartitionedBy, IsPartitionPoint}
@@ -20,11 +20,11 @@ use Rattle.itch_book.proofs.OrderLemmas.{stands_order}
 use Rattle.itch_book.proofs.PlaceLemmas.{in_order_places}
 use Rattle.itch_book.proofs.LineLemmas.{not_standing}
 
--- an order at a price, of which only the place counts
+-- an order at a price, of which only the position matters
 abbrev pub spot : ℕ → Side → ℕ → Order
 spot l s p = record { reference = 0; shares = 0; price = p; locate = l; side = s; mpid = None }
 
--- of the order of a price
+-- the order is at this price
 abbrev pub at_level : ℕ → Side → ℕ → Arrived → Bool
 at_level l s p x = is_level l s p x.order
 
@@ -34,7 +34,7 @@ ahead t y = stands_before y.order t
 abbrev pub not_past : Order → Arrived → Bool
 not_past t y = not (stands_before t y.order)
 
--- at equal places nothing is to show; at others the order of the line decides
+-- the orders at the same place are equal; otherwise the order of the line decides
 module _ (t : Order) (line : List Arrived) (h : IsInOrder comes_before line) where
   pub ahead_parted : IsPartitionedBy (ahead t) line
   ahead_parted i j d le within e =
@@ -68,7 +68,7 @@ past_off Buy Sell m q l p h = grind (arith, nat_tests)
 past_off Sell Buy m q l p h = grind (arith, nat_tests)
 past_off Sell Sell m q l p h = grind (arith, nat_tests)
 
--- where nothing passes before a place, or from a place on, a filter is that of the rest
+-- if a property does not hold before a place, or from a place on, a filter is the filter of the rest
 cut_front : {X : Type 0} (p : X → Bool) (xs : List X) (i : ℕ) (d : X) → i ≤ length xs → ((k : ℕ) → k < i → p (get_or xs k d) ≡ false) → filter p (drop i xs) ≡ filter p xs
 cut_front p xs i d within h =
     let long = length-take-le i xs within in
@@ -93,7 +93,7 @@ shares_shown (y ∷ ys) =
     ∙ ap (λ n. y.order.shares + n) (shares_shown ys)
     ∙ sym (sum_by-cons (λ (x : Arrived). x.order.shares) y ys)
 
--- the total of a price, summed over what arrived
+-- the total of a price, summed over the orders by arrival
 pub total_shown : (l : ℕ) (s : Side) (p : ℕ) (xs : List Arrived)
     → ◌≡◌ {A = ℕ × ℕ} (sum_by (λ (x : Arrived). x.order.shares) (filter (at_level l s p) xs), length (filter (at_level l s p) xs)) (level_total (map its_order xs) l s p)
 total_shown l s p xs =

@@ -1,4 +1,4 @@
--- What each change of the orders does to the laid list, and what holds of a book's list.
+-- The effect of each change of the orders on the laid list, and the properties of a book's list.
 use Rattle.std.proofs.Common.{◌≡◌, ℕ, ◌<◌, ◌-◌, Bool, true, cond, not, List, [], ◌∷◌, ◌++◌, map, filter, find, Option, Some, None, refl, sym, ap, ◌∙◌}
 use Rattle.std.specs.List.{AllByRecursion}
 use Rattle.std.proofs.lemmas.Bool.{cond_both}
@@ -14,7 +14,7 @@ use Rattle.itch_book.proofs.OrderLemmas.{stands_order, queue_is, both_queues, la
 pub use Rattle.itch_book.proofs.OrderLemmas.{get-lay, AllAt-lay}
 pub use Rattle.itch_book.proofs.Distinct.{AllAt-added, AllAt-taken, AllAt-without, AllAt-replaced}
 
--- one more order goes to its place in the laid list
+-- one more order is inserted at its place in the laid list
 pub lay-added : (x : Order) (os : List Order) → lay (added x os) ≡ cond (fits x) (later_in stands_before x (lay os)) (lay os)
 lay-added x os =
     lay_is (added x os)
@@ -27,14 +27,14 @@ lay-added x os =
     append_nothing [] = refl
     append_nothing (y ∷ ys) = ap (λ t. y ∷ t) (append_nothing ys)
 
--- an order added to lists with one laid list
+-- an order added to lists with the same laid list
 pub added_alike : (x : Order) (xs ys : List Order) → lay xs ≡ lay ys → lay (added x xs) ≡ lay (added x ys)
 added_alike x xs ys same = lay-added x xs ∙ ap (λ t. cond (fits x) (later_in stands_before x t) t) same ∙ sym (lay-added x ys)
 
 pub lay-added_laid : (x : Order) (os : List Order) → lay (added x (lay os)) ≡ lay (added x os)
 lay-added_laid x os = added_alike x (lay os) os (lay_twice os)
 
--- a filter of the laid list is the laid filter
+-- filtering the laid list gives the laid filtered list
 pub lay-filter : (p : Order → Bool) (os : List Order) → lay (filter p os) ≡ filter p (lay os)
 lay-filter p os =
     lay_is (filter p os)
@@ -60,7 +60,7 @@ less_stands r n x y =
     (λ e. cond_both (has_reference r y) (record y { shares = y.shares - n }) y (λ b. stands_before (record x { shares = x.shares - n }) b ≡ stands_before x y) (λ f. refl) (λ f. refl))
     (λ e. cond_both (has_reference r y) (record y { shares = y.shares - n }) y (λ b. stands_before x b ≡ stands_before x y) (λ f. refl) (λ f. refl))
 
--- shares taken leave each order in its place
+-- taking shares does not move any order
 pub lay-less : (r n : ℕ) (os : List Order) → lay (map (less r n) os) ≡ map (less r n) (lay os)
 lay-less r n os =
     lay_is (map (less r n) os)
@@ -88,7 +88,7 @@ lay-replaced_laid original reference shares price os d h =
 pub lay-book : (xs : List Order) → IsBook xs → lay xs ≡ xs
 lay-book xs b = lay_fit xs (live_fit xs b.live) ∙ in_order-sorted stands_before xs b.in_place
 
--- distinct references and orders that may be live make a book's list
+-- orders that may be live, with distinct references, make a book's list
 pub IsBook-lay : (xs : List Order) → IsDistinct xs → AllByRecursion IsLive xs → IsBook (lay xs)
 IsBook-lay xs d live = record {
   in_place = rw (lay_fit xs (live_fit xs live)) (IsInOrder-in_order stands_before stands_order xs);
@@ -96,18 +96,18 @@ IsBook-lay xs d live = record {
   live = All-lay IsLive xs live;
 }
 
--- in a book's list a queue, and the two of a locate, stand as they are
+-- in a book's list a queue is a contiguous part, and so are the two queues of a locate
 pub queue-book : (xs : List Order) (l : ℕ) (s : Side) → IsBook xs → queue xs l s ≡ filter (is_of l s) xs
 queue-book xs l s b = queue_is xs l s ∙ in_order-sorted stands_before (filter (is_of l s) xs) (IsInOrder-filter stands_before (is_of l s) xs b.in_place)
 
 pub sides-book : (xs : List Order) (l : ℕ) → IsBook xs → sides xs l ≡ filter (is_in l) xs
 sides-book xs l b = both_queues xs l ∙ in_order-sorted stands_before (filter (is_in l) xs) (IsInOrder-filter stands_before (is_in l) xs b.in_place)
 
--- the first of a locate and side is the first of the queue
+-- the first order of a locate and side is the first of the queue
 pub front_book : (xs : List Order) (l : ℕ) (s : Side) → IsBook xs → find (is_of l s) xs ≡ first (queue xs l s)
 front_book xs l s b = find_first (is_of l s) xs ∙ ap first (sym (queue-book xs l s b))
 
--- what each change leaves is a book's list
+-- the list after each change is a book's list
 pub IsBook-added : (x : Order) (xs : List Order) → IsBook xs → IsLive x → get xs x.reference ≡ None → IsBook (lay (added x xs))
 IsBook-added x xs b live fresh = IsBook-lay (added x xs) (IsDistinct-added x xs fresh b.distinct) (live_added x xs live b.live)
 
@@ -123,7 +123,7 @@ IsBook-replaced original reference shares price xs b some fresh =
     (IsDistinct-replaced original reference shares price xs fresh b.distinct)
     (live_replaced original reference shares price xs some b.live)
 
--- a book's list where shares are taken, an order goes, or one comes
+-- a book's list after shares are taken, an order is removed, or an order is added
 pub taken-book : (r n : ℕ) (xs : List Order) → IsBook xs → lay (taken r n xs) ≡ taken r n xs
 taken-book r n xs b = lay-taken r n xs ∙ ap (taken r n) (lay-book xs b)
 

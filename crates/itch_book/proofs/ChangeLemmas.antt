@@ -1,4 +1,4 @@
--- Shares taken from an order that keeps some.
+-- Taking shares from an order that keeps some.
 use Rattle.std.proofs.Common.{◌≡◌, ℕ, ◌-◌, ◌^◌, ◌<◌, true, false, eqb, List, [], ◌∷◌, ◌++◌, map, filter, Option, Some, None, IsSome, option_map, refl, sym, ap, ◌∙◌, subst, arith}
 use Rattle.std.specs.List.{AllByRecursion}
 use Rattle.std.proofs.lemmas.Bool.{false≢true, cond_both}
@@ -21,7 +21,7 @@ use Rattle.itch_book.proofs.IndexSteps.{level_is, All-found}
 
 module _ (references : ℕ → Option ℕ) (bids asks : List (Place × ℕ)) (w : Seen) (is : IsIndexed references bids asks w)
     (r k n m : ℕ) (x : Order) (node : references r ≡ Some k) (here : w.orders k ≡ Some x) (rest : x.shares - n ≡ m) (some : 0 < m) where
-  -- what is seen then
+  -- the index afterwards
   abbrev pub changed : Seen
   changed = record { keys = w.keys; orders = at_key k (Some (left_with m x)) w.orders }
 
@@ -40,7 +40,7 @@ module _ (references : ℕ → Option ℕ) (bids asks : List (Place × ℕ)) (w 
   less_other : (y : Order) → has_reference r y ≡ false → less r n y ≡ y
   less_other y e = simp e refl
 
-  -- the changed order, or another one as it was
+  -- the changed order, or another one, unchanged
   by_node : {P : Type 0} (j : ℕ) (y : Order) → changed.orders j ≡ Some y → (eqb k j ≡ true → left_with m x ≡ y → P) → (eqb k j ≡ false → w.orders j ≡ Some y → P) → P
   by_node j y h new old = by_test (eqb k j)
       (λ e. new e (same_some (at_same k (Some (left_with m x)) w.orders j e) h))
@@ -87,7 +87,7 @@ module _ (references : ℕ → Option ℕ) (bids asks : List (Place × ℕ)) (w 
       (All-map_rec (λ y. is_level l s p y ≡ true) (less r n) (line w q)
       (All-weaker_rec (λ y. is_level l s p y ≡ true) (λ y. is_level l s p (less r n y) ≡ true) (λ y e. less_level l s p y ∙ e) (line w q) (is.levels s l p q h)))
 
-  -- all have shares left
+  -- all orders have shares left
   live_line : (o : Option ℕ) → AllByRecursion (λ y. has_shares y ≡ true) (line_at changed o)
   live_line None = tt
   live_line (Some q) = by_keys (w.keys q)

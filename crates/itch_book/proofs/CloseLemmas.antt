@@ -1,4 +1,4 @@
--- An empty queue taken from its price.
+-- Removing an empty queue from its price.
 use Rattle.std.proofs.Common.{◌≡◌, ℕ, true, false, cond, eqb, List, [], ◌++◌, Option, Some, None, IsSome, refl, sym, ap, ◌∙◌, subst}
 use Rattle.std.specs.List.{AllByRecursion, list_any}
 use Rattle.std.proofs.lemmas.Bool.{false≢true}
@@ -23,7 +23,7 @@ module _ (references : ℕ → Option ℕ) (bids asks bids' asks' : List (Place 
     (bids_apart : AreApart bids') (asks_apart : AreApart asks')
     (empty : w.keys q ≡ Some []) (at : queue_of_side s0 bids asks l0 p0 ≡ Some q)
     (placed : (s : Side) (l p : ℕ) → queue_of_side s bids' asks' l p ≡ cond (is_there s0 l0 p0 s l p) None (queue_of_side s bids asks l p)) where
-  -- what is seen then
+  -- the index afterwards
   abbrev pub closed : Seen
   closed = record { keys = at_key q None w.keys; orders = w.orders }
 
@@ -38,7 +38,7 @@ module _ (references : ℕ → Option ℕ) (bids asks bids' asks' : List (Place 
       let t = there_is s0 l0 p0 s l p h in
       subst (λ u. queue_of_side u bids asks l p ≡ Some q) t.0 (subst (λ m. queue_of_side s0 bids asks m p ≡ Some q) t.1 (subst (λ n. queue_of_side s0 bids asks l0 n ≡ Some q) t.2 at))
 
-  -- a queue of another price is another queue
+  -- the queue of another price is another queue
   other_queue : (s : Side) (l p q0 : ℕ) → is_there s0 l0 p0 s l p ≡ false → queue_of_side s bids asks l p ≡ Some q0 → eqb q q0 ≡ false
   other_queue s l p q0 n h = by_test (eqb q q0)
       (λ e. absurd (false≢true (sym n ∙ there_at s0 l0 p0 s l p (is.apart s0 s l0 p0 l p q at (h ∙ ap Some (sym (eqb_is q q0 e)))))))
@@ -50,7 +50,7 @@ module _ (references : ℕ → Option ℕ) (bids asks bids' asks' : List (Place 
       (λ e. none_some (placed_here s l p e) h)
       (λ e. let was : queue_of_side s bids asks l p ≡ Some q0 = sym (placed_else s l p e) ∙ h in old was (other_queue s l p q0 e was))
 
-  -- another queue has its price still
+  -- another queue still belongs to its price
   still_at : (s : Side) (l p q0 : ℕ) → eqb q q0 ≡ false → queue_of_side s bids asks l p ≡ Some q0 → queue_of_side s bids' asks' l p ≡ Some q0
   still_at s l p q0 n h = by_test (is_there s0 l0 p0 s l p)
       (λ e. absurd (false≢true (sym n ∙ subst (λ t. eqb q t ≡ true) (same_some (at_there s l p e) h) (eqb_itself q))))

@@ -1,4 +1,4 @@
--- The number of references is that of the orders.
+-- The number of references is the number of orders.
 use Rattle.std.proofs.Common.{◌≡◌, ℕ, true, false, eqb, List, [], ◌∷◌, map, length, Option, Some, None, is_some, refl, sym, ap, ◌∙◌, arith}
 use Rattle.std.specs.List.{AllByRecursion, list_any, IsDistinct as AreDistinct}
 use Rattle.std.proofs.lemmas.Bool.Decides.{nat_tests}
@@ -14,11 +14,11 @@ use Rattle.itch_book.proofs.Lists.{by_test}
 use Rattle.itch_book.proofs.Distinct.{head_distinct, tail_distinct}
 use Rattle.itch_book.proofs.IndexSteps.{get_some, get_none}
 
--- their references
+-- the references of these orders
 abbrev names_of : List Order → List ℕ
 names_of xs = map (λ (x : Order). x.reference) xs
 
--- an order has a reference if it is among those of all
+-- an order has a reference if it is among the references of all
 among : (r : ℕ) (xs : List Order) → is_some (get xs r) ≡ list_any (eqb r) (names_of xs)
 among r [] = refl
 among r (x ∷ xs) =
@@ -36,7 +36,7 @@ unfolding AreDistinct
 apart [] d = tt
 apart (x ∷ xs) d = (none_equal x.reference (names_of xs) (sym (among x.reference xs) ∙ ap is_some (head_distinct x xs d)), apart xs (tail_distinct x xs d))
 
--- as many keys have a node as there are orders
+-- the number of keys with a node is the number of orders
 pub counted : (references : ℕ → Option ℕ) (bids asks : List (Place × ℕ)) (v : Seen) → IsIndexed references bids asks v → (n : ℕ) → IsCount references n → n ≡ length (indexed v bids asks)
 counted references bids asks v is n count =
     let orders = indexed v bids asks in

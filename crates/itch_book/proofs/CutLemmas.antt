@@ -1,4 +1,4 @@
--- An order taken out of its queue.
+-- Removing an order from its queue.
 use Rattle.std.proofs.Common.{◌≡◌, ℕ, true, false, eqb, not, List, [], ◌∷◌, ◌++◌, Option, Some, None, IsSome, option_map, refl, sym, ap, ◌∙◌, subst}
 use Rattle.std.specs.List.{AllByRecursion, list_any}
 use Rattle.std.proofs.lemmas.Bool.{false≢true}
@@ -37,7 +37,7 @@ in_was k j (h ∷ hs) i =
     (λ f. (subst (λ t. In t (h ∷ hs)) (sym f) (in_head h hs), subst (λ t. eqb k t ≡ false) (sym f) e))
     (λ m. let rest = in_was k j hs m in (in_tail j h hs rest.0, rest.1)))
 
--- a fact of all orders of some nodes is one of each
+-- a property of the orders of all these nodes is a property of each
 pub found_member : (P : Order → Type 0) (orders : ℕ → Option Order) (k : ℕ) (x : Order) (ks : List ℕ) → AllByRecursion P (found orders ks) → In k ks → orders k ≡ Some x → P x
 found_member P orders k x [] all i here = absurd (false≢true i)
 found_member P orders k x (j ∷ js) all i here =
@@ -52,7 +52,7 @@ found_member P orders k x (j ∷ js) all i here =
 module _ (references references' : ℕ → Option ℕ) (bids asks : List (Place × ℕ)) (w : Seen) (is : IsIndexed references bids asks w)
     (r k : ℕ) (x : Order) (node : references r ≡ Some k) (here : w.orders k ≡ Some x)
     (names : (j : ℕ) → references' j ≡ at_key r None references j) where
-  -- what is seen then
+  -- the index afterwards
   abbrev pub cut : Seen
   cut = record { keys = λ q. option_map (without_key k) (w.keys q); orders = at_key k None w.orders }
 

@@ -1,4 +1,4 @@
--- Orders with references of their own, and orders that may be live.
+-- Orders with distinct references, and orders that may be live.
 use Rattle.std.proofs.Common.{◌≡◌, ℕ, ◌≤◌, ◌<◌, ◌-◌, nat_lt, Bool, true, not, List, [], ◌∷◌, map, length, filter, find, Option, Some, None, refl, ap, ◌∙◌, subst, arith, length-append}
 use Rattle.std.specs.List.{AllByRecursion}
 use Rattle.std.specs.Cmp.{IsStrictWeakOrder}
@@ -12,12 +12,12 @@ use Rattle.std.proofs.lemmas.List.{length-map}
 use Rattle.itch_book.proofs.Lists.{by_test, All-append_rec, All-filter_rec, All-map_rec, All-weaker_rec, All-both_rec, All-found_rec, passes_filter, filter_swap, filter-map, length_filter_le, absent_in_filter}
 use Rattle.itch_book.proofs.StableLemmas.{in_order-filter, length-in_order}
 
--- what is found is the first that is kept
+-- the first match is the first element that a filter keeps
 pub find_first : (p : Order → Bool) (xs : List Order) → find p xs ≡ first (filter p xs)
 find_first p [] = refl
 find_first p (x ∷ xs) = by_test (p x) (λ e. simp e refl) (λ e. simp e (find_first p xs))
 
--- where nothing is found, nothing is kept
+-- if there is no match, a filter keeps nothing
 pub walk_none : (p : Order → Bool) (xs : List Order) → find p xs ≡ None → filter p xs ≡ []
 walk_none p [] h = refl
 walk_none p (x ∷ xs) h =
@@ -67,7 +67,7 @@ IsDistinct-in_order before o xs d r =
     let same = length-in_order before (filter (has_reference r) xs) in
     let one = d r in omega arith
 
--- a change that leaves the references
+-- a change that does not affect the references
 pub IsDistinct-map : (f : Order → Order) → ((r : ℕ) (x : Order) → has_reference r (f x) ≡ has_reference r x) → (xs : List Order) → IsDistinct xs → IsDistinct (map f xs)
 IsDistinct-map f same xs d r =
     let kept = ap length (filter-map (has_reference r) (has_reference r) f (same r) xs) in
@@ -105,8 +105,7 @@ IsDistinct-replaced original reference shares price xs h d = by_order (get xs or
 pub live_fit : (xs : List Order) → AllByRecursion IsLive xs → AllFit xs
 live_fit xs h = All-weaker_rec IsLive (λ x. fits x ≡ true) (λ x live. live.1) xs h
 
--- a fact of each locate is kept by each effect
--- a fact of the locate of every order
+-- a property of the locate of every order, which each change preserves
 abbrev pub AllAt : (ℕ → Type 0) → List Order → Type 0
 AllAt P orders = AllByRecursion (λ x. P x.locate) orders
 
@@ -133,7 +132,7 @@ AllAt-replaced P original reference shares price xs all = by_order (get xs origi
         AllAt-added P (record x { reference = reference; shares = shares; price = price }) (without original xs)
         (All-found_rec (λ y. P y.locate) (has_reference original) xs x all e) (AllAt-without P original xs all)
 
--- what may be live stays so
+-- orders that may be live remain so
 pub live_added : (x : Order) (xs : List Order) → IsLive x → AllByRecursion IsLive xs → AllByRecursion IsLive (added x xs)
 live_added x xs h all = All-append_rec IsLive xs (x ∷ []) all (h, tt)
 

@@ -1,4 +1,4 @@
--- The best price of an index, and the order in front.
+-- The best price of an index, and the first order.
 use Rattle.std.proofs.Common.{◌≡◌, ℕ, ◌^◌, ◌<◌, ◌==◌, ◌&&◌, Bool, true, false, List, [], ◌∷◌, ◌++◌, find, Option, Some, None, IsSome, option_map, refl, sym, ap, ◌∙◌, subst, arith}
 use Rattle.std.specs.List.{AllByRecursion}
 use Rattle.std.proofs.lemmas.Bool.{false≢true, and_parts}
@@ -17,7 +17,7 @@ use Rattle.itch_book.proofs.LinkLemmas.{in_head}
 use Rattle.itch_book.proofs.IndexSteps.{All-joined, level_is}
 use Rattle.itch_book.proofs.IndexLemmas.{line_at}
 
--- what passes a test first is what passes a narrower one first, where that stands before all else
+-- the first match of a condition is the first match of a narrower one, if the narrower matches are before all others
 pub find_wider : (f g : Order → Bool) (xs : List Order) → IsInOrder stands_before xs → ((y : Order) → g y ≡ true → f y ≡ true)
     → AllByRecursion (λ y. (x : Order) → g x ≡ true → f y ≡ true → g y ≡ false → stands_before x y ≡ true) xs → (x : Order) → find g xs ≡ Some x → find f xs ≡ Some x
 find_wider f g [] order wider following x h = h
@@ -54,7 +54,7 @@ All-every P h (y ∷ ys) = (h y, All-every P h ys)
 pub level_of_is : (l : ℕ) (s : Side) (p : ℕ) (x : Order) → is_level l s p x ≡ true → (is_of l s x ≡ true) × (x.price ≡ p)
 level_of_is l s p x h = ((and_parts (is_of l s x) (x.price == p) h).0, grind (arith, nat_tests))
 
--- an order of the side whose price is neither better nor this one stands after those of this price
+-- an order of the side whose price is neither better nor equal is after the orders of this price
 after_level : (l : ℕ) (s : Side) (p : ℕ) (x y : Order) → is_level l s p x ≡ true → is_of l s y ≡ true → is_level l s p y ≡ false → is_better s y.price p ≡ false → stands_before x y ≡ true
 after_level l s p x y h k n best =
     let parts = level_of_is l s p x h in
@@ -68,7 +68,7 @@ module _ (references : ℕ → Option ℕ) (bids asks : List (Place × ℕ)) (v 
   abbrev IsPlaced : Order → Type 0
   IsPlaced x = IsSome (queue_of_side x.side bids asks x.locate x.price) × (x.price < 2 ^ 32)
 
-  -- each order has the queue of its price
+  -- each order is in the queue of its price
   pub placed : AllByRecursion (λ x. IsSome (queue_of_side x.side bids asks x.locate x.price) × (x.price < 2 ^ 32)) (indexed v bids asks)
   placed = All-lay IsPlaced (joined v bids ++ joined v asks) (All-append_rec IsPlaced (joined v bids) (joined v asks) (All-joined IsPlaced v each bids) (All-joined IsPlaced v each asks))
     where
@@ -109,7 +109,7 @@ module _ (references : ℕ → Option ℕ) (bids asks : List (Place × ℕ)) (v 
           x here in
           (wide ∙ sym head, ap (option_map (λ (z : Order). z.price)) wide ∙ ap Some (level_of_is l s e.0 x (found_passes (is_level l s e.0) (indexed v bids asks) x here)).1)
 
--- with no last price, what is next is all of the side
+-- without a last price, the next order is the first of the side
 pub next_all : (l : ℕ) (s : Side) (xs : List Order) → find (is_next l s None) xs ≡ find (is_of l s) xs
 next_all l s xs = find_alike (is_next l s None) (is_of l s) xs (All-every (λ y. is_next l s None y ≡ is_of l s y) (λ y. and_true (is_of l s y)) xs)
   where
@@ -125,7 +125,7 @@ in_sides l x h n = by_side x.side h n
     by_side Buy a b = let no : true ≡ false = simp a at b in absurd (false≢true (sym no))
     by_side Sell a b = simp a refl
 
--- bids stand before asks
+-- bids are before asks
 pub sides_apart : (l : ℕ) (x y : Order) → is_of l Buy x ≡ true → is_of l Sell y ≡ true → stands_before x y ≡ true
 sides_apart l x y h k = by_sides x.side y.side (side_is l Buy x h) (side_is l Sell y k)
   where
@@ -138,7 +138,7 @@ sides_apart l x y h k = by_sides x.side y.side (side_is l Buy x h) (side_is l Se
     by_sides Sell Buy e f = absurd (let no_one : ⊥ = cc in no_one)
     by_sides Sell Sell e f = absurd (let no_one : ⊥ = cc in no_one)
 
--- the first of a locate is the first bid, or else the first ask
+-- the first order of a locate is the first bid, or else the first ask
 pub first_bid : (l : ℕ) (xs : List Order) (x : Order) → IsInOrder stands_before xs → find (is_of l Buy) xs ≡ Some x → find (is_in l) xs ≡ Some x
 first_bid l xs x order h = find_wider (is_in l) (is_of l Buy) xs order (λ y k. of_in l Buy y k)
     (All-every (λ y. (z : Order) → is_of l Buy z ≡ true → is_in l y ≡ true → is_of l Buy y ≡ false → stands_before z y ≡ true) (λ y z a b n. sides_apart l z y a (in_sides l y b n)) xs) x h

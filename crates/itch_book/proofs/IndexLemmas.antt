@@ -1,4 +1,4 @@
--- The orders at a price are those of its queue.
+-- The orders at a price are the orders of its queue.
 use Rattle.std.proofs.Common.{◌≡◌, ℕ, true, false, List, [], ◌∷◌, ◌++◌, filter, Option, Some, None, refl, sym, ap, ◌∙◌, subst, arith, append-nil}
 use Rattle.std.specs.declared.cmp.Ordering.{Ordering}
 use Rattle.std.specs.Ordering.{nat_cmp, ordering_then, is_eq}
@@ -27,7 +27,7 @@ line_at v (Some q) = line v q
 abbrev pub IsAt : Seen → Side → Place × ℕ → Type 0
 IsAt v side e = AllByRecursion (λ x. is_level e.0.0 side e.0.1 x ≡ true) (line v e.1)
 
--- a query for a place finds that place alone
+-- a query for a place finds only that place
 pub place_is : (a b : Place) → is_at (place_cmp a) b ≡ true → a ≡ b
 place_is a b h = exact_pairs nat_cmp nat_cmp exact_unsigned exact_unsigned a b (equal (place_cmp a b) h)
   where
@@ -36,7 +36,7 @@ place_is a b h = exact_pairs nat_cmp nat_cmp exact_unsigned exact_unsigned a b (
     equal Equal h = refl
     equal Greater h = absurd (false≢true h)
 
--- what an order at a place says of its place
+-- the place of an order at a level
 pub level_place : (l : ℕ) (s : Side) (p m : ℕ) (q : ℕ) (x : Order) → is_level l s p x ≡ true → is_level m s q x ≡ true → ◌≡◌ {A = ℕ × ℕ} (l, p) (m, q)
 level_place l s p m q x h k = let a : l ≡ m = grind (arith, nat_tests) in let b : p ≡ q = grind (arith, nat_tests) in λ i. (a i, b i)
 
@@ -65,7 +65,7 @@ other_side l s t p m q x apart h k = by_sides s t apart x.side (side_of l s p x 
         false≢true (sym apart ∙ subst (λ v. same_side v t ≡ true) e b)
 
 module _ (v : Seen) where
-  -- the orders of another level than the queue's
+  -- the queue contains no orders of another level
   none_here : (l : ℕ) (s : Side) (p : ℕ) (e : Place × ℕ) → is_at (place_cmp (l, p)) e.0 ≡ false → IsAt v s e → filter (is_level l s p) (line v e.1) ≡ []
   none_here l s p e apart at = filter_none (is_level l s p) (line v e.1) (All-weaker_rec (λ x. is_level e.0.0 s e.0.1 x ≡ true) (λ x. is_level l s p x ≡ false)
       (λ x h. by_test (is_level l s p x)
@@ -81,7 +81,7 @@ module _ (v : Seen) where
       ∙ ap (λ t. t ++ filter (is_level l s p) (joined v es)) (none_here l s p e h at.0)
       ∙ none_left l s p es later at.1)
 
-  -- the orders at a price of a side are those of the queue there
+  -- the orders at a price of a side are the orders of the queue there
   pub level_joined : (l : ℕ) (s : Side) (p : ℕ) (es : List (Place × ℕ)) → AreApart es → AllByRecursion (IsAt v s) es → filter (is_level l s p) (joined v es) ≡ line_at v (queue_at es l p)
   level_joined l s p [] apart at = refl
   level_joined l s p (e ∷ es) apart at =
@@ -93,7 +93,7 @@ module _ (v : Seen) where
       simp h (ap (λ t. filter (is_level l s p) (line v e.1) ++ t) rest ∙ append-nil (filter (is_level l s p) (line v e.1)) ∙ filter_all (is_level l s p) (line v e.1) all))
       (λ h. simp h (ap (λ t. t ++ filter (is_level l s p) (joined v es)) (none_here l s p e h at.0) ∙ level_joined l s p es apart.1 at.1))
 
-  -- and none of them is on the other side
+  -- and no order is on the other side
   pub level_other : (l : ℕ) (s t : Side) (p : ℕ) (es : List (Place × ℕ)) → same_side s t ≡ false → AllByRecursion (IsAt v t) es → filter (is_level l s p) (joined v es) ≡ []
   level_other l s t p [] apart at = refl
   level_other l s t p (e ∷ es) apart at =
@@ -102,7 +102,7 @@ module _ (v : Seen) where
       (λ x h. by_test (is_level l s p x) (λ k. absurd (other_side l s t p e.0.0 e.0.1 x apart k h)) (λ n. n)) (line v e.1) at.0))
       ∙ level_other l s t p es apart at.1
 
-  -- a fact of each place that is found is one of each entry
+  -- a property of each place that is found is a property of each entry
   by_entries : (P : Place × ℕ → Type 0) (es : List (Place × ℕ)) → AreApart es → ((l p q : ℕ) → queue_at es l p ≡ Some q → P ((l, p), q)) → AllByRecursion P es
   by_entries P [] apart h = tt
   by_entries P (e ∷ es) apart h = (
@@ -118,7 +118,7 @@ module _ (v : Seen) where
           let no : Some q ≡ None = sym it ∙ none in absurd (let no_one : ⊥ = cc in no_one))
           (λ f. simp f it)
 
-  -- over both sides
+  -- the same over both sides
   pub level_both : (l : ℕ) (s : Side) (p : ℕ) (bids asks : List (Place × ℕ)) → AreApart bids → AreApart asks
       → ((t : Side) (m n q : ℕ) → queue_of_side t bids asks m n ≡ Some q → AllByRecursion (λ x. is_level m t n x ≡ true) (line v q))
       → level (joined v bids ++ joined v asks) l s p ≡ line_at v (queue_of_side s bids asks l p)

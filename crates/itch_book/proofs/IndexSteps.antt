@@ -1,4 +1,4 @@
--- What is read off an index.
+-- The results of queries of an index.
 use Rattle.std.proofs.Common.{◌≡◌, ℕ, ◌&&◌, Bool, true, false, not, List, [], ◌∷◌, ◌++◌, filter, find, get_or, Option, Some, None, IsSome, refl, sym, ap, ◌∙◌, subst, arith}
 use Rattle.std.specs.List.{AllByRecursion}
 use Rattle.itch_book.proofs.BookLemmas.{IsBook-lay}
@@ -18,7 +18,7 @@ use Rattle.itch_book.proofs.LinkLemmas.{In, eqb_itself, in_cases}
 use Rattle.itch_book.proofs.QueueSteps.{none_some, same_some, inj}
 use Rattle.itch_book.proofs.IndexLemmas.{line_at, level_both}
 
--- a fact of every node's order is one of all orders
+-- a property of every node's order is a property of all orders
 pub All-found : (P : Order → Type 0) (orders : ℕ → Option Order) → ((k : ℕ) (x : Order) → orders k ≡ Some x → P x) → (ks : List ℕ) → AllByRecursion P (found orders ks)
 All-found P orders h [] = tt
 All-found P orders h (k ∷ ks) = by_order (orders k) refl (All-found P orders h ks)
@@ -35,7 +35,7 @@ All-joined P v h (e ∷ es) = All-append_rec P (line v e.1) (joined v es) (by_ke
     by_keys None = tt
     by_keys (Some ks) = All-found P (v.orders) h ks
 
--- orders at one price tie
+-- orders at the same price tie
 level_ties : (l : ℕ) (s : Side) (p : ℕ) (x y : Order) → is_level l s p x ≡ true → is_level l s p y ≡ true → stands_before y x ≡ false
 level_ties l s p x y h k =
     let a : l ≡ x.locate = grind (arith, nat_tests) in
@@ -56,7 +56,7 @@ module _ (references : ℕ → Option ℕ) (bids asks : List (Place × ℕ)) (v 
   pub all_fit : AllFit (joined v bids ++ joined v asks)
   all_fit = All-append_rec (λ x. fits x ≡ true) (joined v bids) (joined v asks) (All-joined (λ x. fits x ≡ true) v (λ k x h. (is.live k x h).1) bids) (All-joined (λ x. fits x ≡ true) v (λ k x h. (is.live k x h).1) asks)
 
-  -- the orders at a price are those of its queue
+  -- the orders at a price are the orders of its queue
   pub level_is : (l : ℕ) (s : Side) (p : ℕ) → level (indexed v bids asks) l s p ≡ line_at v (queue_of_side s bids asks l p)
   level_is l s p =
       ap (filter (is_level l s p)) (lay_fit (joined v bids ++ joined v asks) all_fit)
@@ -69,7 +69,7 @@ module _ (references : ℕ → Option ℕ) (bids asks : List (Place × ℕ)) (v 
   pub level_some : (l : ℕ) (s : Side) (p q : ℕ) (ks : List ℕ) → queue_of_side s bids asks l p ≡ Some q → v.keys q ≡ Some ks → level_total (indexed v bids asks) l s p ≡ totals_of (found (v.orders) ks)
   level_some l s p q ks some keys = ap totals_of (level_is l s p ∙ ap (line_at v) some ∙ ap (orders_in (v.orders)) keys)
 
--- what is found in a part of distinct orders is what is found in all
+-- a match in a part of distinct orders is the match in all
 pub find_whole : (r : ℕ) (p : Order → Bool) (xs : List Order) (x : Order) → IsDistinct xs → find (has_reference r) (filter p xs) ≡ Some x → get xs r ≡ Some x
 find_whole r p [] x d h = h
 find_whole r p (y ∷ ys) x d h =
@@ -83,7 +83,7 @@ find_whole r p (y ∷ ys) x d h =
     (λ f. let it : find (has_reference r) (filter p ys) ≡ Some x = simp (f, e) at h in find_whole r p ys x (tail_distinct y ys d) it)
     (λ f. let it : find (has_reference r) (filter p ys) ≡ Some x = simp f at h in find_whole r p ys x (tail_distinct y ys d) it)))
 
--- what is found is found in the part that it is in
+-- a match is found in the part that contains it
 pub find_part : (r : ℕ) (p : Order → Bool) (xs : List Order) (x : Order) → find (has_reference r) xs ≡ Some x → p x ≡ true → find (has_reference r) (filter p xs) ≡ Some x
 find_part r p [] x h k = h
 find_part r p (y ∷ ys) x h k =
@@ -94,7 +94,7 @@ find_part r p (y ∷ ys) x h k =
     let rest = find_part r p ys x it k in
     by_test (p y) (λ f. simp (f, e) rest) (λ f. simp f rest))
 
--- an order among those of some nodes is that of one
+-- an order of some nodes is the order of one node
 pub found_node : (orders : ℕ → Option Order) (r : ℕ) (ks : List ℕ) (x : Order) → find (has_reference r) (found orders ks) ≡ Some x → (k : ℕ) × (orders k ≡ Some x)
 found_node orders r [] x h = absurd (let no_one : ⊥ = cc in no_one)
 found_node orders r (k ∷ ks) x h = by_order (orders k) refl h (λ i. found_node orders r ks x i)
@@ -106,7 +106,7 @@ found_node orders r (k ∷ ks) x h = by_order (orders k) refl h (λ i. found_nod
         (λ f. let it : Some y ≡ Some x = simp f at i in (k, e ∙ it))
         (λ f. let it : find (has_reference r) (found orders ks) ≡ Some x = simp f at i in rest it)
 
--- the order of a node is found among those of its queue
+-- the order of a node is found among the orders of its queue
 pub find_found : (orders : ℕ → Option Order) (r k : ℕ) (x : Order) (ks : List ℕ) → In k ks → orders k ≡ Some x → has_reference r x ≡ true → ((j : ℕ) (y : Order) → orders j ≡ Some y → has_reference r y ≡ true → j ≡ k)
     → find (has_reference r) (found orders ks) ≡ Some x
 find_found orders r k x [] i here has one = absurd (false≢true i)
@@ -156,7 +156,7 @@ module _ (references : ℕ → Option ℕ) (bids asks : List (Place × ℕ)) (v 
           let has = found_passes (has_reference r) (indexed v bids asks) x e in
           none_some none (ap references (sym (own_reference r x has)) ∙ is.named node.0 x node.1)
 
--- the index of no orders
+-- the index without orders
 pub empty_index : (references : ℕ → Option ℕ) (v : Seen) → ((r : ℕ) → references r ≡ None) → ((k : ℕ) → v.orders k ≡ None) → ((q : ℕ) → v.keys q ≡ None) → IsIndexed references [] [] v
 empty_index references v new vacant none = record {
   book = IsBook-lay [] (λ r. omega arith) tt;

@@ -1,4 +1,4 @@
--- What a change leaves is a book's list.
+-- The list after a change is a book's list.
 use Rattle.std.proofs.Common.{◌≡◌, ℕ, ◌<◌, true, List, None, sym, subst}
 use Rattle.std.specs.Prelude.{Result, Ok, Err, OnOk, OnErr}
 use Rattle.itch_book.specs.declared.order.Order.{Order}

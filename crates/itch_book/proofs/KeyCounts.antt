@@ -1,4 +1,4 @@
--- How many keys have a link after one more has, or one fewer.
+-- The number of keys that have a link after an insertion or a removal.
 use Rattle.std.proofs.Common.{◌≡◌, ℕ, ◌+◌, ◌-◌, ◌≤◌, true, false, cond, eqb, ◌||◌, List, [], ◌∷◌, length, Option, Some, None, is_some, refl, sym, ap, ◌∙◌, subst, arith}
 use Rattle.std.specs.List.{AllByRecursion, list_any, IsDistinct}
 use Rattle.std.specs.Map.{update}
@@ -7,7 +7,7 @@ use Rattle.itch_book.specs.Table.{IsCount}
 use Rattle.itch_book.proofs.Lists.{by_test}
 use Rattle.itch_book.proofs.LinkLemmas.{eqb_itself, eqb_is, eqb_turned}
 
--- without the first that is this one
+-- the list without the first occurrence of this key
 abbrev drop_key : ℕ → List ℕ → List ℕ
 drop_key k [] = []
 drop_key k (y ∷ ys) = cond (eqb k y) ys (y ∷ drop_key k ys)
@@ -70,7 +70,7 @@ drop_among k q (y ∷ ys) d = by_test (eqb k y)
 pub count_none : (f : ℕ → Option ℕ) → ((k : ℕ) → f k ≡ None) → IsCount f 0
 count_none f none = record { keys = []; distinct = no_keys; long = refl; known = λ k. ap is_some (none k) }
 
--- the keys that have links are the same
+-- the keys with a link are the same
 pub count_same : (f g : ℕ → Option ℕ) (n : ℕ) → IsCount f n → ((q : ℕ) → is_some (g q) ≡ is_some (f q)) → IsCount g n
 count_same f g n is same = record { keys = is.keys; distinct = is.distinct; long = is.long; known = λ q. same q ∙ is.known q }
 
@@ -79,7 +79,7 @@ count_set f g k w v n is there puts = count_same f g n is (λ q. ap is_some (put
     (λ e. let known : is_some (f q) ≡ true = ap is_some (subst (λ m. f m ≡ Some w) (eqb_is k q e) there) in simp (e, known) refl)
     (λ e. simp e refl))
 
--- a new key has one
+-- a new key has a link
 pub count_more : (f g : ℕ → Option ℕ) (k v n : ℕ) → IsCount f n → f k ≡ None → ((q : ℕ) → g q ≡ update eqb f k (Some v) q) → IsCount g (n + 1)
 count_more f g k v n is new puts = record {
   keys = k ∷ is.keys;
@@ -90,7 +90,7 @@ count_more f g k v n is new puts = record {
       (λ e. let s : eqb q k ≡ false = eqb_turned k q e in simp (e, s) (is.known q));
 }
 
--- a key had one, which was taken out
+-- a key had a link, which was removed
 some_among : (ys : List ℕ) (k : ℕ) → list_any (eqb k) ys ≡ true → 1 ≤ length ys
 some_among [] k h = absurd (false≢true h)
 some_among (y ∷ ys) k h = omega arith

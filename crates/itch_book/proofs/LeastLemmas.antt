@@ -1,4 +1,4 @@
--- The first order that is looked for, found by going over all in whatever order.
+-- The first wanted order, found by a scan over all orders in any order.
 use Rattle.std.proofs.Common.{◌≡◌, ℕ, ◌≤◌, Bool, true, false, cond, eqb, List, [], ◌∷◌, ◌++◌, map, length, filter, find, Option, Some, None, option_map, refl, sym, ap, ◌∙◌, subst, arith}
 use Rattle.std.specs.List.{AllByRecursion}
 use Rattle.std.specs.Map.{lookup, values_of}
@@ -18,7 +18,7 @@ use Rattle.itch_book.proofs.Levels.{ties}
 use Rattle.itch_book.proofs.SettledLemmas.{arrival_order, arrival_ties, first_of, find_push, no_elements, holds, holds_length, Keyed, at_key_is}
 use Rattle.itch_book.proofs.ArrivedSteps.{found_there}
 
--- the first in snapshot order that is looked for
+-- the first wanted order in snapshot order
 abbrev pub least_of : Wanted → List Arrived → Option Arrived
 least_of w xs = find (wants w) (in_order comes_before xs)
 
@@ -45,11 +45,11 @@ find_shown p q same (x ∷ xs) =
 pub least_order : (p : Order → Bool) (w : Wanted) → ((x : Arrived) → wants w x ≡ p x.order) → (xs : List Arrived) → option_map its_order (least_of w xs) ≡ find p (map its_order (in_order comes_before xs))
 least_order p w same xs = find_shown p (wants w) same (in_order comes_before xs)
 
--- with no last price any price is looked for
+-- without a last price, any price is wanted
 pub any_price : (l : ℕ) (s : Side) (x : Arrived) → wants (Next l s None) x ≡ is_of l s x.order
 any_price l s x = by_test (is_of l s x.order) (λ e. simp e refl) (λ e. simp e refl)
 
--- the next price is that of the order that is looked for
+-- the next price is the price of the wanted order
 pub least_price : (l : ℕ) (s : Side) (last : Option ℕ) (xs : List Arrived) → option_map (λ (x : Order). x.price) (option_map its_order (least_of (Next l s last) xs)) ≡ next_price (settled xs) l s last
 least_price l s last xs = ap (option_map (λ (x : Order). x.price)) (least_order (is_next l s last) (Next l s last) (λ x. refl) xs)
 
@@ -74,7 +74,7 @@ apart_tail y ys apart n =
 came_itself : (y : Arrived) → came_at y.arrival y ≡ true
 came_itself y = grind (arith, nat_tests)
 
--- what follows in order comes after, where no two came as one
+-- the rest of a sorted list comes after its first element, if no two have the same arrival number
 all_after : (y : Arrived) (ys : List Arrived) → AllByRecursion (λ z. comes_before z y ≡ false) ys → IsApart (y ∷ ys) → AllByRecursion (λ z. comes_before y z ≡ true) ys
 all_after y ys h apart =
     let e = came_itself y in
@@ -85,7 +85,7 @@ all_after y ys h apart =
     absurd (false≢true (sym k.1 ∙ arrival_ties y z tied))))
     ys (All-both_rec (λ z. comes_before z y ≡ false) (λ z. came_at y.arrival z ≡ false) ys h (none_pass (came_at y.arrival) ys (omega arith)))
 
--- the next of its locate after an order, in a line in order
+-- the next order of its locate after an order, in a sorted line
 pub following_is : (r : ℕ) (t : Arrived) (line : List Arrived) → IsInOrder comes_before line → IsApart line → find (holds r) line ≡ Some t
     → option_map its_order (find (wants (After t)) line) ≡ find (is_in t.order.locate) (following r (map its_order line))
 following_is r t [] h apart f = absurd (let no_one : ⊥ = cc in no_one)
@@ -133,7 +133,7 @@ line_apart xs apart n =
     let same = length-in_order comes_before (filter (came_at n) xs) in
     let one = apart n in omega arith
 
--- the order of the same locate after that of a reference
+-- the order after the one with a reference, among those of its locate
 pub after_is : (r next : ℕ) (es : List (ℕ × Arrived)) (t : Arrived) → IsArrived es next → lookup (eqb r) es ≡ Some t
     → option_map its_order (least_of (After t) (values_of es)) ≡ after (settled (values_of es)) r
 after_is r next es t is found =
@@ -145,7 +145,7 @@ after_is r next es t is found =
     following_is r t (in_order comes_before xs) (IsInOrder-in_order comes_before arrival_order xs) (line_apart xs is.apart) here
     ∙ ap (λ (o : Option Order). next_in o r (settled xs)) (sym (found_there r next es (settled xs) t is refl found))
 
--- the line, where there is one, is in order
+-- the line, if there is one, is sorted
 pub line_in_order : (xs : List Arrived) (laid : Option (List Arrived)) (line : List Arrived) → IsLineOr xs laid → laid ≡ Some line → IsInOrder comes_before line
 line_in_order xs laid line is e =
     let here : IsLineOr xs (Some line) = subst (IsLineOr xs) e is in

@@ -1,4 +1,4 @@
--- The queue at a price, found or opened.
+-- Finding or opening the queue at a price.
 use Rattle.std.proofs.Common.{◌≡◌, ℕ, cond, List, [], Option, Some, None, refl, sym, ap, ◌∙◌, subst}
 use Rattle.std.specs.Prelude.{Result, Ok, Err, OnErr, IfOk}
 use Rattle.itch_codec.specs.declared.orders.Side.{Side}
@@ -7,7 +7,7 @@ use Rattle.itch_book.specs.Queued.{Queued, Seen, Opens, seen}
 use Rattle.itch_book.specs.Indexed.{Place, AreApart, indexed, queue_of_side, is_there, IsIndexed, IsBusy, IsBusyBut}
 use Rattle.itch_book.proofs.OpenLemmas.{open_view, open_index, open_busy, seen_same, same_orders}
 
--- what holds of each success
+-- a property of each success
 pub on_ok : {E : Type 0} {P : ℕ → Type 0} (r : Result ℕ E) → ((q : ℕ) → r ≡ Ok q → P q) → IfOk r P
 on_ok (Ok q) holds = holds q refl
 on_ok (Err e) holds = tt
@@ -40,7 +40,7 @@ module _ {E : Type 0} (bids asks bids' asks' : List (Place × ℕ)) (v v' : Queu
       subst (λ (x : List (Place × ℕ)). P x asks' v') (sym same.0)
       (subst (λ (x : List (Place × ℕ)). P bids x v') (sym same.1) (subst (λ (x : Queued). P bids asks x) (sym same.2) h))
 
-  -- what is seen of queues with one more
+  -- the index after one more queue was opened
   seen_opened : (q : ℕ) → Opens q v v' → seen v' ≡ record { keys = at_key q (Some []) (seen v).keys; orders = (seen v).orders }
   seen_opened q o = seen_same _ (seen v') o.keys (same_orders v v' o.orders)
 

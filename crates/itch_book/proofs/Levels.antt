@@ -1,4 +1,4 @@
--- Two lists that agree wherever elements tie have one list in order.
+-- Two lists that have the same elements in the same order in each class of ties have the same sorted list.
 use Rattle.std.proofs.Common.{◌≡◌, Bool, true, false, not, ◌&&◌, List, [], ◌∷◌, filter, refl, sym, ap, ◌∙◌}
 use Rattle.std.specs.List.{AllByRecursion}
 use Rattle.std.specs.Cmp.{IsStrictWeakOrder}
@@ -15,7 +15,7 @@ module _ {A : Type 0} (before : A → A → Bool) (o : IsStrictWeakOrder before)
   ties_itself : (x : A) → ties before x x ≡ true
   ties_itself x = let e = not_itself before o x in simp e refl
 
-  -- nothing ties with what is before the first of a list in order
+  -- nothing ties with an element that is before the first of a sorted list
   none_ties : (x y : A) (ys : List A) → before x y ≡ true → IsInOrder before (y ∷ ys) → filter (ties before x) (y ∷ ys) ≡ []
   none_ties x y ys h k =
       filter_none (ties before x) (y ∷ ys) (
@@ -34,7 +34,7 @@ module _ {A : Type 0} (before : A → A → Bool) (o : IsStrictWeakOrder before)
       absurd (let no_one : ⊥ = cc in no_one))
       (λ e. e)
 
-  -- lists in order that agree wherever elements tie are one list
+  -- sorted lists that agree on each class of ties are equal
   pub ordered_same : (xs ys : List A) → IsInOrder before xs → IsInOrder before ys → ((z : A) → filter (ties before z) xs ≡ filter (ties before z) ys) → xs ≡ ys
   ordered_same [] [] h k same = refl
   ordered_same [] (y ∷ ys) h k same =
@@ -56,18 +56,18 @@ module _ {A : Type 0} (before : A → A → Bool) (o : IsStrictWeakOrder before)
       let tails : filter (ties before z) xs ≡ filter (ties before z) ys = simp (e, f) at (same z) in tails)) in
       cc
 
-  -- two lists that agree wherever elements tie have one list in order
+  -- two lists that agree on each class of ties have the same sorted list
   pub in_order_same : (xs ys : List A) → ((z : A) → filter (ties before z) xs ≡ filter (ties before z) ys) → in_order before xs ≡ in_order before ys
   in_order_same xs ys same =
       ordered_same (in_order before xs) (in_order before ys) (IsInOrder-in_order before o xs) (IsInOrder-in_order before o ys)
       (λ z. in_order-filter before o (ties before z) xs ∙ ap (in_order before) (same z) ∙ sym (in_order-filter before o (ties before z) ys))
 
-  -- all of a list tie with one another
+  -- all elements of a list tie with one another
   tied : (P : A → Type 0) → ((x y : A) → P x → P y → before y x ≡ false) → (xs : List A) → AllByRecursion P xs → IsInOrder before xs
   tied P alike [] h = tt
   tied P alike (x ∷ xs) h = (All-weaker_rec P (λ y. before y x ≡ false) (λ y k. alike x y h.0 k) xs h.1, tied P alike xs h.1)
 
-  -- elements that tie with one another stay in the order in which they came
+  -- elements that tie keep their original order
   pub in_order-tied : (p : A → Bool) → ((x y : A) → p x ≡ true → p y ≡ true → before y x ≡ false) → (xs : List A) → filter p (in_order before xs) ≡ filter p xs
   in_order-tied p alike xs =
       in_order-filter before o p xs ∙ in_order-sorted before (filter p xs) (tied (λ x. p x ≡ true) alike (filter p xs) (passes_filter p xs))

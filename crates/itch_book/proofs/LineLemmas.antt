@@ -1,4 +1,4 @@
--- What is looked for in a line in order stands where a search ends, or nowhere.
+-- In a sorted line, a wanted order is at the end of the search, or there is none.
 use Rattle.std.proofs.Common.{◌≡◌, ℕ, ◌≤◌, ◌<◌, ◌==◌, nat_lt, ltb, Bool, true, false, not, cond, ◌&&◌, ◌||◌, List, [], ◌∷◌, length, find, get_or, slice_get, Option, Some, None, refl, sym, ap, ◌∙◌, arith, inl, inr}
 use Rattle.std.specs.List.{AllByRecursion, position_or_len}
 use Rattle.std.specs.List.Sorted.{IsPartitionedBy, IsPartitionPoint}
@@ -21,7 +21,7 @@ use Rattle.itch_book.proofs.PlaceLemmas.{in_order_places}
 use Rattle.itch_book.proofs.StableLemmas.{before_chain}
 use Rattle.itch_book.proofs.SettledLemmas.{arrival_order}
 
--- what was found, if it passes
+-- the match, if it meets a condition
 abbrev pub kept : (Arrived → Bool) → Option Arrived → Option Arrived
 kept q None = None
 kept q (Some x) = cond (q x) (Some x) None
@@ -31,7 +31,7 @@ find_none q [] h = refl
 find_none q (x ∷ xs) h = simp (h.0) (find_none q xs h.1)
 
 module _ (q b : Arrived → Bool) (early : (y : Arrived) → b y ≡ false → q y ≡ false) (late : (y z : Arrived) → b y ≡ true → q y ≡ false → comes_before z y ≡ false → q z ≡ false) where
-  -- what passes q begins where b does
+  -- the first match of q is at the first match of b or after it
   pub found_from : (line : List Arrived) → IsInOrder comes_before line → find q line ≡ kept q (find b line)
   found_from [] h = refl
   found_from (y ∷ ys) h =
@@ -50,7 +50,7 @@ module _ (q b : Arrived → Bool) (early : (y : Arrived) → b y ≡ false → q
               (λ f. not_from_false (b (get_or line i d)) f)
         ]
 
-    -- where the search ends
+    -- the end of the search
     place_by : (line : List Arrived) (i : ℕ) (d : Arrived) → i ≤ length line → IsPartitionPoint (λ y. not (b y) ≡ true) (λ y. not (b y) ≡ false) line i → IsInOrder comes_before line
         → find q line ≡ kept q (slice_get line i)
     place_by line i d within point h =
@@ -58,7 +58,7 @@ module _ (q b : Arrived → Bool) (early : (y : Arrived) → b y ≡ false → q
         sym (position_or_len_is b line i d within (λ k lt. not-true (b (get_or line k d)) (point.0 k d (omega arith) lt)) (λ lt. not-false (b (get_or line i d)) (point.1 i d (omega arith) lt))) in
         found_from line h ∙ ap (kept q) (find_at b line ∙ ap (slice_get line) (sym place))
 
--- what does not come before another is of no lower locate, and does not stand before it
+-- an order that does not come before another one has no lower locate, and is not before it
 pub not_standing : (y z : Arrived) → comes_before z y ≡ false → stands_before z.order y.order ≡ false
 not_standing y z k =
     by_test (stands_before z.order y.order)
@@ -78,7 +78,7 @@ in_late l y z h k f = let n = not_lower y z f in grind (arith, nat_tests)
 in_on : (l : ℕ) (y z : Arrived) → begins (In l) y ≡ true → comes_before z y ≡ false → begins (In l) z ≡ true
 in_on l y z h f = let n = not_lower y z f in grind (arith, nat_tests)
 
--- an order of a locate and side is at this place, or where all after that begin
+-- an order of this locate and side, or one after all of those
 abbrev at_side : ℕ → Side → ℕ → Side → Bool
 at_side l s m t = (m == l) && same_side t s
 
@@ -147,13 +147,13 @@ after_late t y z h k f =
     let other : is_in t.order.locate y.order ≡ false = by_test (is_in t.order.locate y.order) (λ i. let no : true ≡ false = simp (i, h) at k in absurd (false≢true (sym no))) (λ i. i) in
     let apart : is_in t.order.locate z.order ≡ false = grind (arith, nat_tests) in simp apart refl
 
--- nothing that is looked for stands before the place where it may begin
+-- no wanted order is before the point where they may begin
 pub early : (w : Wanted) (y : Arrived) → begins w y ≡ false → wants w y ≡ false
 early (In l) y h = grind (arith, nat_tests)
 early (Next l s last) y h = next_early s y.order.side last l y.order.locate y.order.price h
 early (After t) y h = after_early t y h
 
--- nor does any stand behind the first that is not looked for
+-- and none is after the first order from there on that is not wanted
 pub late : (w : Wanted) (y z : Arrived) → begins w y ≡ true → wants w y ≡ false → comes_before z y ≡ false → wants w z ≡ false
 late (In l) y z h k f = in_late l y z h k f
 late (Next l s last) y z h k f = next_late s y.order.side z.order.side last l y.order.locate y.order.price z.order.locate z.order.price h k (not_standing y z f)
@@ -167,7 +167,7 @@ on (After t) y z h f = before_chain comes_before arrival_order t y z h f
 pub line_parted : (w : Wanted) (line : List Arrived) → IsInOrder comes_before line → IsPartitionedBy (λ y. not (begins w y)) line
 line_parted w line h = parted_by (wants w) (begins w) (early w) (late w) (on w) line h
 
--- what an index finds, or that it is past the end
+-- the order at an index, unless the index is past the end
 pub read_at : (line : List Arrived) (i : ℕ) (x : Arrived) → true ≡ ltb i (length line) → x ≡ get_or line i x → Some x ≡ slice_get line i
 read_at line i x e read = let lt : i < length line = grind (arith, nat_tests) in sym (slice_get_read line (length line) i x refl lt read)
 

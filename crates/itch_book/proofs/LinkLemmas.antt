@@ -1,4 +1,4 @@
--- Links, frame by frame: what a change of one node leaves of a list of linked nodes.
+-- The effect of a change of one node on a list of linked nodes.
 use Rattle.std.proofs.Common.{◌≡◌, ℕ, true, false, eqb, List, [], ◌∷◌, ◌++◌, length, Option, Some, None, refl, sym, ap, ◌∙◌, subst, arith}
 use Rattle.std.specs.List.{AllByRecursion, IsDistinct, list_any}
 use Rattle.std.proofs.lemmas.Bool.{false≢true}
@@ -7,11 +7,11 @@ use Rattle.itch_book.specs.declared.queues.Node.{Node}
 use Rattle.itch_book.specs.Links.{Nodes, next_of, walk, first_or, last_or, IsLink, IsLinked, with_after, with_before, at_key}
 use Rattle.itch_book.proofs.Lists.{by_test}
 
--- the nodes after one is taken out of its queue
+-- the nodes after one was removed from its queue
 abbrev pub unlinked : ℕ → Node → Nodes → Nodes
 unlinked key x f = with_before x.after x.before (with_after x.before x.after (at_key key None f))
 
--- the nodes after one is put last in a queue
+-- the nodes after one was appended to a queue
 abbrev pub pushed : ℕ → Node → Nodes → Nodes
 pushed key x f = with_after x.before (Some key) (at_key key (Some x) f)
 
@@ -49,7 +49,7 @@ not_in_tail j k ks h = let e = not_in_head j k ks h in simp e at h
 pub clash : {P : Type 0} (j : ℕ) (ks : List ℕ) → In j ks → NotIn j ks → P
 clash j ks h k = absurd (false≢true (sym k ∙ h))
 
--- a list whose nodes are as they were is linked as it was
+-- a list whose nodes did not change is still linked
 pub frame : (f g : Nodes) (q : ℕ) (b : Option ℕ) (ks : List ℕ) (a : Option ℕ) → ((j : ℕ) → In j ks → g j ≡ f j) → IsLinked f q b ks a → IsLinked g q b ks a
 frame f g q b [] a same h = tt
 frame f g q b (k ∷ ks) a same h = (
@@ -63,7 +63,7 @@ in_queue f q b [] a j h i = absurd (false≢true i)
 in_queue f q b (k ∷ ks) a j h i =
     in_cases j k ks i (λ e. (h.0.node, ap f e ∙ h.0.here, h.0.queue_is)) (λ r. in_queue f q (Some k) ks a j h.1 r)
 
--- where the nodes of other queues are as they were, so are those queues' links
+-- if the nodes of other queues did not change, neither did the links of those queues
 pub other_linked : (f g : Nodes) (q : ℕ) (b : Option ℕ) (ks : List ℕ) (a : Option ℕ) → ((j : ℕ) (x : Node) → f j ≡ Some x → x.queue ≡ q → g j ≡ f j) → IsLinked f q b ks a → IsLinked g q b ks a
 other_linked f g q b ks a same h = frame f g q b ks a (λ j i. let there = in_queue f q b ks a j h i in same j there.0 there.1 there.2) h
 
@@ -88,14 +88,14 @@ pub linked_joined : (f : Nodes) (q : ℕ) (b : Option ℕ) (xs ys : List ℕ) (a
 linked_joined f q b [] ys a h k = k
 linked_joined f q b (x ∷ xs) ys a h k = (subst (IsLink f q b x) (sym (first_or-append xs ys a)) h.0, linked_joined f q (Some x) xs ys a h.1 k)
 
--- a walk along the links goes through the whole list
+-- a walk along the links visits the whole list
 pub walk_is : (f : Nodes) (q : ℕ) (b : Option ℕ) (ks : List ℕ) → IsLinked f q b ks None → walk f (length ks) (first_or ks None) ≡ ks
 walk_is f q b [] h = refl
 walk_is f q b (k ∷ ks) h =
     let next : next_of (f k) ≡ first_or ks None = ap next_of h.0.here ∙ h.0.after_is in
     ap (λ t. k ∷ t) (ap (walk f (length ks)) next ∙ walk_is f q (Some k) ks h.1)
 
--- the last key of a list that is not empty
+-- the last key of a non-empty list
 abbrev pub last_key : ℕ → List ℕ → ℕ
 last_key k [] = k
 last_key k (j ∷ js) = last_key j js
@@ -108,7 +108,7 @@ pub in_last : (k : ℕ) (ks : List ℕ) → In (last_key k ks) (k ∷ ks)
 in_last k [] = in_head k []
 in_last k (j ∷ js) = in_tail (last_key j js) k (j ∷ js) (in_last j js)
 
--- no key of a distinct list is its first
+-- no other key of a distinct list equals its first
 pub apart_head : (k j : ℕ) (ks : List ℕ) → AllByRecursion (λ y. eqb k y ≡ false) ks → In j ks → eqb k j ≡ false
 apart_head k j [] d i = absurd (false≢true i)
 apart_head k j (x ∷ xs) d i = in_cases j x xs i (λ e. subst (λ y. eqb k y ≡ false) (sym e) d.0) (λ r. apart_head k j xs d.1 r)
@@ -121,7 +121,7 @@ pub distinct_tail : (k : ℕ) (ks : List ℕ) → IsDistinct eqb (k ∷ ks) → 
 unfolding IsDistinct
 distinct_tail k ks d = d.1
 
--- another node after the last
+-- another node after the last one
 pub relinked_last : (f : Nodes) (q : ℕ) (b : Option ℕ) (k : ℕ) (ks : List ℕ) (a a' : Option ℕ) → IsDistinct eqb (k ∷ ks) → IsLinked f q b (k ∷ ks) a → IsLinked (with_after (Some (last_key k ks)) a' f) q b (k ∷ ks) a'
 relinked_last f q b k [] a a' d h = (
   let e = eqb_itself k in
@@ -136,7 +136,7 @@ relinked_last f q b k (j ∷ js) a a' d h = (
   relinked_last f q (Some k) j js a a' (distinct_tail k (j ∷ js) d) h.1,
 )
 
--- another node before the first
+-- another node before the first one
 pub relinked_first : (f : Nodes) (q : ℕ) (b b' : Option ℕ) (k : ℕ) (ks : List ℕ) (a : Option ℕ) → IsDistinct eqb (k ∷ ks) → IsLinked f q b (k ∷ ks) a → IsLinked (with_before (Some k) b' f) q b' (k ∷ ks) a
 relinked_first f q b b' k ks a d h = (
   let e = eqb_itself k in

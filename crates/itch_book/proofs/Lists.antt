@@ -1,9 +1,9 @@
--- Facts on each element, said by recursion over a list, and what a filter keeps.
+-- Properties of all elements of a list, by recursion, and the elements that a filter keeps.
 use Rattle.std.proofs.Common.{◌≡◌, ◌≤◌, Bool, true, false, List, [], ◌∷◌, ◌++◌, map, length, filter, find, Option, Some, None, IsSome, refl, ap, ◌∙◌, arith}
 use Rattle.std.specs.List.{AllByRecursion}
 use Rattle.std.proofs.lemmas.Bool.{cond_both}
 
--- a test is true or false
+-- a condition is true or false
 pub by_test : {P : Type 0} (b : Bool) → (b ≡ true → P) → (b ≡ false → P) → P
 by_test true when_true when_false = when_true refl
 by_test false when_true when_false = when_false refl
@@ -37,7 +37,7 @@ pub All-both_rec : {X : Type 0} (P Q : X → Type 0) (xs : List X) → AllByRecu
 All-both_rec P Q [] h k = tt
 All-both_rec P Q (x ∷ xs) h k = ((h.0, k.0), All-both_rec P Q xs h.1 k.1)
 
--- what a filter keeps passes its test
+-- the elements that a filter keeps meet its condition
 pub passes_filter : {X : Type 0} (p : X → Bool) (xs : List X) → AllByRecursion (λ x. p x ≡ true) (filter p xs)
 passes_filter p [] = tt
 passes_filter p (x ∷ xs) =
@@ -71,7 +71,7 @@ filter_swap p q (x ∷ xs) =
 pub filter_twice : {X : Type 0} (p : X → Bool) (xs : List X) → filter p (filter p xs) ≡ filter p xs
 filter_twice p xs = filter_all p (filter p xs) (passes_filter p xs)
 
--- a filter by a test that a change does not touch
+-- a filter by a condition that a change does not affect
 pub filter-map : {X Y : Type 0} (p : Y → Bool) (q : X → Bool) (f : X → Y) → ((x : X) → p (f x) ≡ q x) → (xs : List X) → filter p (map f xs) ≡ map f (filter q xs)
 filter-map p q f h [] = refl
 filter-map p q f h (x ∷ xs) =
@@ -84,7 +84,7 @@ length_filter_le p (x ∷ xs) =
     let rest = length_filter_le p xs in
     cond_both (p x) (x ∷ filter p xs) (filter p xs) (λ t. length t ≤ length (x ∷ xs)) (λ e. omega arith) (λ e. omega arith)
 
--- nothing is found among what nothing of is found
+-- an element that is not in a list is not in a filtered list
 pub absent_in_filter : {X : Type 0} (p q : X → Bool) (xs : List X) → find p xs ≡ None → find p (filter q xs) ≡ None
 absent_in_filter p q [] h = refl
 absent_in_filter p q (x ∷ xs) h =
@@ -92,7 +92,7 @@ absent_in_filter p q (x ∷ xs) h =
     (λ e. let some : Some x ≡ None = simp e at h in absurd (let no_one : ⊥ = cc in no_one))
     (λ e. let less : find p xs ≡ None = simp e at h in by_test (q x) (λ f. simp (f, e) (absent_in_filter p q xs less)) (λ f. simp f (absent_in_filter p q xs less)))
 
--- what is found passes the test
+-- a match meets the condition
 pub found_passes : {X : Type 0} (p : X → Bool) (xs : List X) (x : X) → find p xs ≡ Some x → p x ≡ true
 found_passes p [] x h = absurd (let no_one : ⊥ = cc in no_one)
 found_passes p (y ∷ ys) x h =
@@ -107,7 +107,7 @@ All-found_rec P p (y ∷ ys) x all h =
     (λ e. let same : Some y ≡ Some x = simp e at h in let this : y ≡ x = cc in rw (← this) (all.0))
     (λ e. let less : find p ys ≡ Some x = simp e at h in All-found_rec P p ys x all.1 less)
 
--- what is there
+-- the value of a non-empty option
 pub some_of : {X : Type 0} (o : Option X) → IsSome o → (x : X) × (o ≡ Some x)
 some_of None h = absurd (let no_one : ⊥ = cc in no_one)
 some_of (Some x) h = (x, refl)

@@ -16,7 +16,7 @@ module _ (references : ℕ → Option ℕ) (bids asks : List (Place × ℕ)) (v 
       by_node None e = absurd (false≢true (subst IsSome (get_none references bids asks v is r e) some))
       by_node (Some k) e = subst IsSome (sym (is.known r k e).there) refl
 
-  -- whose order it is
+  -- the node holds that order
   pub live_order : (x : Order) → IsSome (get (indexed v bids asks) r) → IfSome (references r) (λ k. v.orders k ≡ Some x) → get (indexed v bids asks) r ≡ Some x
   live_order x some decided = by_node (references r) refl decided
     where

@@ -1,4 +1,4 @@
--- The lines of one side with the far levels: which queue stands where, and what a change leaves.
+-- The lines of one side together with the far levels: the queue at each place, and the effect of a change.
 use Rattle.std.proofs.Common.{◌≡◌, ℕ, zero, suc, ◌≤◌, ◌<◌, ◌+◌, true, false, cond, eqb, List, [], ◌∷◌, ◌++◌, length, set, get_or, Vec, Option, Some, None, refl, sym, ap, ◌∙◌, subst, arith}
 use Rattle.std.specs.declared.cmp.Ordering.TheVariants.{Less}
 use Rattle.std.specs.Ordering.{is_eq}
@@ -34,7 +34,7 @@ or_none : (o : Option ℕ) → or_else o None ≡ o
 or_none None = refl
 or_none (Some x) = refl
 
--- places of one locate are told apart by their prices
+-- places of the same locate differ by their prices
 one_line : (l p n : ℕ) → is_at (place_cmp (l, p)) (l, n) ≡ eqb p n
 one_line l p n =
     by_test (eqb p n)
@@ -82,7 +82,7 @@ lookup_from n (suc l) m p (xs ∷ ls) h =
     ∙ ap (λ o. or_else o (queue_at (places_from (suc n) ls) m p)) (lookup_other m p n xs (other m n (λ e. let no : ⊥ = omega arith in no)))
     ∙ lookup_from (suc n) l m p ls (omega arith)
 
--- the queue at a place is that of its line, or a far one
+-- the queue at a place is in its line, or in a far level
 pub on_levels : (ls : List (List Level)) (far : List (Place × ℕ)) (l p : ℕ) → queue_at (levels_in ls far) l p ≡ queue_among ls far l p
 on_levels ls far l p = lookup_both (places_from 0 ls) far l p ∙ ap (λ o. or_else o (queue_at far l p)) (lookup_from 0 l l p ls (omega arith))
 
@@ -105,7 +105,7 @@ apart_from s n (xs ∷ ls) h = apart_both (places_of n xs) (places_from (suc n) 
     (λ e. lookup_before (suc n) l p ls (let is = same l n e in omega arith))
     (λ e. none_some (sym (lookup_other l p n xs e) ∙ found)))
 
--- nothing is found past what is greater
+-- nothing is found beyond a larger place
 past_none : (a : Place) (es : List (Place × ℕ)) → AllByRecursion (λ (k : Place). place_cmp a k ≡ Less) (keys_of es) → lookup (is_at (place_cmp a)) es ≡ None
 past_none a [] h = refl
 past_none a (e ∷ es) h = let f = ap is_eq h.0 in simp f (past_none a es h.1)
@@ -122,7 +122,7 @@ apart_levels s ls far is =
 line_here : {A : Type 0} (near : List (Vec Level A)) (l : ℕ) (v : Vec Level A) → l < length near → v ≡ get_or near l v → v.items ≡ line_of (lines near) l
 line_here {A = A} near l v within read = ap (λ (u : Vec Level A). u.items) read ∙ sym (get_or-map (λ (u : Vec Level A). u.items) near l v [] within)
 
--- the line that a look-up of vectors finds
+-- the line found by indexing vectors
 pub line_read : {A : Type 0} (near : List (Vec Level A)) (l : ℕ) (v : Vec Level A) → true ≡ ltb l (length near) → v ≡ get_or near l v → v.items ≡ line_of (lines near) l
 line_read {A = A} near l v within read =
     let lt : l < length near = grind (arith, nat_tests) in line_here near l v lt read
@@ -132,7 +132,7 @@ line_past {A = A} near l past =
     let le : length (lines near) ≤ l = (let e : length near ≤ l = grind (arith, nat_tests) in let f = length-map near (λ (u : Vec Level A). u.items) in omega (arith, e, f)) in
     sym (get_or_past (lines near) l [] le)
 
--- one more line with no levels
+-- one more line without levels
 pub line_more : (ls : List (List Level)) (l : ℕ) → line_of (ls ++ [] ∷ []) l ≡ line_of ls l
 line_more [] zero = refl
 line_more [] (suc l) = refl
@@ -143,7 +143,7 @@ pub places_more : (n : ℕ) (ls : List (List Level)) → places_from n (ls ++ []
 places_more n [] = refl
 places_more n (xs ∷ ls) = ap (λ t. places_of n xs ++ t) (places_more (suc n) ls)
 
--- the lines reach further, with the same levels
+-- the lines extend further, with the same levels
 pub record IsReach (old new : List (List Level)) : Type 0 where
   pub lines : (l : ℕ) → line_of new l ≡ line_of old l
   pub places : places_from 0 new ≡ places_from 0 old
@@ -198,7 +198,7 @@ module _ {A : Type 0} (near : List (Vec Level A)) (l : ℕ) (v v' : Vec Level A)
   pub vec_same : v'.items ≡ v.items → lines (set near l v') ≡ lines near
   vec_same h = map-set_same (λ (u : Vec Level A). u.items) near l v' v (h ∙ ap (λ (u : Vec Level A). u.items) read)
 
--- lines that reach further
+-- lines that extend further
 module _ (ls ls' : List (List Level)) (far : List (Place × ℕ)) (lines_same : (l : ℕ) → line_of ls' l ≡ line_of ls l) where
   pub reached_queues : (l p : ℕ) → queue_among ls' far l p ≡ queue_among ls far l p
   reached_queues l p = ap (λ (t : List Level). or_else (queue_in t p) (queue_at far l p)) (lines_same l)
@@ -210,9 +210,9 @@ reached_parted s ls ls' far is same_lines = record {
   sorted = is.sorted;
 }
 
--- a change of one place
+-- a change at one place
 module _ (s : Side) (ls : List (List Level)) (far : List (Place × ℕ)) (is : IsParted s ls far) (l price : ℕ) where
-  -- it is that place, or another one
+  -- it is that place or another one
   pub by_place : (P : ℕ → ℕ → Type 0) (k p : ℕ) → (is_at (place_cmp (l, price)) (l, price) ≡ true → P l price) → (is_at (place_cmp (l, price)) (k, p) ≡ false → P k p) → P k p
   by_place P k p here there = by_test (is_at (place_cmp (l, price)) (k, p))
       (λ e. subst (λ (a : Place). P a.0 a.1) (place_is (l, price) (k, p) e) (here (place_self (l, price))))
@@ -245,7 +245,7 @@ module _ (s : Side) (ls : List (List Level)) (far : List (Place × ℕ)) (is : I
           (λ e. ap (λ o. or_else o (queue_at far' l price)) none_near ∙ puts l price ∙ simp e refl)
           (λ e. ap (or_else (queue_in (line_of ls k) p)) (puts k p) ∙ simp e refl)
 
-  -- the queue of the place is gone from its line
+  -- the queue of the place was removed from its line
   module _ (ls' : List (List Level)) (rising : (k : ℕ) → IsRising s (line_of ls' k))
       (cuts : (k p : ℕ) → queue_in (line_of ls' k) p ≡ cond (is_at (place_cmp (l, price)) (k, p)) None (queue_in (line_of ls k) p)) where
     still : (k p n : ℕ) → queue_in (line_of ls' k) p ≡ Some n → (is_at (place_cmp (l, price)) (k, p) ≡ false) × (queue_in (line_of ls k) p ≡ Some n)

@@ -1,4 +1,4 @@
--- The order after that at a place of a line is the next of its locate, or there is none.
+-- The order after the one at a place of a line is the next of its locate, or there is none.
 use Rattle.std.proofs.Common.{◌≡◌, ◌≢◌, ℕ, ◌<◌, ◌+◌, true, false, List, [], ◌∷◌, map, drop, length, find, slice_get, suc, zero, Option, Some, None, IfSome, IsSomeAnd, option_map, refl, sym, ap, ◌∙◌, subst, arith}
 use Rattle.std.specs.List.{AllByRecursion}
 use Rattle.std.specs.Map.{values_of}
@@ -15,13 +15,13 @@ use Rattle.itch_book.proofs.Distinct.{has_own, own_reference, head_distinct, tai
 use Rattle.itch_book.proofs.LineLemmas.{kept, found_from, early, late, not_lower}
 use Rattle.itch_book.proofs.LeastLemmas.{find_shown}
 
--- a place where something is found is in the list
+-- a place with an element is in the list
 pub within : {X : Type 0} (P : X → Type 0) (i : ℕ) (xs : List X) → IsSomeAnd (slice_get xs i) P → i < length xs
 within P i [] h = absurd h
 within P zero (x ∷ xs) h = omega arith
 within P (suc i) (x ∷ xs) h = let rest = within P i xs h in omega arith
 
--- in a line that begins in a locate or after it, the first of the locate is the first of all, or none
+-- if a line begins in a locate or after it, the first order of the locate is the first of the line, or there is none
 find_begun : (l : ℕ) (xs : List Arrived) → IsInOrder comes_before xs → AllByRecursion (λ y. begins (In l) y ≡ true) xs → find (wants (In l)) xs ≡ kept (wants (In l)) (slice_get xs 0)
 find_begun l xs h all = found_from (wants (In l)) (begins (In l)) (early (In l)) (late (In l)) xs h ∙ ap (kept (wants (In l))) (begun xs all)
   where
@@ -44,7 +44,7 @@ module _ (i : ℕ) (line : List Arrived) (x : Arrived) (h : IsInOrder comes_befo
       subst (λ n. find (is_in x.order.locate) (map its_order (drop n line)) ≡ option_map its_order (kept (wants (In x.order.locate)) (slice_get line n))) (sym (add-one i))
       (sym (find_shown (is_in x.order.locate) (wants (In x.order.locate)) (λ z. refl) (drop (suc i) line)) ∙ ap (option_map its_order) (next_is i line x h here))
 
-  -- what is said of the order at the place
+  -- the property of the order at the place
   abbrev pub IsNext : Option Order → Type 0
   IsNext o = IfSome (slice_get line i) (λ (y : Arrived). o ≡ find (is_in y.order.locate) (map its_order (drop (i + 1) line)))
 
@@ -60,14 +60,14 @@ module _ (i : ℕ) (line : List Arrived) (x : Arrived) (h : IsInOrder comes_befo
   pub next_end : None ≡ slice_get line (i + 1) → IsNext None
   next_end none = at_place None (sym (next_order ∙ ap (λ q. option_map its_order (kept (wants (In x.order.locate)) q)) (sym none)))
 
--- no order before one of a reference has it
+-- no order before the one with a reference has that reference
 none_before : (r : ℕ) (y : Order) (ys : List Order) (x : Order) → IsDistinct (y ∷ ys) → get ys r ≡ Some x → has_reference r y ≡ false
 none_before r y ys x d h =
     by_test (has_reference r y)
     (λ e. let none : get ys r ≡ None = subst (λ q. get ys q ≡ None) (own_reference r y e) (head_distinct y ys d) in absurd (let no_one : ⊥ = cc in no_one))
     (λ e. e)
 
--- the order of a reference at a place, and what follows it
+-- the order of a reference at a place, and the orders after it
 stands_there : (r i : ℕ) (line : List Arrived) (x : Arrived) → IsDistinct (map its_order line) → slice_get line i ≡ Some x → x.order.reference ≡ r
     → (get (map its_order line) r ≡ Some x.order) × (following r (map its_order line) ≡ map its_order (drop (suc i) line))
 stands_there r i [] x d here e = absurd (let no_one : ⊥ = cc in no_one)
@@ -80,7 +80,7 @@ stands_there r (suc i) (y ∷ ys) x d here e =
     let other = none_before r y.order (map its_order ys) x.order d rest.0 in
     simp other rest
 
--- the next order of the locate of one at a place of the line is what comes after it
+-- the next order of the locate, after one at a place of the line, is the one after it in the book
 pub after_in_line : (r i next : ℕ) (es : List (ℕ × Arrived)) (laid : Option (List Arrived)) (line : List Arrived) (o : Option Order) → IsArrived es next → IsLineOr (values_of es) laid → laid ≡ Some line
     → IsSomeAnd (slice_get line i) (λ x. x.order.reference ≡ r)
     → IfSome (slice_get line i) (λ x. o ≡ find (is_in x.order.locate) (map its_order (drop (i + 1) line)))

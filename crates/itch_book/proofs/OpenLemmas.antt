@@ -1,4 +1,4 @@
--- An empty queue put at a price that had none.
+-- Opening an empty queue at a price without a queue.
 use Rattle.std.proofs.Common.{◌≡◌, ℕ, true, false, cond, eqb, List, [], ◌++◌, Option, Some, None, IsSome, refl, sym, ap, ◌∙◌, subst}
 use Rattle.std.specs.List.{AllByRecursion, list_any}
 use Rattle.std.specs.BTreeMap.{is_at}
@@ -33,7 +33,7 @@ module _ (references : ℕ → Option ℕ) (bids asks bids' asks' : List (Place 
     (bids_apart : AreApart bids') (asks_apart : AreApart asks')
     (vacant : w.keys q ≡ None) (absent : queue_of_side s0 bids asks l0 p0 ≡ None)
     (placed : (s : Side) (l p : ℕ) → queue_of_side s bids' asks' l p ≡ cond (is_there s0 l0 p0 s l p) (Some q) (queue_of_side s bids asks l p)) where
-  -- what is seen then
+  -- the index afterwards
   abbrev pub opened : Seen
   opened = record { keys = at_key q (Some []) w.keys; orders = w.orders }
 
@@ -48,11 +48,11 @@ module _ (references : ℕ → Option ℕ) (bids asks bids' asks' : List (Place 
   placed_else : (s : Side) (l p : ℕ) → is_there s0 l0 p0 s l p ≡ false → queue_of_side s bids' asks' l p ≡ queue_of_side s bids asks l p
   placed_else s l p h = placed s l p ∙ simp h refl
 
-  -- a price that had a queue has it still
+  -- a price with a queue still has it
   still_at : (s : Side) (l p q0 : ℕ) → queue_of_side s bids asks l p ≡ Some q0 → queue_of_side s bids' asks' l p ≡ Some q0
   still_at s l p q0 h = by_test (is_there s0 l0 p0 s l p) (λ e. none_some (none_there s l p e) h) (λ e. placed_else s l p e ∙ h)
 
-  -- the new key is none that was there
+  -- the new key differs from all existing keys
   other_key : (q0 : ℕ) → IsSome (w.keys q0) → eqb q q0 ≡ false
   other_key q0 h = by_test (eqb q q0) (λ e. absurd (false≢true (subst IsSome (ap w.keys (sym (eqb_is q q0 e)) ∙ vacant) h))) (λ n. n)
 
@@ -130,17 +130,17 @@ module _ (references : ℕ → Option ℕ) (bids asks bids' asks' : List (Place 
       clash_at : {P : Type 0} (q0 : ℕ) → q ≡ q0 → IsSome (w.keys q0) → P
       clash_at q0 same some = absurd (false≢true (sym (other_key q0 some) ∙ subst (λ t. eqb q t ≡ true) same (eqb_itself q)))
 
-  -- each other queue has nodes as before
+  -- every other queue has nodes as before
   pub open_busy : IsBusy w bids asks → IsBusyBut opened bids' asks' q
   open_busy busy s l p q0 h n = by_place s l p q0 h
       (λ same e. absurd (false≢true (sym n ∙ subst (λ t. eqb q t ≡ true) same (eqb_itself q))))
       (λ was e. ap has_keys (at_apart q (Some []) w.keys q0 n) ∙ busy s l p q0 was)
 
--- no queue opened and closed again
+-- after a queue was opened and closed again
 pub seen_same : (v v' : Seen) → ((q : ℕ) → v'.keys q ≡ v.keys q) → ((k : ℕ) → v'.orders k ≡ v.orders k) → v' ≡ v
 seen_same v v' keys orders = λ i. record { keys = λ q. keys q i; orders = λ k. orders k i }
 
--- references that lead to the same nodes
+-- references that refer to the same nodes
 pub renamed : (references references' : ℕ → Option ℕ) (bids asks : List (Place × ℕ)) (w : Seen) → ((r : ℕ) → references' r ≡ references r)
     → IsIndexed references bids asks w → IsIndexed references' bids asks w
 renamed references references' bids asks w same is = subst (λ (f : ℕ → Option ℕ). IsIndexed f bids asks w) (λ i r. sym (same r) i) is

@@ -1,4 +1,4 @@
--- The laid list and the queues: one stable sort by locate, side and price.
+-- The laid list and the queues as a stable sort by locate, side and price.
 use Rattle.std.proofs.Common.{◌≡◌, ℕ, zero, suc, ◌<◌, ◌==◌, nat_lt, Bool, true, false, cond, not, ◌&&◌, ◌||◌, List, [], ◌∷◌, ◌++◌, filter, refl, sym, ap, ap₂, ◌∙◌, arith}
 use Rattle.std.specs.List.{AllByRecursion}
 use Rattle.std.specs.Cmp.{IsStrictWeakOrder}
@@ -30,7 +30,7 @@ place_chain Sell Buy Sell l p m q n r h k = grind (arith, nat_tests)
 place_chain Sell Sell Buy l p m q n r h k = grind (arith, nat_tests)
 place_chain Sell Sell Sell l p m q n r h k = grind (arith, nat_tests)
 
--- places in snapshot order compare as numbers do
+-- positions in snapshot order compare like numbers
 pub stands_order : IsStrictWeakOrder stands_before
 stands_order = record {
   one_way = λ x y h. place_one_way x.side y.side x.locate x.price y.locate y.price h;
@@ -71,7 +71,7 @@ side_is l s x h = same_side_is x.side s (and_parts (x.locate == l) (same_side x.
 pub in_is : (l : ℕ) (x : Order) → is_in l x ≡ true → x.locate ≡ l
 in_is l x h = grind (arith, nat_tests)
 
--- an order of a locate and side is one of the locate
+-- an order of a locate and side is an order of the locate
 pub of_in : (l : ℕ) (s : Side) (x : Order) → is_of l s x ≡ true → is_in l x ≡ true
 of_in l s x h = (and_parts (x.locate == l) (same_side x.side s) h).0
 
@@ -82,11 +82,11 @@ place_here Sell l p q = grind (arith, nat_tests)
 stands_here : (s t : Side) (l p m q : ℕ) (u : Side) (n : ℕ) → l ≡ n → s ≡ u → m ≡ n → t ≡ u → place_before l s p m t q ≡ is_better u p q
 stands_here s t l p m q u n a b c d = rw (a, b, c, d) (place_here u n p q)
 
--- among the orders of a locate and side, what stands before has the better price
+-- among the orders of a locate and side, the one with the better price is before the other
 pub stands_of : (l : ℕ) (s : Side) (x y : Order) → is_of l s x ≡ true → is_of l s y ≡ true → stands_before x y ≡ is_better s x.price y.price
 stands_of l s x y h k = stands_here x.side y.side x.locate x.price y.locate y.price s l (locate_is l s x h) (side_is l s x h) (locate_is l s y k) (side_is l s y k)
 
--- a queue is a stable sort by place
+-- a queue is a stable sort by position
 pub queue_is : (os : List Order) (l : ℕ) (s : Side) → queue os l s ≡ in_order stands_before (filter (is_of l s) os)
 queue_is os l s =
     in_order-agree (λ x y. is_better s x.price y.price) stands_before (λ x. is_of l s x ≡ true)
@@ -119,7 +119,7 @@ lower_first Buy Sell l p m q h = grind (arith, nat_tests)
 lower_first Sell Buy l p m q h = grind (arith, nat_tests)
 lower_first Sell Sell l p m q h = grind (arith, nat_tests)
 
--- an order of a lower locate stands before
+-- an order of a lower locate is before the others
 pub lower_stands : (x y : Order) → x.locate < y.locate → stands_before x y ≡ true
 lower_stands x y h = lower_first x.side y.side x.locate x.price y.locate y.price h
 
@@ -137,7 +137,7 @@ below_is (suc n) os =
     (λ x y h k. lower_stands x y (let same = in_is n y k in grind (arith, nat_tests)))
     (λ x. grind (arith, nat_tests)) os)
 
--- the laid list is one stable sort by place
+-- the laid list is a stable sort by position
 pub lay_is : (os : List Order) → lay os ≡ in_order stands_before (filter fits os)
 unfolding lay
 lay_is os = below_is 65536 os
@@ -161,7 +161,7 @@ lay_twice os = lay_fit (lay os) (AllFit-lay os) ∙ ap (in_order stands_before) 
 pub IsDistinct-lay : (os : List Order) → IsDistinct os → IsDistinct (lay os)
 IsDistinct-lay os d = rw (lay_is os) (IsDistinct-in_order stands_before stands_order (filter fits os) (IsDistinct-filter fits os d))
 
--- the queue of the laid list is the queue
+-- the queue of the laid list is the queue of the original list
 pub queue-lay : (os : List Order) (l : ℕ) (s : Side) → AllFit os → queue (lay os) l s ≡ queue os l s
 queue-lay os l s h =
     queue_is (lay os) l s
@@ -170,17 +170,17 @@ queue-lay os l s h =
     ∙ in_order-twice stands_before stands_order (filter (is_of l s) os)
     ∙ sym (queue_is os l s)
 
--- lists with equal queues below n have one join of them
+-- lists with equal queues for the locates below n have the same joined queues
 pub below_same : (n : ℕ) (xs ys : List Order) → ((l : ℕ) (s : Side) → queue xs l s ≡ queue ys l s) → queues_below n xs ≡ queues_below n ys
 below_same zero xs ys same = refl
 below_same (suc n) xs ys same = ap₂ ◌++◌ (below_same n xs ys same) (ap₂ ◌++◌ (same n Buy) (same n Sell))
 
--- lists with equal queues have one laid list
+-- lists with equal queues have the same laid list
 pub lay_same : (xs ys : List Order) → ((l : ℕ) (s : Side) → queue xs l s ≡ queue ys l s) → lay xs ≡ lay ys
 unfolding lay
 lay_same xs ys same = below_same 65536 xs ys same
 
--- the orders that tie with one are those of its level
+-- the orders that tie with an order are those at its level
 ties_place : (s t : Side) (l p m q : ℕ) → (not (place_before l s p m t q) && not (place_before m t q l s p)) ≡ (((m == l) && same_side t s) && (q == p))
 ties_place Buy Buy l p m q = grind (arith, nat_tests)
 ties_place Buy Sell l p m q = grind (arith, nat_tests)
@@ -194,7 +194,7 @@ pub filter_alike : (p q : Order → Bool) → ((x : Order) → p x ≡ q x) → 
 filter_alike p q same [] = refl
 filter_alike p q same (x ∷ xs) = ap₂ (λ b t. cond b (x ∷ t) t) (same x) (filter_alike p q same xs)
 
--- lists that agree at every price level are one list in snapshot order
+-- lists that agree at every price level are the same list in snapshot order
 pub stands_same : (xs ys : List Order) → ((l : ℕ) (s : Side) (p : ℕ) → level xs l s p ≡ level ys l s p) → in_order stands_before xs ≡ in_order stands_before ys
 stands_same xs ys same =
     in_order_same stands_before stands_order xs ys (λ z.
@@ -202,7 +202,7 @@ stands_same xs ys same =
     ∙ same z.locate z.side z.price
     ∙ sym (filter_alike (ties stands_before z) (is_level z.locate z.side z.price) (ties_level z) ys))
 
--- lists that agree at every price level have one laid list
+-- lists that agree at every price level have the same laid list
 pub lay_same_levels : (xs ys : List Order) → ((l : ℕ) (s : Side) (p : ℕ) → level xs l s p ≡ level ys l s p) → lay xs ≡ lay ys
 lay_same_levels xs ys same =
     lay_is xs
@@ -210,7 +210,7 @@ lay_same_levels xs ys same =
     filter_swap (is_level l s p) fits xs ∙ ap (filter fits) (same l s p) ∙ sym (filter_swap (is_level l s p) fits ys))
     ∙ sym (lay_is ys)
 
--- the order of a reference is that of the laid list
+-- the order with a reference is the same in the laid list
 pub get-in_order : (os : List Order) (r : ℕ) → IsDistinct os → get (in_order stands_before os) r ≡ get os r
 get-in_order os r d =
     find_first (has_reference r) (in_order stands_before os)

@@ -1,4 +1,4 @@
--- Pages after a link was written, a page opened, or a page closed.
+-- Pages after writing a link, opening a page, or closing a page.
 use Rattle.std.proofs.Common.{◌≡◌, ℕ, ◌+◌, ◌/◌, ◌%◌, ◌<◌, ◌≤◌, true, false, cond, eqb, List, [], length, set, get_or, replicate, ◌⊎◌, Option, Some, None, IsSome, is_some, refl, sym, ap, ◌∙◌, subst, arith, inl, inr, Result, Ok, Err, OnErr}
 use Rattle.std.specs.List.{count_by}
 use Rattle.std.proofs.lemmas.Bool.{false≢true, cases_lt}
@@ -9,7 +9,7 @@ use Rattle.itch_book.proofs.Lists.{by_test}
 use Rattle.itch_book.proofs.LinkLemmas.{eqb_itself, eqb_is}
 use Rattle.itch_book.proofs.PageReads.{set_read, at_key_written, count_set, none_counted}
 
--- what a write of one link makes of a page
+-- a page after one link was written
 abbrev pub written : Page → ℕ → Option ℕ → ℕ → ℕ → Page
 written page o link live number = record { live = live; number = number; links = set page.links o link }
 
@@ -20,7 +20,7 @@ module _ (directory : List (Option ℕ)) (pages : List Page) (is : IsPaged direc
   pub inside : p < length pages
   inside = is.inside n p there
 
-  -- the page of another number stands at another place
+  -- the page of another number is at another place
   other_place : (m q : ℕ) → eqb n m ≡ false → place_at directory m ≡ Some q → eqb p q ≡ false
   other_place m q h e =
       by_test (eqb p q)
@@ -28,7 +28,7 @@ module _ (directory : List (Option ℕ)) (pages : List Page) (is : IsPaged direc
       absurd (false≢true (sym h ∙ subst (λ i. eqb n i ≡ true) (sym one) (eqb_itself n))))
       (λ apart. apart)
 
-  -- which pages of other numbers stay, when one is written
+  -- the pages of other numbers do not change when one page is written
   pub kept_page : (page : Page) (m q : ℕ) → eqb n m ≡ false → place_at directory m ≡ Some q → page_at (set pages p page) q ≡ page_at pages q
   kept_page page m q h e = set_read pages p q page no_page inside ∙ ap (λ b. cond b page (page_at pages q)) (other_place m q h e)
 
@@ -42,7 +42,7 @@ module _ (directory : List (Option ℕ)) (pages : List Page) (is : IsPaged direc
       by None e = refl
       by (Some q) e = ap (λ (t : Page). t.links) (kept_page page m q h e)
 
--- what a write of one link leaves of the pages
+-- the pages after one link was written
 module _ (directory : List (Option ℕ)) (pages : List Page) (is : IsPaged directory pages) (n p : ℕ) (there : place_at directory n ≡ Some p) (o : ℕ) (link was : Option ℕ) (live : ℕ) (small : o < 128)
     (was_is : was ≡ get_or (page_at pages p).links o None) (sum : live + one_if was ≡ (page_at pages p).live + one_if link) where
   pub counted : live ≡ count_by is_some (set (page_at pages p).links o link)
@@ -68,7 +68,7 @@ module _ (directory : List (Option ℕ)) (pages : List Page) (is : IsPaged direc
             (λ e. subst (λ (t : Page). IsPage m t) (sym (kept_page directory pages is n p there page m q e h)) (is.page m q h));
       }
 
--- what keys have after a write
+-- the links of keys after a write
 pub written_link : (directory : List (Option ℕ)) (pages : List Page) (is : IsPaged directory pages) (key p : ℕ) (there : place_at directory (key / 128) ≡ Some p) (link : Option ℕ) (page : Page)
     → page.links ≡ set (page_at pages p).links (key % 128) link
     → (k : ℕ) → get_or (links_of (set pages p page) (place_at directory (k / 128))) (k % 128) None ≡ cond (eqb key k) link (get_or (links_of pages (place_at directory (k / 128))) (k % 128) None)
@@ -90,7 +90,7 @@ reached directory n p h = by_cases (cases_lt n (length directory))
     by_cases (inl within) = within
     by_cases (inr past) = absurd (let no : None ≡ Some p = sym (get_or_past directory n None past) ∙ h in let no_one : ⊥ = cc in no_one)
 
--- a page without a link is taken out of the directory
+-- a page without links is removed from the directory
 module _ (directory : List (Option ℕ)) (pages : List Page) (is : IsPaged directory pages) (n p : ℕ) (there : place_at directory n ≡ Some p) (page : Page) where
   cut_place : (m : ℕ) → place_at (set directory n None) m ≡ cond (eqb n m) None (place_at directory m)
   cut_place m = set_read directory n m None None (reached directory n p there)
@@ -134,7 +134,7 @@ closed_link directory pages is key p there page none k =
     (λ m h. closed_links directory pages is (key / 128) p there page m h)
     k
 
--- a directory that reads the same
+-- a directory with the same entries
 pub moved_paged : (directory further : List (Option ℕ)) (pages : List Page) → IsPaged directory pages → ((n : ℕ) → place_at further n ≡ place_at directory n) → IsPaged further pages
 moved_paged directory further pages is same = record {
   few = is.few;
@@ -142,7 +142,7 @@ moved_paged directory further pages is same = record {
   page = λ m q h. is.page m q (sym (same m) ∙ h);
 }
 
--- a page is opened
+-- opening a page
 module _ (directory further : List (Option ℕ)) (old new : List Page) (is : IsPaged directory old) (same : (n : ℕ) → place_at further n ≡ place_at directory n) (n p : ℕ) (page : Page)
     (none : place_at directory n ≡ None) (reach : n < length further) (opened : IsOpened old p page new) where
   put_place : (m : ℕ) → place_at (set further n (Some p)) m ≡ cond (eqb n m) (Some p) (place_at directory m)
@@ -157,7 +157,7 @@ module _ (directory further : List (Option ℕ)) (old new : List Page) (is : IsP
   pub own_page : page_at new p ≡ page
   own_page = opened.pages p ∙ ap (λ b. cond b page (page_at old p)) (eqb_itself p)
 
-  -- a page that has links is another one
+  -- a page with links is another one
   used_place : (m q : ℕ) → place_at directory m ≡ Some q → page_at new q ≡ page_at old q
   used_place m q h = opened.pages q ∙ ap (λ b. cond b page (page_at old q))
       (by_test (eqb p q) (λ e. absurd (let busy = (is.page m q h).busy in let vacant : (page_at old q).live ≡ 0 = subst (λ i. (page_at old i).live ≡ 0) (eqb_is p q e) opened.vacant in omega arith)) (λ e. e))
@@ -181,7 +181,7 @@ module _ (directory further : List (Option ℕ)) (old new : List Page) (is : IsP
       by None h = refl
       by (Some q) h = ap (λ (t : Page). t.links) (used_place m q h)
 
--- a new page under its number
+-- a new page with its number
 pub fresh_page : (n o link : ℕ) (page : Page) → o < 128 → page.number ≡ n → page.links ≡ set (replicate 128 None) o (Some link) → page.live ≡ 1 → IsPage n page
 fresh_page n o link page small number links live = record {
   size = ap (λ (xs : List (Option ℕ)). length xs) links ∙ length-set (replicate 128 None) o (Some link);
@@ -207,7 +207,7 @@ opened_link directory further old new is same key p link page none reach opened 
     (λ m h. opened_links directory further old new is same (key / 128) p page none reach opened m h)
     k
 
--- a page that was read, and then written
+-- reading a page, and then writing it
 module _ (directory : List (Option ℕ)) (pages : List Page) (is : IsPaged directory pages) (n p : ℕ) (there : place_at directory n ≡ Some p) (page : Page) (read : page ≡ get_or pages p page) where
   own : page ≡ page_at pages p
   own = read ∙ get_or_default pages p page no_page (inside directory pages is n p there)
@@ -237,7 +237,7 @@ module _ (directory : List (Option ℕ)) (pages : List Page) (is : IsPaged direc
         subst (λ (t : Page). IsPaged directory (set pages p t)) (sym (new_is ∙ ap (λ (t : Page). written t o link live t.number) own))
         (written_paged directory pages is n p there o link was live small first_links first_sum some)
 
-    -- a link that is put leaves a page some
+    -- a page is not empty after a link was inserted
     pub put_some : (x : ℕ) → link ≡ Some x → 0 < live
     put_some x e = let busy = own_is.busy in let one = ap one_if e in let few = one_or_none was in omega arith
       where
@@ -248,7 +248,7 @@ module _ (directory : List (Option ℕ)) (pages : List Page) (is : IsPaged direc
     pub none_left : live ≡ 0 → count_by is_some (set (page_at pages p).links o link) ≡ 0
     none_left e = sym (counted directory pages is n p there o link was live small first_links first_sum) ∙ e
 
--- what keys have after a link was written, and after a page was closed
+-- the links of keys after a link was written, and after a page was closed
 module _ (directory : List (Option ℕ)) (pages : List Page) (is : IsPaged directory pages) (key p : ℕ) (there : place_at directory (key / 128) ≡ Some p) (page : Page) (read : page ≡ get_or pages p page)
     (link was : Option ℕ) (live : ℕ) (new : Page) (was_is : was ≡ get_or page.links (key % 128) None) (new_is : new ≡ written page (key % 128) link live page.number) (sum : live + one_if was ≡ page.live + one_if link) where
   pub rewritten_link : (k : ℕ) → get_or (links_of (set pages p new) (place_at directory (k / 128))) (k % 128) None ≡ cond (eqb key k) link (get_or (links_of pages (place_at directory (k / 128))) (k % 128) None)
@@ -265,7 +265,7 @@ one_known : (o : Option ℕ) → IsSome o → one_if o ≡ 1
 one_known None h = absurd (let no_one : ⊥ = cc in no_one)
 one_known (Some x) h = refl
 
--- a key that has a link has one in its page
+-- a key that has a link has it in its page
 pub known_counts : (directory : List (Option ℕ)) (pages : List Page) (is : IsPaged directory pages) (key p : ℕ) (there : place_at directory (key / 128) ≡ Some p) (page : Page) (read : page ≡ get_or pages p page)
     → IsSome (get_or (links_of pages (place_at directory (key / 128))) (key % 128) None) → one_if (get_or page.links (key % 128) None) ≡ 1
 known_counts directory pages is key p there page read known =

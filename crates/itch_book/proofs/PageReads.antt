@@ -1,4 +1,4 @@
--- Reads of lists after a write, and counts of what is there.
+-- Reading lists after a write, and counting their links.
 use Rattle.std.proofs.Common.{◌≡◌, ℕ, zero, suc, ◌+◌, ◌/◌, ◌%◌, ◌<◌, true, false, cond, eqb, List, [], ◌∷◌, length, set, get_or, Option, Some, None, is_some, refl, sym, ap, ◌∙◌, subst, arith}
 use Rattle.std.specs.List.{count_by}
 use Rattle.std.proofs.lemmas.Bool.{false≢true}
@@ -16,7 +16,7 @@ set_read {X} xs o j x d h =
     (λ e. let turned = eqb_turned o j e in let ne : (j ≡ o → ⊥) = λ (s : j ≡ o). false≢true (sym turned ∙ subst (λ i. eqb j i ≡ true) s (eqb_itself j)) in
     simp e (get_or-set_other xs o j x d ne))
 
--- a write of one link, seen through the keys
+-- the links of all keys after one link was written
 pub at_key_written : (f g : ℕ → List (Option ℕ)) (key : ℕ) (link : Option ℕ)
     → ((o : ℕ) → o < 128 → get_or (g (key / 128)) o None ≡ cond (eqb (key % 128) o) link (get_or (f (key / 128)) o None))
     → ((n : ℕ) → eqb (key / 128) n ≡ false → g n ≡ f n)
@@ -41,13 +41,13 @@ one_is : (o : Option ℕ) → cond (is_some o) 1 0 ≡ one_if o
 one_is None = refl
 one_is (Some x) = refl
 
--- a link that is set changes the count by what it is and was
+-- setting a link changes the count by the new and the old link
 pub count_set : (xs : List (Option ℕ)) (o : ℕ) (link : Option ℕ) → o < length xs → count_by is_some (set xs o link) + one_if (get_or xs o None) ≡ count_by is_some xs + one_if link
 count_set xs o link h =
     let s = sum_by-set (λ (x : Option ℕ). cond (is_some x) 1 0) xs o link None h in
     let a = one_is (get_or xs o None) in let b = one_is link in omega arith
 
--- no link where none is counted
+-- there is no link if none is counted
 pub none_counted : (xs : List (Option ℕ)) (o : ℕ) → count_by is_some xs ≡ 0 → get_or xs o None ≡ None
 none_counted [] o h = refl
 none_counted (Some x ∷ xs) o h = absurd (let s = sum_by-cons (λ (y : Option ℕ). cond (is_some y) 1 0) (Some x) xs in omega arith)

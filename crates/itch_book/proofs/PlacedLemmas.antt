@@ -1,4 +1,4 @@
--- A table that knows the references of orders, and leads to the place of each once it is written.
+-- A table that contains the references of orders, and that leads to the place of each order after it is written.
 use Rattle.std.proofs.Common.{◌≡◌, ℕ, zero, suc, ◌<◌, ◌≤◌, ◌+◌, true, false, cond, eqb, List, [], ◌∷◌, length, get_or, Option, Some, None, is_some, IsSome, refl, sym, ap, ◌∙◌, subst, arith, inl, inr}
 use Rattle.std.specs.List.{list_any, IsDistinct}
 use Rattle.std.specs.List.Sorted.{IsPermutation}
@@ -18,7 +18,7 @@ use Rattle.itch_book.proofs.ReferredLemmas.{same_number, is_number, other_number
 flips : (j k : ℕ) → eqb j k ≡ eqb k j
 flips j k = grind (arith, nat_tests)
 
--- where a key stands
+-- the position of a key
 pub record Stands (k : ℕ) (ks : List ℕ) : Type 0 where
   pub place : ℕ
   pub within : place < length ks
@@ -31,7 +31,7 @@ stands k (j ∷ ks) h =
     (λ e. record { place = 0; within = omega arith; here = sym (is_number k j e) })
     (λ e. let there : Stands k ks = stands k ks (simp e at h) in let below = there.within in record { place = suc there.place; within = omega arith; here = there.here })
 
--- a table that leads to places knows the keys
+-- a table that leads to places contains the keys
 pub placed_known : (f : ℕ → Option ℕ) (ks : List ℕ) → IsPlaced f ks → IsKnown f ks
 placed_known f ks is = record { distinct = IsDistinct-from_apart eqb ks apart; known = λ k. by k (f k) refl }
   where
@@ -52,14 +52,14 @@ placed_known f ks is = record { distinct = IsDistinct-from_apart eqb ks apart; k
         let back = is.back k i e in
         ap is_some e ∙ sym (list_any_at (eqb k) ks i 0 back.0 (subst (λ n. eqb k n ≡ true) (sym back.1) (same_number k)))
 
--- in whatever order they stand
+-- in any order of the keys
 pub moved_known : (f : ℕ → Option ℕ) (ks us : List ℕ) → IsPermutation ks us → IsKnown f ks → IsKnown f us
 moved_known f ks us s is = record {
   distinct = IsDistinct-IsPermutation eqb flips ks us s is.distinct;
   known = λ k. is.known k ∙ list_any-IsPermutation (eqb k) ks us s;
 }
 
--- the first n keys lead to their places, and no key is lost or gained
+-- the first n keys lead to their places, and the set of keys does not change
 pub record IsLed (f : ℕ → Option ℕ) (ks : List ℕ) (n : ℕ) : Type 0 where
   pub leads : (i : ℕ) → i < n → f (get_or ks i 0) ≡ Some i
   pub known : (k : ℕ) → is_some (f k) ≡ list_any (eqb k) ks
@@ -102,11 +102,11 @@ reference_at (y ∷ ys) (suc i) x h e = reference_at ys i x (omega arith) e
 pub many : (xs : List Arrived) → length (references_of xs) ≡ length xs
 many xs = length-map xs reference_of
 
--- a key that has to be led to its place has a link
+-- a key that still has to be written has a link
 pub known_at : (f : ℕ → Option ℕ) (ks : List ℕ) (n k : ℕ) → IsLed f ks n → n < length ks → get_or ks n 0 ≡ k → IsSome (f k)
 known_at f ks n k is h here = is.known k ∙ list_any_at (eqb k) ks n 0 h (subst (λ m. eqb k m ≡ true) (sym here) (same_number k))
 
--- orders that were put elsewhere
+-- orders that were moved
 pub sorted_known : (places : Links) (xs ys : List Arrived) → IsReferred places xs → IsPermutation xs ys → IsKnown (at places) (references_of ys)
 sorted_known places xs ys is s = moved_known (at places) (references_of xs) (references_of ys) (IsPermutation-map reference_of xs ys s) (placed_known (at places) (references_of xs) is.placed)
 

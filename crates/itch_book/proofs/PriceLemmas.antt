@@ -1,4 +1,4 @@
--- What the next price of a side is, in a book's list.
+-- The next price of a side, in a book's list.
 use Rattle.std.proofs.Common.{◌≡◌, ℕ, true, false, List, [], ◌∷◌, Option, Some, None, IfSome, IfNone, Contains, refl, sym, ◌∙◌, subst, arith}
 use Rattle.std.specs.List.{AllByRecursion}
 use Rattle.std.proofs.lemmas.Bool.{and_parts, false≢true}
@@ -43,7 +43,7 @@ module _ (l : ℕ) (s : Side) (last : Option ℕ) where
   stands_more y ys None h = tt
   stands_more y ys (Some price) h = (h.0, Contains-append_right (y ∷ []) ys h.0 h.1, h.2, h.3)
 
-  -- the next price is that of an order
+  -- the next price is the price of an order
   pub next_stands : (orders : List Order) → IfSome (next_price orders l s last) (Stands orders)
   next_stands [] = tt
   next_stands (y ∷ ys) =
@@ -55,7 +55,7 @@ module _ (l : ℕ) (s : Side) (last : Option ℕ) where
   none_more y ys e None h = (e, h)
   none_more y ys e (Some price) h = tt
 
-  -- where there is none, no order has such a price
+  -- if there is no next price, no order has such a price
   pub next_none : (orders : List Order) → IfNone (next_price orders l s last) (AllByRecursion (λ x. is_next l s last x ≡ false) orders)
   next_none [] = tt
   next_none (y ∷ ys) =

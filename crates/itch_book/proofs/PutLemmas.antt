@@ -1,4 +1,4 @@
--- An order put last in the queue of its price.
+-- Appending an order to the queue of its price.
 use Rattle.std.proofs.Common.{◌≡◌, ℕ, ◌^◌, ◌<◌, true, false, eqb, List, [], ◌∷◌, ◌++◌, filter, Option, Some, None, IsSome, refl, sym, ap, ◌∙◌, subst, arith, append-nil}
 use Rattle.std.specs.List.{AllByRecursion, list_any}
 use Rattle.std.proofs.lemmas.Bool.{false≢true}
@@ -28,7 +28,7 @@ found-append orders (k ∷ ks) ys = by_order (orders k) (found-append orders ks 
     by_order None h = h
     by_order (Some x) h = ap (λ t. x ∷ t) h
 
--- a change at a key that is not there
+-- a change at a key that is not in the list
 pub found_apart : (k : ℕ) (slot : Option Order) (orders : ℕ → Option Order) (ks : List ℕ) → NotIn k ks → found (at_key k slot orders) ks ≡ found orders ks
 found_apart k slot orders [] n = refl
 found_apart k slot orders (j ∷ js) n =
@@ -50,7 +50,7 @@ at_place s l p x is =
 module _ (references references' : ℕ → Option ℕ) (bids asks : List (Place × ℕ)) (w : Seen) (is : IsIndexed references bids asks w)
     (x : Order) (k q : ℕ) (ks : List ℕ) (at : queue_of_side x.side bids asks x.locate x.price ≡ Some q) (keys : w.keys q ≡ Some ks) (vacant : w.orders k ≡ None)
     (live : IsLive x) (price : x.price < 2 ^ 32) (fresh : get (indexed w bids asks) x.reference ≡ None) (names : (r : ℕ) → references' r ≡ at_key x.reference (Some k) references r) where
-  -- what is seen then
+  -- the index afterwards
   abbrev pub put : Seen
   put = record { keys = at_key q (Some (ks ++ k ∷ [])) w.keys; orders = at_key k (Some x) w.orders }
 
@@ -181,7 +181,7 @@ module _ (references references' : ℕ → Option ℕ) (bids asks : List (Place 
       some_kept : (j : ℕ) → IsSome (w.orders j) → IsSome (put.orders j)
       some_kept j h = by_test (eqb k j) (λ e. subst IsSome (sym (at_same k (Some x) w.orders j e)) refl) (λ e. subst IsSome (sym (at_apart k (Some x) w.orders j e)) h)
 
--- each queue has nodes then
+-- each queue has nodes afterwards
 pub put_keys_busy : (bids asks : List (Place × ℕ)) (w w' : Seen) (k q : ℕ) (ks : List ℕ) → ((p : ℕ) → w'.keys p ≡ at_key q (Some (ks ++ k ∷ [])) w.keys p) → IsBusyBut w bids asks q → IsBusy w' bids asks
 put_keys_busy bids asks w w' k q ks keys busy s l p q0 h = ap has_keys (keys q0) ∙ by_test (eqb q q0)
     (λ e. ap has_keys (at_same q (Some (ks ++ k ∷ [])) w.keys q0 e) ∙ some_key ks)
@@ -191,7 +191,7 @@ put_keys_busy bids asks w w' k q ks keys busy s l p q0 h = ap has_keys (keys q0)
     some_key [] = refl
     some_key (j ∷ js) = refl
 
--- a reference that no order has leads to no node
+-- a reference without an order leads to no node
 pub unnamed : (references : ℕ → Option ℕ) (bids asks : List (Place × ℕ)) (w : Seen) → IsIndexed references bids asks w → (r : ℕ) → get (indexed w bids asks) r ≡ None → references r ≡ None
 unnamed references bids asks w is r fresh = by_node (references r) refl
   where

@@ -1,4 +1,4 @@
--- A queue is the one line of its orders in which each stands by priority.
+-- A queue is the only line of its orders that is sorted by priority.
 use Rattle.std.proofs.Common.{◌≡◌, ℕ, ◌<◌, ◌+◌, ◌==◌, true, false, not, ◌&&◌, List, [], ◌∷◌, filter, Some, None, IsPermutation, inl, inr, refl, sym, ◌∙◌, subst, arith}
 use Rattle.std.specs.List.{AllByRecursion}
 use Rattle.std.proofs.lemmas.Bool.{false≢true}
@@ -20,7 +20,7 @@ pub not_itself : (s : Side) (p : ℕ) → is_better s p p ≡ false
 not_itself Buy p = grind (arith, nat_tests)
 not_itself Sell p = grind (arith, nat_tests)
 
--- of two prices of which none is better, both are one
+-- if neither of two prices is better, they are equal
 price_is : (s : Side) (p q : ℕ) → is_better s p q ≡ false → is_better s q p ≡ false → p ≡ q
 price_is Buy p q h k = grind (arith, nat_tests)
 price_is Sell p q h k = grind (arith, nat_tests)
@@ -33,7 +33,7 @@ one_price : (s : Side) (price p q : ℕ) → (p == price) ≡ true → (q == pri
 one_price Buy price p q h k = grind (arith, nat_tests)
 one_price Sell price p q h k = grind (arith, nat_tests)
 
--- a queue has the better prices first, and the orders at a price as they came
+-- a queue has better prices first, and the orders at a price in order of arrival
 pub IsQueue-queue : (orders : List Order) (l : ℕ) (s : Side) → IsQueue orders l s (queue orders l s)
 IsQueue-queue orders l s = record {
   better_first = IsInOrder-in_order (λ x y. is_better s x.price y.price) (better_order s) (filter (is_of l s) orders);
@@ -58,7 +58,7 @@ other_reference r x (y ∷ ys) h e =
     (λ f. let some : Some y ≡ None = simp f at h in absurd (let no_one : ⊥ = cc in no_one))
     (λ f. let rest : get ys r ≡ None = simp f at h in ((grind (arith, nat_tests)), other_reference r x ys rest e))
 
--- orders with references of their own arrive one after another
+-- orders with distinct references arrive one after another
 pub arrival_rises : (orders : List Order) → IsDistinct orders → Rises (λ x y. arrival orders x < arrival orders y) orders
 arrival_rises [] d = tt
 arrival_rises (x ∷ xs) d =
@@ -73,7 +73,7 @@ arrival_rises (x ∷ xs) d =
     one_after : (x : Order) (xs : List Order) (y : Order) → has_reference y.reference x ≡ false → arrival (x ∷ xs) y ≡ 1 + arrival xs y
     one_after x xs y h = simp h refl
 
--- priority goes one way
+-- priority is asymmetric
 pub priority_one_way : (orders : List Order) (s : Side) (x y : Order) → HasPriority orders s x y → HasPriority orders s y x → ⊥
 priority_one_way orders s x y (inl h) (inl k) = false≢true (sym ((better_order s).one_way x y h) ∙ k)
 priority_one_way orders s x y (inl h) (inr k) = false≢true (sym (not_itself s x.price) ∙ subst (λ p. is_better s x.price p ≡ true) k.0 h)
@@ -95,7 +95,7 @@ queue_rises orders l s d =
     by_case x y (inl e) = inl e
     by_case x y (inr h) = inr (price_is s x.price y.price h.0 h.1, h.2)
 
--- over any two places of a queue, one comes before the other if and only if its order has priority
+-- for any two positions in a queue, one is before the other if and only if its order has priority
 pub queue_by_priority : (orders : List Order) (l : ℕ) (s : Side) → IsDistinct orders → IsByPriority orders s (queue orders l s)
 queue_by_priority orders l s d = places_exactly (HasPriority orders s) (priority_one_way orders s) (queue orders l s) (queue_rises orders l s d)
 
@@ -105,7 +105,7 @@ queue_members orders l s = IsPermutation-in_order (λ x y. is_better s x.price y
 pub IsLine-queue : (orders : List Order) (l : ℕ) (s : Side) → IsDistinct orders → IsLine orders l s (queue orders l s)
 IsLine-queue orders l s d = record { members = queue_members orders l s; by_priority = queue_by_priority orders l s d }
 
--- no other list has the same orders by priority
+-- no other list contains the same orders by priority
 pub IsLine-unique : (orders : List Order) (l : ℕ) (s : Side) (line : List Order) → IsDistinct orders → IsLine orders l s line → line ≡ queue orders l s
 IsLine-unique orders l s line d h =
     Rises-same (HasPriority orders s) (λ x. x.reference) (priority_one_way orders s) line (queue orders l s)

@@ -1,4 +1,4 @@
--- The prices of a queue, and what a book gives of them.
+-- The prices of a queue, and the prices that a book returns.
 use Rattle.std.proofs.Common.{◌≡◌, ℕ, ◌<◌, ◌==◌, Bool, true, false, not, ◌&&◌, List, [], ◌∷◌, ◌++◌, length, Option, Some, None, option_map, refl, sym, ap, ◌∙◌, subst, append_assoc, arith}
 use Rattle.std.specs.List.{filter, find, AllByRecursion}
 use Rattle.std.proofs.lemmas.Bool.Decides.{nat_tests}
@@ -17,14 +17,14 @@ abbrev pub first_price : List ℕ → Option ℕ
 first_price [] = None
 first_price (p ∷ ps) = Some p
 
--- a price that is not this one
+-- a price other than this one
 abbrev other_than : ℕ → ℕ → Bool
 other_than price p = not (p == price)
 
 passes_other : (P : ℕ → Bool) (price : ℕ) → P price ≡ false → (p : ℕ) → P p ≡ true → other_than price p ≡ true
 passes_other P price fails p passes = by_test (p == price) (λ same. absurd (let here : p ≡ price = grind (arith, nat_tests) in let no : P p ≡ false = ap P here ∙ fails in cc)) (λ differ. ap not differ)
 
--- the first order whose price passes has the first price that passes
+-- the first order whose price meets a condition has the first price that meets it
 pub found_price : (P : ℕ → Bool) (xs : List Order) → option_map (λ x. x.price) (find (λ x. P x.price) xs) ≡ first_price (filter P (prices xs))
 found_price P [] = refl
 found_price P (x ∷ xs) =
@@ -35,7 +35,7 @@ found_price P (x ∷ xs) =
     let drops : filter P (prices (x ∷ xs)) ≡ filter P (filter (other_than x.price) (prices xs)) = simp fails refl in
     skip ∙ found_price P xs ∙ ap first_price (sym (drops ∙ filter_within P (other_than x.price) (passes_other P x.price fails) (prices xs))))
 
--- both tests at once
+-- two conditions at once
 pub filter_both : {X : Type 0} (p q : X → Bool) (xs : List X) → filter (λ x. p x && q x) xs ≡ filter q (filter p xs)
 filter_both p q [] = refl
 filter_both p q (x ∷ xs) =
@@ -52,17 +52,17 @@ find_both p q (x ∷ xs) =
     (λ passes. by_test (q x) (λ also. simp passes (simp also refl)) (λ never. simp passes (simp never (find_both p q xs))))
     (λ fails. simp fails (find_both p q xs))
 
--- the next price of a book is the first that is worse than the last among those of the queue
+-- the next price of a book is the first price of the queue that is worse than the last
 pub next_is : (orders : List Order) (l : ℕ) (s : Side) (last : Option ℕ) → IsBook orders → next_price orders l s last ≡ first_price (filter (is_worse s last) (prices (queue orders l s)))
 next_is orders l s last book =
     ap (option_map (λ x. x.price)) (find_both (is_of l s) (λ x. is_worse s last x.price) orders ∙ ap (find (λ x. is_worse s last x.price)) (sym (queue-book orders l s book)))
     ∙ found_price (is_worse s last) (queue orders l s)
 
--- the orders at a price are those of the queue at it
+-- the orders at a price are those of the queue at that price
 pub level_is : (orders : List Order) (l : ℕ) (s : Side) (price : ℕ) → level orders l s price ≡ filter (is_at_price price) (queue orders l s)
 level_is orders l s price = filter_both (is_of l s) (is_at_price price) orders ∙ sym (IsQueue.as_they_came (IsQueue-queue orders l s) price)
 
--- each price is better than those that follow
+-- each price is better than those after it
 abbrev Worsen : Side → List ℕ → Type 0
 Worsen s [] = Unit {0}
 Worsen s (p ∷ ps) = AllByRecursion (λ q. is_better s p q ≡ true) ps × Worsen s ps
@@ -86,7 +86,7 @@ All-prices : (P : ℕ → Type 0) (xs : List Order) → AllByRecursion (λ x. P 
 All-prices P [] h = tt
 All-prices P (x ∷ xs) h = (h.0, All-filter_rec P (other_than x.price) (prices xs) (All-prices P xs h.1))
 
--- the prices of orders that stand by price worsen
+-- the prices of orders sorted by price get worse
 prices_worsen : (s : Side) (xs : List Order) → IsInOrder (λ x y. is_better s x.price y.price) xs → Worsen s (prices xs)
 prices_worsen s [] h = tt
 prices_worsen s (x ∷ xs) h = (
@@ -98,7 +98,7 @@ prices_worsen s (x ∷ xs) h = (
   Worsen-filter s (other_than x.price) (prices xs) (prices_worsen s xs h.1),
 )
 
--- after a price stand those that are worse
+-- the prices after a price are exactly the worse ones
 worse_after : (s : Side) (before rest : List ℕ) (p : ℕ) → Worsen s (before ++ p ∷ rest) → filter (is_worse s (Some p)) (before ++ p ∷ rest) ≡ rest
 worse_after s [] rest p h = let own = not_itself s p in simp own (filter_all (is_worse s (Some p)) rest h.0)
 worse_after s (q ∷ before) rest p h =
@@ -106,7 +106,7 @@ worse_after s (q ∷ before) rest p h =
     let skipped : is_better s p q ≡ false = not_both s q p after_q.0 in
     simp skipped (worse_after s before rest p h.1)
 
--- the prices of a queue, of which these are done, the last of them last; the others are worse than it
+-- the prices of a queue after these were processed, the last of them last; the remaining ones are worse than it
 pub record DonePrices (orders : List Order) (l : ℕ) (s : Side) (last : Option ℕ) (done : List ℕ) : Type 0 where
   pub whole : prices (queue orders l s) ≡ done ++ filter (is_worse s last) (prices (queue orders l s))
 
@@ -117,7 +117,7 @@ every_worse s (p ∷ ps) = ap (λ qs. p ∷ qs) (every_worse s ps)
 pub none_done : (orders : List Order) (l : ℕ) (s : Side) → DonePrices orders l s None []
 none_done orders l s = record { whole = sym (every_worse s (prices (queue orders l s))) }
 
--- what the next price of a book leaves of those that are still to come
+-- the remaining prices after the next price of a book
 pub record NextPrice (orders : List Order) (l : ℕ) (s : Side) (last : Option ℕ) (price : ℕ) : Type 0 where
   pub rest : List ℕ
   pub here : filter (is_worse s last) (prices (queue orders l s)) ≡ price ∷ rest
@@ -148,12 +148,12 @@ module _ (orders : List Order) (l : ℕ) (s : Side) (last : Option ℕ) (done : 
             ∙ sym (append_assoc done (price ∷ []) (filter (is_worse s (Some price)) (prices (queue orders l s))));
       }
 
-  -- one price fewer is still to come
+  -- one fewer price remains
   pub one_fewer : next_price orders l s last ≡ Some price
       → length (filter (is_worse s (Some price)) (prices (queue orders l s))) < length (filter (is_worse s last) (prices (queue orders l s)))
   one_fewer is = let next = next_parts is in omega (arith, ap length next.here, ap length next.following)
 
--- and none is, if there is no next price
+-- no price remains if there is no next price
 pub none_left : (orders : List Order) (l : ℕ) (s : Side) (last : Option ℕ) → IsBook orders → next_price orders l s last ≡ None
     → filter (is_worse s last) (prices (queue orders l s)) ≡ []
 none_left orders l s last book is = nothing (filter (is_worse s last) (prices (queue orders l s))) (sym (next_is orders l s last book) ∙ is) where

@@ -1,4 +1,4 @@
--- Sound queues stay sound.
+-- Valid queues remain valid.
 use Rattle.std.proofs.Common.{◌≡◌, ℕ, ◌+◌, ◌*◌, ◌^◌, ◌<◌, ◌≤◌, false, eqb, List, [], ◌∷◌, ◌++◌, length, Option, Some, None, option_map, refl, sym, ap, ◌∙◌, subst, arith, length-append}
 use Rattle.std.specs.List.{list_any}
 use Rattle.std.specs.Cmp.{nat_eq_equiv}
@@ -10,16 +10,16 @@ use Rattle.itch_book.proofs.Lists.{by_test}
 use Rattle.itch_book.proofs.LinkLemmas.{unlinked, pushed, In, NotIn, eqb_itself, eqb_is, eqb_turned, in_head, in_tail, not_in_head, in_queue, other_linked, linked_right, last_or-append, walk_is, last_key, last_or_is, in_last, distinct_head}
 use Rattle.itch_book.proofs.UnlinkLemmas.{in_parts, apart, distinct_right, distinct_without, apart_keys, unlinked_linked, pushed_linked}
 
--- the keys that a queue has are those on the way along its links
+-- the keys of a queue are those along its links
 pub walked_is : (f : Nodes) (q : ℕ) (head : Head) (ks : List ℕ) → IsQueue f q head ks → walked f head ≡ ks
 walked_is f q head ks h =
     ap (λ n. walk f n head.first) h.orders ∙ ap (walk f (length ks)) h.first ∙ walk_is f q None ks h.linked
 
--- so they may be read off
+-- so they can be read by a walk
 pub queue_walked : (f : Nodes) (q : ℕ) (head : Head) (ks : List ℕ) → IsQueue f q head ks → IsQueue f q head (walked f head)
 queue_walked f q head ks h = subst (IsQueue f q head) (sym (walked_is f q head ks h)) h
 
--- shares of a list
+-- the shares of a list
 pub total_frame : (f g : Nodes) (ks : List ℕ) → ((j : ℕ) → In j ks → shares_of (g j) ≡ shares_of (f j)) → total g ks ≡ total f ks
 total_frame f g [] same = refl
 total_frame f g (k ∷ ks) same =
@@ -46,7 +46,7 @@ before_keeps v same (Some p) t f j = by_test (eqb p j) (λ e. simp e (by_node (f
     by_node None = refl
     by_node (Some x) = same x t
 
--- what is not about links is, once a node is taken out, as without that node
+-- removing a node affects other properties only by the absence of that node
 pub unlinked_keeps : {X : Type 0} (v : Option Node → X) → ((x : Node) (t : Option ℕ) → v (Some (record x { after = t })) ≡ v (Some x)) → ((x : Node) (t : Option ℕ) → v (Some (record x { before = t })) ≡ v (Some x))
     → (k : ℕ) (x : Node) (f : Nodes) (j : ℕ) → v (unlinked k x f j) ≡ v (at_key k None f j)
 unlinked_keeps v same_after same_before k x f j =
@@ -78,7 +78,7 @@ pub first_in : (b : ℕ) (ks : List ℕ) → first_or ks None ≡ Some b → In 
 first_in b [] h = absurd (let no_one : ⊥ = cc in no_one)
 first_in b (k ∷ ks) h = let e : k ≡ b = inj h in subst (λ t. In t (k ∷ ks)) e (in_head k ks)
 
--- what a queue is once a node is taken out
+-- a queue after a node was removed
 pub unlink_queue : (f : Nodes) (q : ℕ) (head : Head) (xs : List ℕ) (k : ℕ) (ys : List ℕ) (x : Node) → f k ≡ Some x → IsQueue f q head (xs ++ k ∷ ys)
     → IsQueue (unlinked k x f) q (unlinked_head x head) (xs ++ ys)
 unlink_queue f q head xs k ys x here h = record {
@@ -133,7 +133,7 @@ unlink_queue f q head xs k ys x here h = record {
 pub vacant_out : (f : Nodes) (q : ℕ) (ks : List ℕ) (k : ℕ) → IsLinked f q None ks None → f k ≡ None → NotIn k ks
 vacant_out f q ks k h vacant = by_test (list_any (eqb k) ks) (λ i. let there = in_queue f q None ks None k h i in none_some vacant there.1) (λ n. n)
 
--- what a queue is once a node is put last
+-- a queue after a node was appended
 pub push_queue : (f : Nodes) (q : ℕ) (head : Head) (ks : List ℕ) (k : ℕ) (x : Node) → f k ≡ None → x.queue ≡ q → x.before ≡ head.last → x.after ≡ None → IsQueue f q head ks
     → IsQueue (pushed k x f) q (pushed_head k x head) (ks ++ k ∷ [])
 push_queue f q head ks k x vacant queue before after h = record {
@@ -160,7 +160,7 @@ push_queue f q head ks k x vacant queue before after h = record {
     shares_kept : (j : ℕ) → eqb k j ≡ false → shares_of (pushed k x f j) ≡ shares_of (f j)
     shares_kept j e = pushed_keeps shares_of (λ y t. refl) k x f j ∙ simp e refl
 
--- a queue whose nodes are as they were
+-- a queue whose nodes did not change
 pub frame_queue : (f g : Nodes) (q : ℕ) (head : Head) (ks : List ℕ) → ((j : ℕ) (y : Node) → f j ≡ Some y → y.queue ≡ q → g j ≡ f j) → IsQueue f q head ks → IsQueue g q head ks
 frame_queue f g q head ks same h = record {
   linked = other_linked f g q None ks None same h.linked;
@@ -177,7 +177,7 @@ pub record IsStep (f g : Nodes) (heads heads' : ℕ → Option Head) (q : ℕ) (
   pub own : walked g head ≡ ks
   pub kept : (p : ℕ) (head0 : Head) → eqb q p ≡ false → heads p ≡ Some head0 → walked g head0 ≡ walked f head0
 
--- a change of one queue, which leaves the nodes of the others as they were
+-- a change of one queue that does not affect the nodes of the others
 pub sound_step : (f g : Nodes) (heads heads' : ℕ → Option Head) (q : ℕ) (head : Head) (ks : List ℕ) → IsSound f heads → IsQueue g q head ks → ((p : ℕ) → heads' p ≡ at_key q (Some head) heads p)
     → ((j : ℕ) (y : Node) → f j ≡ Some y → eqb q y.queue ≡ false → g j ≡ f j)
     → ((j : ℕ) (y : Node) → g j ≡ Some y → eqb q y.queue ≡ false → f j ≡ Some y)

@@ -1,4 +1,4 @@
--- What stands first or last in a range of prices.
+-- The first and the last place in a range of prices.
 use Rattle.std.proofs.Common.{◌≡◌, ℕ, ◌^◌, ◌<◌, ◌≤◌, ◌==◌, nat_lt, true, false, List, Option, Some, None, IsSome, option_map, refl, sym, ap, ◌∙◌, subst, arith}
 use Rattle.std.specs.declared.cmp.Ordering.{Ordering}
 use Rattle.std.specs.Ordering.{nat_cmp, ordering_then, is_gt, is_lt}
@@ -45,7 +45,7 @@ not_below_is p q h = by_test (nat_lt p q) (λ e. let no : true ≡ false = simp 
 less_not_above : (o : Ordering) → o ≡ Less → is_gt o ≡ false
 less_not_above o h = ap is_gt h
 
--- a place that is not before another one has no lower locate
+-- a place that is not before another one does not have a lower locate
 locate_le : (a b : Place) → is_gt (place_cmp a b) ≡ false → a.0 ≤ b.0
 locate_le a b h = by_test (nat_lt a.0 b.0) (λ e. grind (arith, nat_tests)) (λ e. by_test (a.0 == b.0)
     (λ f. grind (arith, nat_tests))
@@ -58,7 +58,7 @@ between l a b e h k = let x = locate_le (l, a) e h in let y = locate_le e (l, b)
 at_locate : (l : ℕ) (e : Place) → l ≡ e.0 → e ≡ (l, e.1)
 at_locate l e h = λ i. (sym h i, e.1)
 
--- the prices of a locate within two bounds are those that are worse than the last
+-- the prices of a locate within two bounds are those worse than the last
 pub record IsSpan (l : ℕ) (s : Side) (last : Option ℕ) (lo hi : Bound Place) : Type 0 where
   pub holds : (p : ℕ) → p < 2 ^ 32 → is_worse s last p ≡ true → IsInRange place_cmp lo hi (l, p)
   pub locate : (e : Place) → IsInRange place_cmp lo hi e → l ≡ e.0

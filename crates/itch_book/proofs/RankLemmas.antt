@@ -1,4 +1,4 @@
--- The order of ranks is snapshot order.
+-- Comparing ranks is comparing positions in snapshot order.
 use Rattle.std.proofs.Common.{◌≡◌, ℕ, ◌<◌, ◌+◌, ◌*◌, nat_lt, Bool, not, ◌&&◌, ◌||◌, ap, ◌∙◌, arith}
 use Rattle.std.proofs.lemmas.Bool.Decides.{nat_tests}
 use Rattle.itch_codec.specs.declared.orders.Side.{Side}
@@ -14,7 +14,7 @@ place_order l Buy p m Sell q h k = grind (arith, nat_tests)
 place_order l Sell p m Buy q h k = grind (arith, nat_tests)
 place_order l Sell p m Sell q h k = grind (arith, nat_tests)
 
--- by the left-hand number, and then by the other one
+-- comparison by the first number, and then by the second
 pair_order : (a b i j : ℕ) → i < 18446744073709551616 → j < 18446744073709551616
     → nat_lt (a * 18446744073709551616 + i) (b * 18446744073709551616 + j) ≡ (nat_lt a b || (not (nat_lt b a) && nat_lt i j))
 pair_order a b i j h k = grind (arith, nat_tests)

@@ -1,4 +1,4 @@
--- What is read off queues, and an order's shares changed.
+-- Reading queues, and changing the shares of an order.
 use Rattle.std.proofs.Common.{◌≡◌, ℕ, ◌+◌, ◌-◌, ◌^◌, ◌<◌, true, false, eqb, List, [], ◌∷◌, ◌++◌, length, Option, Some, None, IsSomeAnd, option_map, refl, sym, ap, ◌∙◌, subst, arith}
 use Rattle.std.specs.List.{IsDistinct, list_any, sum_by}
 use Rattle.std.proofs.lemmas.List.Sums.{sum_by-cons}
@@ -16,7 +16,7 @@ use Rattle.itch_book.proofs.QueueSteps.{none_some, same_some, inj, total_frame, 
 use Rattle.itch_book.proofs.SoundSteps.{at_apart, at_same, home_in, has_one}
 use Rattle.itch_book.proofs.ViewLemmas.{pointwise, map_at_key, keys_seen, order_seen, keys_stepped}
 
--- the head and the keys of a queue that contracts see
+-- the head and the keys of a queue, as contracts describe them
 pub queue_seen : (nodes : Slab Node) (heads : Slab Head) (q : ℕ) (ks : List ℕ) (head : Head) → IsSound (get nodes) (get heads) → keys_at (queued nodes heads) q ≡ Some ks → get heads q ≡ Some head → IsQueue (get nodes) q head ks
 queue_seen nodes heads q ks head sound seen there =
     let e : walked (get nodes) head ≡ ks = inj (sym (keys_seen nodes heads q ∙ ap (option_map (walked (get nodes))) there) ∙ seen) in
@@ -39,7 +39,7 @@ member_only nodes heads k x q ks sound here seen i = by_head (get heads q) refl
         let node = in_queue (get nodes) q None ks None k queue.linked i in
         ap (λ (z : Node). z.queue) (same_some here node.1) ∙ node.2
 
--- what stands after a node
+-- the node after a node
 pub next_seen : (nodes : Slab Node) (heads : Slab Head) (k : ℕ) (x : Node) (q : ℕ) (before after : List ℕ) → IsSound (get nodes) (get heads) → get nodes k ≡ Some x → keys_at (queued nodes heads) q ≡ Some (before ++ k ∷ after) → x.after ≡ first_or after None
 next_seen nodes heads k x q before after sound here seen = by_head (get heads q) refl
   where
@@ -88,7 +88,7 @@ changed_linked f q b (j ∷ js) a k x y here queue before after h = (
   changed_linked f q (Some j) js a k x y here queue before after h.1,
 )
 
--- its queue's totals
+-- the totals of its queue
 changed_total : (f : Nodes) (ks : List ℕ) (k : ℕ) (x y : Node) → f k ≡ Some x → IsDistinct eqb ks → In k ks → total (at_key k (Some y) f) ks + x.order.shares ≡ total f ks + y.order.shares
 changed_total f ks k x y here d i =
     let parts = parts_at k ks i in
@@ -157,14 +157,14 @@ module _ (f : Nodes) (heads : ℕ → Option Head) (sound : IsSound f heads) whe
           (λ s. (subst (λ t. In t ks) (eqb_is k j s) own.0, subst (λ (w : Node). w.order.shares < 2 ^ 32) (same_some (at_same k (Some y) f j s) it) small))
           (λ n. home_in f heads j z x.queue head sound (sym (at_apart k (Some y) f j n) ∙ it) e there)
 
--- there is more room in a head's shares than an order has
+-- the total shares of a head leave room for the shares of one more order
 pub shares_fit : (f : Nodes) (heads : ℕ → Option Head) (q : ℕ) (head : Head) (more : ℕ) → IsSound f heads → heads q ≡ Some head → head.orders < 2 ^ 64 → more < 2 ^ 32 → head.shares + more < 2 ^ 128
 shares_fit f heads q head more sound there few small =
     let queue = sound.queues q head there in
     let bound = total_small f (walked f head) (λ j y it. (sound.homes j y it).small) in
     omega (arith, queue.orders, queue.shares, few, bound, small)
 
--- an order's shares changed in the slabs
+-- the shares of an order changed in the slabs
 pub record IsChanged (nodes nodes' : Slab Node) (heads heads' : Slab Head) (k n : ℕ) : Type 0 where
   pub sound : IsSound (get nodes') (get heads')
   pub orders : (j : ℕ) → order_at (queued nodes' heads') j ≡ at_key k (option_map (left_with n) (order_at (queued nodes heads) k)) (order_at (queued nodes heads)) j

@@ -1,4 +1,4 @@
--- What a table of places finds, and what it leads to after an order was put, taken out or written.
+-- Look-ups in a table of places, and its entries after an order was inserted, removed or replaced.
 use Rattle.std.proofs.Common.{◌≡◌, ◌≢◌, ℕ, zero, suc, ◌<◌, ◌+◌, ◌-◌, ◌^◌, true, false, cond, eqb, List, [], ◌∷◌, ◌++◌, length, take, set, get_or, slice_get, Option, Some, None, IsSome, IsSomeAnd, refl, sym, ap, ◌∙◌, subst, arith, inl, inr}
 use Rattle.std.specs.List.{swap_remove}
 use Rattle.std.specs.List.Sorted.{IsPermutation}
@@ -19,7 +19,7 @@ same_number k = grind (arith, nat_tests)
 pub is_number : (j k : ℕ) → eqb j k ≡ true → j ≡ k
 is_number j k h = grind (arith, nat_tests)
 
--- numbers that are led to different places
+-- numbers with different places
 pub other_number : (j k : ℕ) → (j ≡ k → ⊥) → eqb j k ≡ false
 other_number j k h = by_test (eqb j k) (λ e. absurd (h (is_number j k e))) (λ e. e)
 
@@ -39,13 +39,13 @@ keys_are : (xs : List Arrived) → keys_of (under_references xs) ≡ references_
 keys_are [] = refl
 keys_are (x ∷ xs) = ap (λ t. reference_of x ∷ t) (keys_are xs)
 
--- an order of the reference that stands at a place
+-- an order with the reference is at a place
 pub stands_here : (k i : ℕ) (xs : List Arrived) → IsSomeAnd (slice_get xs i) (λ x. x.order.reference ≡ k) → IsAt (under_references xs) k i
 stands_here k i [] h = absurd h
 stands_here k zero (x ∷ xs) h = ap (λ n. Some n) h
 stands_here k (suc i) (x ∷ xs) h = stands_here k i xs h
 
--- the first order of a reference is found
+-- the first order with a reference is found
 lookup_first : (k : ℕ) (xs : List Arrived) (i : ℕ) (d : Arrived) → i < length xs → ((j : ℕ) → j < i → eqb k (get_or (references_of xs) j 0) ≡ false) → get_or (references_of xs) i 0 ≡ k
     → lookup (eqb k) (under_references xs) ≡ Some (get_or xs i d)
 lookup_first k [] i d h before e = absurd (omega arith)
@@ -60,7 +60,7 @@ lookup_never k (x ∷ xs) h =
     let other : eqb k (reference_of x) ≡ false = h 0 (omega arith) in
     simp other (lookup_never k xs (λ j l. h (suc j) (omega arith)))
 
--- and written
+-- and replaced
 set_first : (k : ℕ) (xs : List Arrived) (i : ℕ) (y : Arrived) → i < length xs → ((j : ℕ) → j < i → eqb k (get_or (references_of xs) j 0) ≡ false) → get_or (references_of xs) i 0 ≡ k → reference_of y ≡ k
     → set_value (eqb k) (under_references xs) y ≡ under_references (set xs i y)
 set_first k [] i y h before e own = absurd (omega arith)
@@ -71,7 +71,7 @@ set_first k (x ∷ xs) (suc i) y h before e own =
     let other : eqb k (reference_of x) ≡ false = before 0 (omega arith) in
     simp other (ap (λ t. (reference_of x, x) ∷ t) (set_first k xs i y (omega arith) (λ j l. before (suc j) (omega arith)) e own))
 
--- and taken out, where the last comes into its place
+-- and removed, and the last order moves to its place
 swap_later : (x : Arrived) (xs : List Arrived) (i : ℕ) (d : Arrived) → 0 < length xs → swap_remove (x ∷ xs) (suc i) d ≡ x ∷ swap_remove xs i d
 swap_later x xs i d h =
     let e : length (x ∷ xs) - 1 ≡ suc (length xs - 1) = omega arith in
@@ -108,19 +108,19 @@ some_order : (xs : List Arrived) → 0 < length xs → (Arrived → ⊥) → ⊥
 some_order [] h none = absurd (omega arith)
 some_order (x ∷ xs) h none = none x
 
--- what a table finds
+-- look-ups in a table
 module _ (f : ℕ → Option ℕ) (xs : List Arrived) (is : IsPlaced f (references_of xs)) where
   long : length (references_of xs) ≡ length xs
   long = length-map xs reference_of
 
-  -- no two orders have one reference
+  -- no two orders have the same reference
   apart : (i j : ℕ) → i < length xs → j < length xs → get_or (references_of xs) i 0 ≡ get_or (references_of xs) j 0 → i ≡ j
   apart i j h l e = one_some (f (get_or (references_of xs) j 0)) i j (subst (λ n. f n ≡ Some i) e (is.leads i (subst (λ n. i < n) (sym long) h))) (is.leads j (subst (λ n. j < n) (sym long) l))
 
   pub within : (k i : ℕ) → f k ≡ Some i → i < length xs
   within k i e = subst (λ n. i < n) long (is.back k i e).0
 
-  -- the table leads to a place if the order of the reference stands there
+  -- the table leads to a place if the order with the reference is there
   pub leads_here : (k i : ℕ) → f k ≡ Some i → IsAt (under_references xs) k i
   leads_here k i e = let back = is.back k i e in
       ap (λ (ks : List ℕ). slice_get ks i) (keys_are xs) ∙ slice_get-get_or (references_of xs) i 0 back.0 ∙ ap (λ n. Some n) back.1
@@ -161,7 +161,7 @@ module _ (f : ℕ → Option ℕ) (xs : List Arrived) (is : IsPlaced f (referenc
   pub removed : (k i : ℕ) (d : Arrived) → f k ≡ Some i → IsPermutation (remove_entry (eqb k) (under_references xs)) (under_references (swap_remove xs i d))
   removed k i d e = remove_first k xs i d (within k i e) (earlier k i e) (is.back k i e).1
 
--- after an order was put last
+-- after an order was appended
 pub put_placed : (f g : ℕ → Option ℕ) (ks : List ℕ) (k : ℕ) → IsPlaced f ks → f k ≡ None → ((q : ℕ) → g q ≡ cond (eqb k q) (Some (length ks)) (f q)) → IsPlaced g (ks ++ k ∷ [])
 put_placed f g ks k is new puts = record {
   leads = λ i h. elim (cases_lt i (length ks)) [
@@ -181,7 +181,7 @@ put_placed f g ks k is new puts = record {
     at_end [] k = refl
     at_end (j ∷ ks) k = at_end ks k
 
--- after an order was taken out, and the last came into its place
+-- after an order was removed, and the last one moved to its place
 module _ (f g : ℕ → Option ℕ) (ks us : List ℕ) (k i : ℕ) (is : IsPlaced f ks) (there : f k ≡ Some i) (taken : (q : ℕ) → g q ≡ cond (eqb k q) None (f q)) (short : length us + 1 ≡ length ks)
     (others : (j : ℕ) → j ≢ i → j + 1 < length ks → get_or us j 0 ≡ get_or ks j 0) where
   one_key : (a b : ℕ) → a < length ks → b < length ks → get_or ks a 0 ≡ get_or ks b 0 → a ≡ b
@@ -193,7 +193,7 @@ module _ (f g : ℕ → Option ℕ) (ks us : List ℕ) (k i : ℕ) (is : IsPlace
   place_within : i < length ks
   place_within = (is.back k i there).0
 
-  -- the other keys lead where they did
+  -- the other keys lead to the same places
   leads_other : (j : ℕ) → j ≢ i → j < length ks → g (get_or ks j 0) ≡ Some j
   leads_other j ne h = taken (get_or ks j 0)
       ∙ ap (λ b. cond b None (f (get_or ks j 0))) (other_number k (get_or ks j 0) (λ s. ne (one_key j i h place_within (sym s ∙ sym key_here)))) ∙ is.leads j h
@@ -237,7 +237,7 @@ module _ (f g : ℕ → Option ℕ) (ks us : List ℕ) (k i : ℕ) (is : IsPlace
       less_than : (j : ℕ) → j ≢ length ks - 1 → j < length ks → j < length us
       less_than j ne l = elim (cases_lt j (length us)) [ inl below ↦ below | inr above ↦ absurd (ne (omega arith)) ]
 
--- an order written in place of another of its reference leaves the references
+-- replacing an order by another one with the same reference does not change the references
 pub same_references : (xs : List Arrived) (i : ℕ) (y : Arrived) → i < length xs → get_or (references_of xs) i 0 ≡ reference_of y → references_of (set xs i y) ≡ references_of xs
 same_references [] i y h e = refl
 same_references (x ∷ xs) zero y h e = ap (λ n. n ∷ references_of xs) (sym e)
@@ -314,7 +314,7 @@ module _ (f g : Links) (xs us : List Arrived) (k i : ℕ) (gone : Arrived) (is :
       few = fewer;
     }
 
--- after an order was written in place of another reference's
+-- after an order replaced one with another reference
 pub swap_placed : (f g : ℕ → Option ℕ) (ks : List ℕ) (old new i : ℕ) → IsPlaced f ks → f old ≡ Some i → f new ≡ None
     → ((q : ℕ) → g q ≡ cond (eqb old q) None (cond (eqb new q) (Some i) (f q))) → IsPlaced g (set ks i new)
 swap_placed f g ks old new i is there fresh swaps = record {
@@ -375,7 +375,7 @@ pub swapped : (f : ℕ → Option ℕ) (xs : List Arrived) → IsPlaced f (refer
     → IsPermutation ((reference_of y, y) ∷ remove_entry (eqb k) (under_references xs)) (under_references (set xs i y))
 swapped f xs is k i y e = swap_first k xs i y (within f xs is k i e) (earlier f xs is k i e) (is.back k i e).1
 
--- where the new one was put there too, the old one is led to still
+-- after the new key was inserted, the old key still leads to its place
 pub led_still : (f g : ℕ → Option ℕ) (old new i : ℕ) → f old ≡ Some i → ((q : ℕ) → g q ≡ cond (eqb new q) (Some i) (f q)) → g old ≡ Some i
 led_still f g old new i there puts =
     by_test (eqb new old)

@@ -1,4 +1,4 @@
--- A new order added, and the one that it replaces taken out.
+-- Adding a new order, and removing the one that it replaces.
 use Rattle.std.proofs.Common.{◌≡◌, ℕ, Bool, true, false, not, List, [], ◌∷◌, ◌++◌, find, Some, None, IsSome, refl, sym, ap, ◌∙◌, subst}
 use Rattle.std.proofs.lemmas.List.Elements.{filter-append}
 use Rattle.itch_book.specs.declared.order.Order.{Order}
@@ -19,7 +19,7 @@ module _ (original reference shares price : ℕ) (xs : List Order) (x : Order) (
   abbrev pub substitute : Order
   substitute = record x { reference = reference; shares = shares; price = price }
 
-  -- the original is there still
+  -- the original is still there
   pub still_there : IsSome (get (lay (added substitute xs)) original)
   still_there =
       let fit : AllFit (added substitute xs) = All-append_rec (λ y. fits y ≡ true) xs (substitute ∷ []) (live_fit xs book.live) ((All-found_rec IsLive (has_reference original) xs x book.live found).1, tt) in

@@ -1,4 +1,4 @@
--- Lists in which each element is related to all after it.
+-- Lists in which each element is related to all elements after it.
 use Rattle.std.proofs.Common.{◌≡◌, ℕ, zero, suc, ◌≤◌, ◌<◌, ◌==◌, Bool, true, false, cond, List, [], ◌∷◌, length, filter, slice_get, Some, IsPermutation, ◌⊎◌, ◌↔◌, inl, inr, refl, sym, ap, ◌∙◌, subst, arith}
 use Rattle.std.specs.List.{AllByRecursion}
 use Rattle.std.specs.Cmp.{IsStrictWeakOrder}
@@ -34,7 +34,7 @@ at_place P [] j y h e = absurd (let no_one : ⊥ = cc in no_one)
 at_place P (x ∷ xs) zero y h e = let this : x ≡ y = cc in subst P this h.0
 at_place P (x ∷ xs) (suc j) y h e = at_place P xs j y h.1 e
 
--- between places and recursion
+-- from positions to recursion
 pub Rises-from_places : {A : Type 0} (R : A → A → Type 0) (xs : List A) → ((i j : ℕ) (x y : A) → slice_get xs i ≡ Some x → slice_get xs j ≡ Some y → i < j → R x y) → Rises R xs
 Rises-from_places R [] h = tt
 Rises-from_places R (x ∷ xs) h =
@@ -46,7 +46,7 @@ places_from_Rises R (z ∷ zs) h i zero x y e f lt = absurd (omega arith)
 places_from_Rises R (z ∷ zs) h zero (suc j) x y e f lt = let this : z ≡ x = cc in subst (λ w. R w y) this (at_place (R z) zs j y h.0 f)
 places_from_Rises R (z ∷ zs) h (suc i) (suc j) x y e f lt = places_from_Rises R zs h.1 i j x y e f (omega arith)
 
--- one place is below another if and only if its element is related to the other's
+-- one position is below another if and only if its element is related to the other's element
 pub places_exactly : {A : Type 0} (R : A → A → Type 0) → ((x y : A) → R x y → R y x → ⊥) → (xs : List A) → Rises R xs
     → (i j : ℕ) (x y : A) → slice_get xs i ≡ Some x → slice_get xs j ≡ Some y → (i < j) ↔ R x y
 places_exactly R one_way xs h i j x y e f = (
@@ -58,7 +58,7 @@ places_exactly R one_way xs h i j x y e f = (
   ],
 )
 
--- a list in which each number stands once, and that rises, is determined by what it has
+-- a list of this kind with distinct numbers is determined by its elements
 pub Rises-same : {A : Type 0} (R : A → A → Type 0) (key : A → ℕ) → ((x y : A) → R x y → R y x → ⊥) → (xs ys : List A) → Rises R xs → Rises R ys
     → ((k : ℕ) → filter (λ x. key x == k) xs ≡ filter (λ x. key x == k) ys) → xs ≡ ys
 Rises-same R key one_way [] [] h k same = refl
@@ -90,7 +90,7 @@ Rises-same R key one_way (x ∷ xs) (y ∷ ys) h k same =
     let xy = subst (AllByRecursion (R x)) following_x (All-filter_rec (R x) (λ z. key z == key y) xs h.0) in
     absurd (one_way x y xy.0 yx.0))
 
--- a stable sort: what is after another is so by the comparison, or ties and came later
+-- a stable sort: an element after another one is so by the comparison, or ties with it and came later
 abbrev pub Stably : {A : Type 0} → (A → A → Bool) → (A → A → Type 0) → A → A → Type 0
 Stably before E x y = (before x y ≡ true) ⊎ ((before x y ≡ false) × (before y x ≡ false) × E x y)
 
@@ -111,7 +111,7 @@ module _ {A : Type 0} (before : A → A → Bool) (o : IsStrictWeakOrder before)
   Rises-in_order [] h = tt
   Rises-in_order (x ∷ xs) h = Rises-earlier_in x (in_order before xs) (IsInOrder-in_order before o xs) (Rises-in_order xs h.1) (All-in_order before (E x) xs h.0)
 
--- a sort has each element as often
+-- sorting keeps the number of occurrences of each element
 IsPermutation-earlier_in : {A : Type 0} (before : A → A → Bool) (x : A) (ys : List A) → IsPermutation (x ∷ ys) (earlier_in before x ys)
 IsPermutation-earlier_in before x [] = IsPermutation-refl (x ∷ [])
 IsPermutation-earlier_in before x (y ∷ ys) =
@@ -153,7 +153,7 @@ only_one b [] h len = absurd (omega arith)
 only_one b (x ∷ []) h len = ap (λ z. z ∷ []) h.0
 only_one b (x ∷ y ∷ ys) h len = absurd (omega arith)
 
--- of two lists with the same elements, a test that one passes at most keeps the same
+-- if at most one element of two lists with the same elements meets a condition, both filtered lists are equal
 pub short_same : {A : Type 0} (p : A → Bool) (xs ys : List A) → IsPermutation xs ys → length (filter p xs) ≤ 1 → filter p xs ≡ filter p ys
 short_same p xs ys same short = by_kept (filter p xs) refl
   where

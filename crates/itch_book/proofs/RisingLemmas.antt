@@ -1,4 +1,4 @@
--- One line of levels: where a price stands, and what a change leaves.
+-- One line of levels: the position of a price, and the effect of a change.
 use Rattle.std.proofs.Common.{◌≡◌, ℕ, zero, suc, ◌≤◌, ◌<◌, true, false, not, cond, eqb, List, [], ◌∷◌, length, get_or, insert, remove, Option, Some, None, IsSome, option_map, refl, sym, ap, ◌∙◌, subst, arith, one-add, inl, inr}
 use Rattle.std.specs.List.{AllByRecursion, position_or_len, slice_get}
 use Rattle.std.specs.List.Sorted.{IsPartitionedBy, IsPartitionPoint}
@@ -15,7 +15,7 @@ use Rattle.itch_book.specs.Indexed.{IsNextOr}
 use Rattle.itch_book.specs.Near.{queue_in, IsRising}
 use Rattle.itch_book.proofs.Lists.{by_test, All-weaker_rec}
 
--- a better price is another one
+-- a better price is a different price
 pub better_apart : (s : Side) (p q : ℕ) → is_better s p q ≡ true → eqb p q ≡ false
 better_apart Buy p q h = grind (arith, nat_tests)
 better_apart Sell p q h = grind (arith, nat_tests)
@@ -32,7 +32,7 @@ pub better_chain : (s : Side) (p q r : ℕ) → is_better s p q ≡ true → is_
 better_chain Buy p q r h k = grind (arith, nat_tests)
 better_chain Sell p q r h k = grind (arith, nat_tests)
 
--- a price that is not better is worse, or the same
+-- a price that is not better is worse or equal
 pub better_else : (s : Side) (p q : ℕ) → is_better s p q ≡ false → eqb p q ≡ false → is_better s q p ≡ true
 better_else Buy p q h k = grind (arith, nat_tests)
 better_else Sell p q h k = grind (arith, nat_tests)
@@ -49,7 +49,7 @@ flips p q = grind (arith, nat_tests)
 none_some : {X : Type 0} {P : Type 0} {x : X} → None ≡ Some x → P
 none_some h = absurd (let no_one : ⊥ = cc in no_one)
 
--- a price that is worse than all has no queue
+-- a price that is worse than all levels has no queue
 pub all_better : (s : Side) (p : ℕ) (xs : List Level) → AllByRecursion (λ (y : Level). is_better s y.price p ≡ true) xs → queue_in xs p ≡ None
 all_better s p [] h = refl
 all_better s p (x ∷ xs) h = let e = flips p x.price ∙ better_apart s x.price p h.0 in simp e (all_better s p xs h.1)
@@ -76,7 +76,7 @@ parted s p xs h i j d le within e = elim (cases_eq i j) [
   | inr differ ↦ better_chain s p (get_or xs j d).price (get_or xs i d).price e (places_better s xs i j d h (omega arith) within)
 ]
 
--- and where they end is the place of the price
+-- and the position of the price is where they end
 pub place_is : (s : Side) (p : ℕ) (xs : List Level) (i : ℕ) (d : Level) → i ≤ length xs → IsPartitionPoint (λ (x : Level). is_better s p x.price ≡ true) (λ (x : Level). is_better s p x.price ≡ false) xs i
     → i ≡ position_or_len (λ (x : Level). not (is_better s p x.price)) xs
 place_is s p xs i d within point =
@@ -118,7 +118,7 @@ read_past xs i e = let le : length xs ≤ i = grind (arith, nat_tests) in slice_
 pub within : (xs : List Level) (i : ℕ) → true ≡ ltb i (length xs) → i < length xs
 within xs i e = grind (arith, nat_tests)
 
--- a level put in at its place
+-- inserting a level at its position
 put_all : (s : Side) (q : ℕ) (xs : List Level) (i : ℕ) (x : Level) → is_better s x.price q ≡ true → AllByRecursion (λ (y : Level). is_better s y.price q ≡ true) xs → AllByRecursion (λ (y : Level). is_better s y.price q ≡ true) (insert xs i x)
 put_all s q [] zero x h k = (h, tt)
 put_all s q [] (suc i) x h k = (h, tt)
@@ -154,7 +154,7 @@ put_queues x (y ∷ ys) (suc i) new p =
     (λ e. let f : eqb x.price p ≡ false = subst (λ q. eqb x.price q ≡ false) (sym (same_price p y.price e)) apart.0 in simp (e, f) refl)
     (λ e. simp e rest)
 
--- a level taken out of its place
+-- removing a level from its position
 cut_all : (P : Level → Type 0) (xs : List Level) (i : ℕ) → AllByRecursion P xs → AllByRecursion P (remove xs i)
 cut_all P [] zero h = tt
 cut_all P [] (suc i) h = tt
@@ -192,7 +192,7 @@ abbrev best_in : Side → Option ℕ → List Level → Option Level
 best_in s last [] = None
 best_in s last (x ∷ xs) = cond (is_worse s last x.price) (Some (last_or (best_in s last xs) x)) None
 
--- once one is no longer worse, none after it is
+-- if a level is not worse than the last price, neither are those after it
 stays : (s : Side) (last : Option ℕ) (p q : ℕ) → is_worse s last p ≡ false → is_better s q p ≡ true → is_worse s last q ≡ false
 stays s None p q h k = absurd (false≢true (sym h))
 stays s (Some l) p q h k = by_test (is_better s l q) (λ e. absurd (false≢true (sym h ∙ better_chain s l q p e k))) (λ e. e)
@@ -249,7 +249,7 @@ best_next s last (x ∷ xs) h =
             (λ f. subst (λ n. is_better s n x.price ≡ true) (sym (same_price p z.price f)) all.0)
             (λ f. better_found zs p q all.1 (simp f at found))
 
--- it stands before the end
+-- its position is before the end
 best_none : (s : Side) (last : Option ℕ) (xs : List Level) → position_or_len (λ (x : Level). not (is_worse s last x.price)) xs ≡ 0 → best_in s last xs ≡ None
 best_none s last [] end = refl
 best_none s last (x ∷ xs) end = by_test (is_worse s last x.price)
@@ -274,12 +274,12 @@ next_none s last xs h end = subst (λ o. IsNextOr (queue_in xs) s last (option_m
 pub next_some : (s : Side) (last : Option ℕ) (xs : List Level) (n : ℕ) (d : Level) → IsRising s xs → position_or_len (λ (x : Level). not (is_worse s last x.price)) xs ≡ suc n → IsNextOr (queue_in xs) s last (Some ((get_or xs n d).price, (get_or xs n d).queue))
 next_some s last xs n d h end = subst (λ o. IsNextOr (queue_in xs) s last (option_map pair_of o)) (best_some s last xs n d end) (best_next s last xs h)
 
--- with no last price all are worse
+-- without a last price, all levels count as worse
 pub all_worse : (s : Side) (xs : List Level) → length xs ≡ position_or_len (λ (x : Level). not (is_worse s None x.price)) xs
 all_worse s [] = refl
 all_worse s (x ∷ xs) = let rest = all_worse s xs in omega (arith, rest)
 
--- a price with no queue that is taken out
+-- removing a price without a queue
 pub none_cut : (xs : List Level) (price : ℕ) → queue_in xs price ≡ None → (p : ℕ) → queue_in xs p ≡ cond (eqb price p) None (queue_in xs p)
 none_cut xs price none p = by_test (eqb price p)
     (λ e. subst (λ n. queue_in xs n ≡ cond (eqb price n) None (queue_in xs n)) (same_price price p e) (none ∙ (let own = own_price price in simp own refl)))

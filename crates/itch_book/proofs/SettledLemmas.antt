@@ -1,4 +1,4 @@
--- The orders by arrival in snapshot order, and what each change does to that list.
+-- The orders by arrival in snapshot order, and the effect of each change on that list.
 use Rattle.std.proofs.Common.{◌≡◌, ℕ, suc, ◌≤◌, ◌<◌, ◌+◌, ◌==◌, nat_lt, Bool, true, false, cond, not, eqb, ◌&&◌, ◌||◌, List, [], ◌∷◌, ◌++◌, map, length, filter, find, get_or, Option, Some, None, option_map, refl, sym, ap, ap₂, ◌∙◌, ◌-◌, subst, arith}
 use Rattle.std.specs.List.{AllByRecursion}
 use Rattle.std.specs.List.Sorted.{IsPermutation, IsSortedBy}
@@ -21,7 +21,7 @@ use Rattle.itch_book.proofs.Levels.{ties, in_order_same}
 use Rattle.itch_book.proofs.Distinct.{find_first, own_reference, head_distinct, tail_distinct}
 use Rattle.itch_book.proofs.OrderLemmas.{stands_order}
 
--- a place, and then a number, compare as numbers do
+-- comparing a position, and then a number, is like comparing numbers
 module _ {A : Type 0} (before : A → A → Bool) (o : IsStrictWeakOrder before) (n : A → ℕ) where
   abbrev pub then_by : A → A → Bool
   then_by x y = before x y || (not (before y x) && nat_lt (n x) (n y))
@@ -54,7 +54,7 @@ module _ {A : Type 0} (before : A → A → Bool) (o : IsStrictWeakOrder before)
   pub then_order : IsStrictWeakOrder then_by
   then_order = record { one_way = then_one_way; chain = then_chain }
 
-  -- what ties has one number
+  -- elements that tie have the same number
   pub then_ties : (z x : A) → ties then_by z x ≡ true → (n x == n z) ≡ true
   then_ties z x h =
       by_test (before z x)
@@ -102,7 +102,7 @@ module _ {X : Type 0} (p : X → Bool) where
   pub kept_length : (xs ys : List X) → IsPermutation xs ys → length (filter p ys) ≡ length (filter p xs)
   kept_length xs ys s = length-filter p ys ∙ sum_by-IsPermutation (λ x. cond (p x) 1 0) xs ys s ∙ sym (length-filter p xs)
 
-  -- one element at most that passes is found in whatever order
+  -- if at most one element meets a condition, it is found in any order of the list
   pub only_one : (xs ys : List X) → IsPermutation xs ys → length (filter p xs) ≤ 1 → filter p xs ≡ filter p ys
   only_one xs ys s h = by (filter p xs) refl
     where
@@ -120,7 +120,7 @@ filter_apart p xs apart n =
     let fewer = length_filter_le p (filter (came_at n) xs) in
     let one = apart n in omega arith
 
--- the same orders in whatever order are one list in snapshot order
+-- the same orders in any order have the same list in snapshot order
 pub shuffled : (xs ys : List Arrived) → IsPermutation xs ys → IsApart xs → in_order comes_before xs ≡ in_order comes_before ys
 shuffled xs ys s apart =
     in_order_same comes_before arrival_order xs ys (λ z.
@@ -134,7 +134,7 @@ shuffled_apart xs ys s apart n = let len = kept_length (came_at n) xs ys s in le
 abbrev pub holds : ℕ → Arrived → Bool
 holds r x = has_reference r x.order
 
--- as many orders of a reference as there are in the list
+-- the number of orders with a reference is the same as in the list
 pub holds_length : (xs : List Arrived) (r : ℕ) → length (filter (has_reference r) (settled xs)) ≡ length (filter (holds r) xs)
 holds_length xs r =
     ap length (filter-map (has_reference r) (holds r) its_order (λ x. refl) (in_order comes_before xs))
@@ -179,7 +179,7 @@ found_order r (e ∷ es) k =
 pub found_settled : (r next : ℕ) (es : List (ℕ × Arrived)) → IsArrived es next → option_map its_order (lookup (eqb r) es) ≡ get (settled (values_of es)) r
 found_settled r next es is = found_order r es is.keyed ∙ sym (get_settled (values_of es) r is.book.distinct)
 
--- what is left where nothing has the reference
+-- the remaining orders if none has the reference
 none_all : (r : ℕ) (xs : List Arrived) → get (map its_order xs) r ≡ None → filter (λ x. not (holds r x)) xs ≡ xs
 none_all r [] h = refl
 none_all r (x ∷ xs) h =
@@ -202,7 +202,7 @@ pub cut_keyed : (r : ℕ) (es : List (ℕ × Arrived)) → Keyed es → Keyed (r
 cut_keyed r [] k = tt
 cut_keyed r (e ∷ es) k = by_test (eqb r e.0) (λ f. simp f (k.1)) (λ f. simp f ((k.0, cut_keyed r es k.1)))
 
--- shares taken from the order of a reference
+-- shares taken from the order with a reference
 abbrev pub lessen : ℕ → ℕ → Arrived → Arrived
 lessen r n x = record x { order = less r n x.order }
 
@@ -237,7 +237,7 @@ written_keyed r n (e ∷ es) x k l =
     simp f ((subst (λ (y : Arrived). e.0 ≡ y.order.reference) this k.0, k.1)))
     (λ f. let there : lookup (eqb r) es ≡ Some x = simp f at l in simp f ((k.0, written_keyed r n es x k.1 there)))
 
--- one that came after all others goes behind those of its price
+-- an order that arrived after all others goes behind those at its price
 later_alike : (x : Arrived) (ys : List Arrived) → AllByRecursion (λ y. y.arrival < x.arrival) ys → map its_order (earlier_in comes_before x ys) ≡ later_in stands_before x.order (map its_order ys)
 later_alike x [] h = refl
 later_alike x (y ∷ ys) h =
@@ -271,7 +271,7 @@ less_view r n xs =
     both [] = refl
     both (y ∷ ys) = ap (λ t. less r n y.order ∷ t) (both ys)
 
--- what is sorted is in order
+-- a sorted list is in order
 sorted_tail : (x : Arrived) (xs : List Arrived) → IsSortedBy comes_before (x ∷ xs) → IsSortedBy comes_before xs
 sorted_tail x xs up k d a b =
     subst (λ n. comes_before (get_or (x ∷ xs) n d) (get_or xs k d) ≡ false) {x = suc k + 1} {y = suc (k + 1)} (omega arith) (up (suc k) d (omega arith) (omega arith))
@@ -284,7 +284,7 @@ sorted_is (x ∷ xs) up =
 pub sorted_line : (xs ys : List Arrived) → IsApart xs → IsPermutation xs ys → IsSortedBy comes_before ys → ys ≡ in_order comes_before xs
 sorted_line xs ys apart s up = sym (shuffled xs ys s apart ∙ in_order-sorted comes_before ys (sorted_is ys up))
 
--- the first that passes, with one more that may stand anywhere
+-- the first match, with one more element at any position
 module _ {X : Type 0} (before : X → X → Bool) (o : IsStrictWeakOrder before) (p : X → Bool) where
   abbrev pub first_of : X → Option X → Option X
   first_of x None = Some x
@@ -307,6 +307,6 @@ module _ {X : Type 0} (before : X → X → Bool) (o : IsStrictWeakOrder before)
       (λ g. by_test (p l) (λ f. simp (e, f, g) refl) (λ f. simp (e, f, g) refl))
       (λ g. simp (e, g) (find_later l ys h.1)))
 
-  -- one more to the left-hand part
+  -- one more element in the left part
   pub find_push : (xs : List X) (l : X) → find p (in_order before (xs ++ l ∷ [])) ≡ cond (p l) (first_of l (find p (in_order before xs))) (find p (in_order before xs))
   find_push xs l = ap (find p) (in_order-push before o xs l) ∙ find_later l (in_order before xs) (IsInOrder-in_order before o xs)

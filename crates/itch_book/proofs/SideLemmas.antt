@@ -1,4 +1,4 @@
--- Both sides of the prices, seen as the queues under their places.
+-- Both sides of the prices, as queues by place.
 use Rattle.std.proofs.Common.{◌≡◌, ℕ, cond, List, Option, sym, ap, ◌∙◌, subst}
 use Rattle.std.specs.BTreeMap.{is_at}
 use Rattle.itch_codec.specs.declared.orders.Side.{Side}
@@ -8,7 +8,7 @@ use Rattle.itch_book.specs.Indexed.{Place, place_cmp, queue_at, queue_of_side, i
 use Rattle.itch_book.specs.Near.{levels_in, queue_among}
 use Rattle.itch_book.proofs.NearLemmas.{on_levels}
 
--- one side's queues, whichever side it is
+-- the queues of either side
 module _ (ls : List (List Level)) (far bids asks : List (Place × ℕ)) (s : Side) where
   pub on_bids : s ≡ Buy → levels_in ls far ≡ bids → (l p : ℕ) → queue_of_side s bids asks l p ≡ queue_among ls far l p
   on_bids is seen l p = ap (λ (t : Side). queue_of_side t bids asks l p) is ∙ ap (λ (es : List (Place × ℕ)). queue_at es l p) (sym seen) ∙ on_levels ls far l p

@@ -1,4 +1,4 @@
--- What each change of the queues leaves sound.
+-- The queues are valid after each change.
 use Rattle.std.proofs.Common.{◌≡◌, ℕ, ◌^◌, ◌<◌, ◌≤◌, true, false, eqb, List, [], ◌∷◌, ◌++◌, length, Option, Some, None, refl, sym, ap, ◌∙◌, subst, arith, length-append}
 use Rattle.std.specs.List.{IsDistinct, list_any}
 use Rattle.std.proofs.lemmas.Bool.{false≢true}
@@ -29,7 +29,7 @@ without_parts k xs ys d =
     let mid : without_key k (k ∷ ys) ≡ ys = simp e (without_none k ys right) in
     without-append k xs (k ∷ ys) ∙ ap (λ t. t ++ without_key k (k ∷ ys)) (without_none k xs left) ∙ ap (λ t. xs ++ t) mid
 
--- what a change of links keeps of a node
+-- the properties of a node that do not depend on its links
 abbrev pub kept_of : Option Node → Option (ℕ × Order)
 kept_of None = None
 kept_of (Some x) = Some (x.queue, x.order)
@@ -40,7 +40,7 @@ node_of (Some y) q x h =
     let e : (y.queue, y.order) ≡ (q, x) = inj h in
     (y, refl, ap (λ (p : ℕ × Order). p.0) e, ap (λ (p : ℕ × Order). p.1) e)
 
--- a node of another queue is none of this one's
+-- a node of another queue is not a node of this one
 spare : (f : Nodes) (q : ℕ) (ks : List ℕ) (p j : ℕ) (y : Node) → IsLinked f q None ks None → In p ks → f j ≡ Some y → eqb q y.queue ≡ false → eqb p j ≡ false
 spare f q ks p j y h i here e =
     by_test (eqb p j)
@@ -59,7 +59,7 @@ skip_before : (f : Nodes) (p t : Option ℕ) (j : ℕ) → ((k : ℕ) → p ≡ 
 skip_before f None t j h = refl
 skip_before f (Some k) t j h = let e = h k refl in simp e refl
 
--- the key of a node is none that has another queue's node
+-- the key of a node differs from those of other queues' nodes
 not_key : (f : Nodes) (k : ℕ) (x : Node) (j : ℕ) (y : Node) → f k ≡ Some x → f j ≡ Some y → eqb x.queue y.queue ≡ false → eqb k j ≡ false
 not_key f k x j y there here e =
     by_test (eqb k j)
@@ -81,7 +81,7 @@ home_in f heads k x q head sound here is there =
     (subst (λ h. In k (walked f h)) same home.member, home.small)
 
 module _ (f : Nodes) (heads : ℕ → Option Head) (sound : IsSound f heads) where
-  -- a node taken out
+  -- a node was removed
   pub sound_unlinked : (k : ℕ) (x : Node) (head : Head) (heads' : ℕ → Option Head) → f k ≡ Some x → heads x.queue ≡ Some head
       → ((p : ℕ) → heads' p ≡ at_key x.queue (Some (unlinked_head x head)) heads p)
       → IsStep f (unlinked k x f) heads heads' x.queue (unlinked_head x head) (without_key k (walked f head))
@@ -151,7 +151,7 @@ module _ (f : Nodes) (heads : ℕ → Option Head) (sound : IsSound f heads) whe
             subst (λ (o : Order). o.shares < 2 ^ 32) w.3 home.1,
           )
 
-  -- a node put last
+  -- a node was appended
   pub sound_pushed : (k : ℕ) (x : Node) (head : Head) (heads' : ℕ → Option Head) → f k ≡ None → heads x.queue ≡ Some head → x.before ≡ head.last → x.after ≡ None → x.order.shares < 2 ^ 32
       → ((p : ℕ) → heads' p ≡ at_key x.queue (Some (pushed_head k x head)) heads p)
       → IsStep f (pushed k x f) heads heads' x.queue (pushed_head k x head) (walked f head ++ k ∷ [])
@@ -207,7 +207,7 @@ module _ (f : Nodes) (heads : ℕ → Option Head) (sound : IsSound f heads) whe
       absurd (false≢true (sym e ∙ subst (λ t. eqb x.queue t ≡ true) is (eqb_itself x.queue))))
       (λ n. n))
 
-  -- the totals of a queue have those of a node of it
+  -- the totals of a queue include those of each of its nodes
   pub has_one : (k : ℕ) (x : Node) (head : Head) → f k ≡ Some x → heads x.queue ≡ Some head → (1 ≤ head.orders) × (x.order.shares ≤ head.shares)
   has_one k x head here there =
       let queue = sound.queues x.queue head there in

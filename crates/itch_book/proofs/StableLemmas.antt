@@ -1,4 +1,4 @@
--- Lists in order by a comparison that compares any two values, where elements that tie keep their order.
+-- Lists sorted by a comparison of any two values, in which elements that tie keep their order.
 use Rattle.std.proofs.Common.{◌≡◌, ◌≤◌, ◌+◌, Bool, true, false, cond, ◌||◌, List, [], ◌∷◌, ◌++◌, map, length, filter, refl, sym, ap, ◌∙◌, arith}
 use Rattle.std.specs.List.{AllByRecursion}
 use Rattle.std.specs.Cmp.{IsStrictWeakOrder}
@@ -6,12 +6,12 @@ use Rattle.std.proofs.lemmas.Bool.{cond_both, false≢true}
 use Rattle.itch_book.specs.StableLists.{earlier_in, in_order, IsInOrder}
 use Rattle.itch_book.proofs.Lists.{by_test, All-weaker_rec, All-filter_rec, passes_filter}
 
--- o, which came later than all of the list, goes in front of the first that it is before
+-- o, which came later than all elements of the list, is inserted before the first element that it precedes
 abbrev pub later_in : {A : Type 0} → (A → A → Bool) → A → List A → List A
 later_in before o [] = o ∷ []
 later_in before o (y ∷ ys) = cond (before o y) (o ∷ y ∷ ys) (y ∷ later_in before o ys)
 
--- the facts for which the comparison need not be an order
+-- the properties that hold for any comparison
 module _ {A : Type 0} (before : A → A → Bool) where
   pub All-earlier_in : (P : A → Type 0) (x : A) (ys : List A) → P x → AllByRecursion P ys → AllByRecursion P (earlier_in before x ys)
   All-earlier_in P x [] h k = (h, tt)
@@ -32,29 +32,29 @@ module _ {A : Type 0} (before : A → A → Bool) where
   length-in_order [] = refl
   length-in_order (x ∷ xs) = let rest = length-in_order xs in omega (arith, length-earlier_in x (in_order before xs))
 
-  -- in front of a list of which nothing is before x
+  -- in front of a list with no element before x
   pub earlier_in-front : (x : A) (ys : List A) → AllByRecursion (λ y. before y x ≡ false) ys → earlier_in before x ys ≡ x ∷ ys
   earlier_in-front x [] h = refl
   earlier_in-front x (y ∷ ys) h = simp (h.0) refl
 
-  -- a list in order stays as it is
+  -- a sorted list does not change
   pub in_order-sorted : (xs : List A) → IsInOrder before xs → in_order before xs ≡ xs
   in_order-sorted [] h = refl
   in_order-sorted (x ∷ xs) h = ap (earlier_in before x) (in_order-sorted xs h.1) ∙ earlier_in-front x xs h.0
 
-  -- a list of one element at most is in order
+  -- a list of at most one element is sorted
   pub in_order-short : (xs : List A) → length xs ≤ 1 → in_order before xs ≡ xs
   in_order-short [] h = refl
   in_order-short (x ∷ []) h = refl
   in_order-short (x ∷ y ∷ ys) h = absurd (omega arith)
 
-  -- into the left part, where nothing of the right part is before x
+  -- insertion into the left part, if no element of the right part is before x
   pub earlier_in-left : (x : A) (ys zs : List A) → AllByRecursion (λ z. before z x ≡ false) zs → earlier_in before x (ys ++ zs) ≡ earlier_in before x ys ++ zs
   earlier_in-left x [] zs h = earlier_in-front x zs h
   earlier_in-left x (y ∷ ys) zs h =
       by_test (before y x) (λ e. simp e (ap (λ t. y ∷ t) (earlier_in-left x ys zs h))) (λ e. simp e refl)
 
-  -- into the right part, where all of the left part is before x
+  -- insertion into the right part, if all elements of the left part are before x
   pub earlier_in-right : (x : A) (ys zs : List A) → AllByRecursion (λ y. before y x ≡ true) ys → earlier_in before x (ys ++ zs) ≡ ys ++ earlier_in before x zs
   earlier_in-right x [] zs h = refl
   earlier_in-right x (y ∷ ys) zs h = simp (h.0) (ap (λ t. y ∷ t) (earlier_in-right x ys zs h.1))
@@ -66,7 +66,7 @@ module _ {A : Type 0} (before : A → A → Bool) where
       (λ e. (All-filter_rec (λ y. before y x ≡ false) p xs h.0, IsInOrder-filter p xs h.1))
       (λ e. IsInOrder-filter p xs h.1)
 
--- a change that the comparison does not see
+-- a change that does not affect the comparison
 earlier_in-map : {A B : Type 0} (before : A → A → Bool) (other : B → B → Bool) (f : A → B) → ((x y : A) → other (f x) (f y) ≡ before x y) → (x : A) (ys : List A) → map f (earlier_in before x ys) ≡ earlier_in other (f x) (map f ys)
 earlier_in-map before other f same x [] = refl
 earlier_in-map before other f same x (y ∷ ys) =
@@ -99,7 +99,7 @@ module _ {A : Type 0} (before : A → A → Bool) (o : IsStrictWeakOrder before)
   pub not_itself : (x : A) → before x x ≡ false
   not_itself x = by_test (before x x) (λ e. o.one_way x x e) (λ e. e)
 
-  -- what is before x is before all that x is not after
+  -- an element before x is before every element that x is not after
   pub before_chain : (x y z : A) → before x y ≡ true → before z y ≡ false → before x z ≡ true
   before_chain x y z h k = by_test (before x z) (λ e. e) (λ e. absurd (false≢true (sym (o.chain x z y e k) ∙ h)))
 
@@ -136,7 +136,7 @@ module _ {A : Type 0} (before : A → A → Bool) (o : IsStrictWeakOrder before)
       (λ f. simp (e, f) (sym (earlier_in-front before x (filter p (y ∷ ys)) none)))
       (λ f. simp (e, f) refl))
 
-  -- a filter of the list in order is the filter in order
+  -- filtering the sorted list gives the sorted filtered list
   pub in_order-filter : (p : A → Bool) (xs : List A) → filter p (in_order before xs) ≡ in_order before (filter p xs)
   in_order-filter p [] = refl
   in_order-filter p (x ∷ xs) =
@@ -144,7 +144,7 @@ module _ {A : Type 0} (before : A → A → Bool) (o : IsStrictWeakOrder before)
       earlier_in-filter p x (in_order before xs) (IsInOrder-in_order xs)
       ∙ by_test (p x) (λ e. simp e (ap (earlier_in before x) rest)) (λ e. simp e rest)
 
-  -- the first and the last to come go to their places in either order
+  -- the first and the last arrival can be inserted in either order
   later_in-earlier_in : (l x : A) (ys : List A) → later_in before l (earlier_in before x ys) ≡ earlier_in before x (later_in before l ys)
   later_in-earlier_in l x [] = refl
   later_in-earlier_in l x (y ∷ ys) =
@@ -157,12 +157,12 @@ module _ {A : Type 0} (before : A → A → Bool) (o : IsStrictWeakOrder before)
       (λ f. let g : before l y ≡ true = before_chain l x y f e in simp (e, f, g) refl)
       (λ f. by_test (before l y) (λ g. simp (e, f, g) refl) (λ g. simp (e, f, g) refl)))
 
-  -- one more that comes last
+  -- one more element that came last
   pub in_order-push : (xs : List A) (l : A) → in_order before (xs ++ l ∷ []) ≡ later_in before l (in_order before xs)
   in_order-push [] l = refl
   in_order-push (x ∷ xs) l = ap (earlier_in before x) (in_order-push xs l) ∙ sym (later_in-earlier_in l x (in_order before xs))
 
-  -- the parts of a list of which one is before the other, each in order
+  -- the parts of a list of which one is before the other, each sorted
   pub in_order-parts : (p q r : A → Bool) → ((x y : A) → p x ≡ true → q y ≡ true → before x y ≡ true) → ((x : A) → r x ≡ (p x || q x))
       → (xs : List A) → in_order before (filter r xs) ≡ in_order before (filter p xs) ++ in_order before (filter q xs)
   in_order-parts p q r apart either [] = refl

@@ -1,4 +1,4 @@
--- What is left of the orders by arrival where a new one comes in place of another.
+-- The orders by arrival when a new order replaces another one.
 use Rattle.std.proofs.Common.{◌≡◌, ℕ, ◌+◌, eqb, List, [], ◌∷◌, Some, None, ap, ◌∙◌}
 use Rattle.std.specs.List.Sorted.{IsPermutation}
 use Rattle.std.specs.Map.{values_of, remove_entry}
@@ -11,7 +11,7 @@ use Rattle.itch_book.proofs.Lists.{by_test}
 use Rattle.itch_book.proofs.BookLemmas.{without-book}
 use Rattle.itch_book.proofs.ArrivedSteps.{arrived_as, put_is, put_arrived, cut_is, cut_arrived}
 
--- a reference that is not there is not there afterwards
+-- a reference that is not in the list is not in it afterwards
 get_left : (r q : ℕ) (os : List Order) → get os q ≡ None → get (without r os) q ≡ None
 get_left r q [] h = h
 get_left r q (y ∷ os) h =

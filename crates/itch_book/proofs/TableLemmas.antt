@@ -27,7 +27,7 @@ module _ (near next : Paged) (far : List (ℕ × ℕ)) (key link : ℕ) (new : o
       (λ e. subst (λ n. lookup (eqb n) far ≡ None) (eqb_is key k e) (no_far (link_at near key) (lookup (eqb key) far) new))
       (λ e. parted k l (sym (ap (λ b. cond b (Some link) (link_at near k)) e) ∙ sym (puts k) ∙ h))
 
--- a new key beyond them
+-- a new key in the hash map
 module _ (near : Paged) (far next : List (ℕ × ℕ)) (key link : ℕ) (new : or_else (link_at near key) (lookup (eqb key) far) ≡ None) (puts : (q : ℕ) → lookup (eqb q) next ≡ cond (eqb key q) (Some link) (lookup (eqb q) far)) where
   nothing_near : (q : ℕ) → eqb key q ≡ true → link_at near q ≡ None
   nothing_near q e = subst (λ n. link_at near n ≡ None) (eqb_is key q e) (no_near (link_at near key) (lookup (eqb key) far) new)
@@ -42,7 +42,7 @@ module _ (near : Paged) (far next : List (ℕ × ℕ)) (key link : ℕ) (new : o
       (λ e. absurd (no_link l (sym (nothing_near k e) ∙ h)))
       (λ e. simp e (parted k l h))
 
--- a key taken out of a page
+-- a key removed from a page
 module _ (near next : Paged) (far : List (ℕ × ℕ)) (key link : ℕ) (parted : IsParted near far) (there : link_at near key ≡ Some link) (gone : (q : ℕ) → link_at next q ≡ update eqb (link_at near) key None q) where
   pub near_gone : (q : ℕ) → or_else (link_at next q) (lookup (eqb q) far) ≡ cond (eqb key q) None (or_else (link_at near q) (lookup (eqb q) far))
   near_gone q = ap (λ o. or_else o (lookup (eqb q) far)) (gone q) ∙ by_test (eqb key q)
@@ -54,7 +54,7 @@ module _ (near next : Paged) (far : List (ℕ × ℕ)) (key link : ℕ) (parted 
       (λ e. absurd (no_link l (sym (gone k ∙ ap (λ b. cond b None (link_at near k)) e) ∙ h)))
       (λ e. parted k l (sym (gone k ∙ ap (λ b. cond b None (link_at near k)) e) ∙ h))
 
--- a key taken out of those beyond
+-- a key removed from the hash map
 module _ (near next : Paged) (far left : List (ℕ × ℕ)) (key : ℕ) (gone : (q : ℕ) → link_at next q ≡ update eqb (link_at near) key None q) (cut : (q : ℕ) → lookup (eqb q) left ≡ cond (eqb key q) None (lookup (eqb q) far)) where
   pub far_gone : (q : ℕ) → or_else (link_at next q) (lookup (eqb q) left) ≡ cond (eqb key q) None (or_else (link_at near q) (lookup (eqb q) far))
   far_gone q = ap₂ or_else (gone q) (cut q) ∙ by_test (eqb key q) (λ e. simp e refl) (λ e. simp e refl)

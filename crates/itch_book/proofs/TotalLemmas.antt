@@ -1,4 +1,4 @@
--- The total of a price, summed over all orders in whatever order.
+-- The total of a price, summed over all orders in any order.
 use Rattle.std.proofs.Common.{◌≡◌, ℕ, List, map, length, filter, refl, sym, ap, ap₂, ◌∙◌}
 use Rattle.std.specs.List.{sum_by}
 use Rattle.std.proofs.lemmas.List.Sorted.{IsPermutation-map, sum_by-IsPermutation, length_permutation}
@@ -13,7 +13,7 @@ use Rattle.itch_book.proofs.StableLemmas.{in_order-filter}
 use Rattle.itch_book.proofs.Rises.{IsPermutation-in_order}
 use Rattle.itch_book.proofs.SettledLemmas.{arrival_order}
 
--- the orders of a price among some, in whatever order
+-- the orders of a price among others, in any order
 abbrev level_of : ℕ → Side → ℕ → List Arrived → List Order
 level_of l s p xs = map its_order (filter (λ x. is_level l s p x.order) xs)
 
@@ -34,7 +34,7 @@ total_is l s p xs =
     (sym (ap shares_in e ∙ sum_by-IsPermutation (λ (x : Order). x.shares) (map its_order ys) (map its_order (in_order comes_before ys)) moved))
     (sym (ap length e ∙ length_permutation (map its_order ys) (map its_order (in_order comes_before ys)) moved))
 
--- the total of orders in whatever order is that of the line
+-- the total over the orders in any order is the total of the line
 pub total_settled : (l : ℕ) (s : Side) (p : ℕ) (xs : List Arrived) → level_total (map its_order xs) l s p ≡ level_total (settled xs) l s p
 total_settled l s p xs =
     ap (λ (ys : List Order). (shares_in ys, length ys)) (filter-map (is_level l s p) (λ x. is_level l s p x.order) its_order (λ x. refl) xs) ∙ total_is l s p xs

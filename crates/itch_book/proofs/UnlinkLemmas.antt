@@ -1,4 +1,4 @@
--- A node taken out of its queue, and one put last.
+-- Removing a node from its queue, and appending one.
 use Rattle.std.proofs.Common.{◌≡◌, ℕ, true, false, eqb, List, [], ◌∷◌, ◌++◌, Option, Some, None, refl, sym, ap, ◌∙◌, subst, append-nil}
 use Rattle.std.specs.List.{AllByRecursion, IsDistinct, list_any}
 use Rattle.std.proofs.lemmas.Bool.{false≢true}
@@ -21,7 +21,7 @@ in_parts j (x ∷ xs) ys i left right =
     in_cases j x (xs ++ ys) i (λ e. left (subst (λ k. In k (x ∷ xs)) (sym e) (in_head x xs)))
     (λ r. in_parts j xs ys r (λ l. left (in_tail j x xs l)) right)
 
--- a key that is in a list stands between two parts of it
+-- a key in a list is between two parts of it
 pub parts_at : (j : ℕ) (ks : List ℕ) → In j ks → (xs ys : List ℕ) × (ks ≡ xs ++ j ∷ ys)
 parts_at j [] i = absurd (false≢true i)
 parts_at j (k ∷ ks) i =
@@ -59,7 +59,7 @@ distinct_without (x ∷ xs) k ys d = (without (λ y. eqb x y ≡ false) xs d.0, 
 pub not_head : (k : ℕ) (ks : List ℕ) → IsDistinct eqb (k ∷ ks) → NotIn k ks
 not_head k ks d = by_test (list_any (eqb k) ks) (λ r. absurd (false≢true (sym (distinct_head k ks d k r) ∙ eqb_itself k))) (λ n. n)
 
--- other keys than that of a change
+-- keys other than the changed one
 pub apart_keys : (k j : ℕ) (ks : List ℕ) → NotIn k ks → In j ks → eqb k j ≡ false
 apart_keys k j ks n i = by_test (eqb k j) (λ e. clash k ks (subst (λ t. In t ks) (sym (eqb_is k j e)) i) n) (λ e. e)
 
@@ -72,7 +72,7 @@ frame_after f q b ks a k t n h = frame f (with_after (Some k) t f) q b ks a (λ 
 frame_before : (f : Nodes) (q : ℕ) (b : Option ℕ) (ks : List ℕ) (a : Option ℕ) (k : ℕ) (t : Option ℕ) → NotIn k ks → IsLinked f q b ks a → IsLinked (with_before (Some k) t f) q b ks a
 frame_before f q b ks a k t n h = frame f (with_before (Some k) t f) q b ks a (λ j i. let e = apart_keys k j ks n i in simp e refl) h
 
--- two linked parts that follow each other once the last of the one and the first of the other name each other
+-- two linked parts that follow each other when the last node of the one and the first node of the other are linked
 bridge_after : (f : Nodes) (q : ℕ) (xs ys : List ℕ) (a : Option ℕ) (t : Option ℕ) → IsDistinct eqb (xs ++ ys)
     → IsLinked f q None xs a → IsLinked (with_after (last_or None xs) t f) q None xs t
 bridge_after f q [] ys a t d h = tt
@@ -98,7 +98,7 @@ keep_before f q xs [] b a t d h = h
 keep_before f q xs (y ∷ ys) b a t d h =
     frame_before f q b xs a y t (by_test (list_any (eqb y) xs) (λ i. clash y (y ∷ ys) (in_head y ys) (apart y xs (y ∷ ys) d i)) (λ n. n)) h
 
--- the links of a queue without a node of it
+-- the links of a queue without one of its nodes
 pub unlinked_linked : (f : Nodes) (q : ℕ) (xs : List ℕ) (k : ℕ) (ys : List ℕ) (x : Node) → IsDistinct eqb (xs ++ k ∷ ys) → IsLinked f q None (xs ++ k ∷ ys) None → f k ≡ Some x
     → IsLinked (unlinked k x f) q None (xs ++ ys) None
 unlinked_linked f q xs k ys x d h here =
@@ -125,7 +125,7 @@ unlinked_linked f q xs k ys x d h here =
     some_same : {y z : Node} → Some y ≡ Some z → y ≡ z
     some_same h = cc
 
--- and with one more, last
+-- and with one more node at the end
 pub pushed_linked : (f : Nodes) (q : ℕ) (ks : List ℕ) (k : ℕ) (x : Node) → IsDistinct eqb ks → IsLinked f q None ks None → f k ≡ None
     → x.queue ≡ q → x.before ≡ last_or None ks → x.after ≡ None → NotIn k ks → IsLinked (pushed k x f) q None (ks ++ k ∷ []) None
 pushed_linked f q ks k x d h vacant queue before after out =

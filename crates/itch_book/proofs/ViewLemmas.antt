@@ -1,4 +1,4 @@
--- The slabs of queues, and what contracts see of them.
+-- The slabs of queues, as contracts describe them.
 use Rattle.std.proofs.Common.{◌≡◌, ℕ, zero, suc, ◌+◌, ◌^◌, ◌<◌, ◌≤◌, true, false, eqb, List, [], ◌∷◌, ◌++◌, map, length, get_or, Option, Some, None, IsSome, option_map, refl, sym, ap, ◌∙◌, subst, arith, length-append}
 use Rattle.std.specs.List.{IsDistinct, list_any}
 use Rattle.std.proofs.lemmas.Bool.{false≢true}
@@ -21,7 +21,7 @@ use Rattle.itch_book.proofs.SoundSteps.{at_apart, sound_unlinked, sound_pushed, 
 pub pointwise : {A B : Type 0} (f g : A → B) → ((x : A) → f x ≡ g x) → f ≡ g
 pointwise f g h = λ i x. h x i
 
--- what a list of slots has at a place, after a function
+-- the slot at a place, after a function was applied
 pub at_mapped : {X Y : Type 0} (G : Option X → Option Y) → G None ≡ None → (slots : List (Option X)) (k : ℕ) → get_or (map G slots) k None ≡ G (get_or slots k None)
 at_mapped G none [] k = sym none
 at_mapped G none (s ∷ rest) zero = refl
@@ -42,7 +42,7 @@ from_updates old new key slot u k =
     other : eqb key k ≡ false → at_key key slot (get old) k ≡ get old k
     other e = simp e refl
 
--- an empty queue opened
+-- opening an empty queue
 pub sound_opened : (f : Nodes) (heads heads' : ℕ → Option Head) (q : ℕ) (head : Head) → IsSound f heads → heads q ≡ None → IsQueue f q head [] → ((p : ℕ) → heads' p ≡ at_key q (Some head) heads p)
     → IsStep f f heads heads' q head []
 sound_opened f heads heads' q head sound vacant queue changed =
@@ -53,7 +53,7 @@ pub empty_queue : (f : Nodes) (q : ℕ) (head : Head) → head.first ≡ None �
 unfolding IsDistinct
 empty_queue f q head first last orders shares = record { linked = tt; distinct = tt; first = first; last = last; orders = orders; shares = shares }
 
--- an empty queue closed
+-- closing an empty queue
 pub sound_closed : (f : Nodes) (heads heads' : ℕ → Option Head) (q : ℕ) (head : Head) → IsSound f heads → heads q ≡ Some head → walked f head ≡ [] → ((p : ℕ) → heads' p ≡ at_key q None heads p) → IsSound f heads'
 sound_closed f heads heads' q head sound there empty changed = record {
   queues = λ p head0 it. by_test (eqb q p)
@@ -72,7 +72,7 @@ sound_closed f heads heads' q head sound there empty changed = record {
     other : (p : ℕ) → eqb q p ≡ false → at_key q None heads p ≡ heads p
     other p e = simp e refl
 
--- the keys that contracts see
+-- the keys that contracts describe
 pub keys_seen : (nodes : Slab Node) (heads : Slab Head) (q : ℕ) → keys_at (queued nodes heads) q ≡ option_map (walked (get nodes)) (get heads q)
 keys_seen nodes heads q = at_mapped (option_map (walked (get nodes))) refl heads.slots q
 
@@ -92,14 +92,14 @@ keys_stepped nodes nodes' heads heads' q head ks step changed p =
     by_head None h = refl
     by_head (Some head0) h = ap Some (h head0 refl)
 
--- the nodes after the three writes that take one out
+-- the nodes after the three writes that remove one
 unlinked_is : (f f1 f2 f3 : Nodes) (k : ℕ) (x : Node) → ((j : ℕ) → f1 j ≡ at_key k None f j) → ((j : ℕ) → f2 j ≡ with_after x.before x.after f1 j) → ((j : ℕ) → f3 j ≡ with_before x.after x.before f2 j) → f3 ≡ unlinked k x f
 unlinked_is f f1 f2 f3 k x one two three =
     pointwise f3 (with_before x.after x.before f2) three
     ∙ ap (with_before x.after x.before) (pointwise f2 (with_after x.before x.after f1) two
     ∙ ap (with_after x.before x.after) (pointwise f1 (at_key k None f) one))
 
--- a node taken out of the slabs
+-- a node was removed in the slabs
 pub record IsUnlinked (nodes nodes' : Slab Node) (heads heads' : Slab Head) (k : ℕ) : Type 0 where
   pub sound : IsSound (get nodes') (get heads')
   pub orders : (j : ℕ) → order_at (queued nodes' heads') j ≡ at_key k None (order_at (queued nodes heads)) j
@@ -138,7 +138,7 @@ unlink_done nodes nodes1 nodes2 nodes3 heads heads' k x head head' sound here th
         let rest = by_head q (get heads q) refl e in
         simp e (seen ∙ rest ∙ ap (option_map (without_key k)) (sym seen)))
 
--- a node put last in the slabs
+-- a node was appended in the slabs
 pub record IsPushed (nodes nodes' : Slab Node) (heads heads' : Slab Head) (q k : ℕ) (x : Order) : Type 0 where
   pub sound : IsSound (get nodes') (get heads')
   pub orders : (j : ℕ) → order_at (queued nodes' heads') j ≡ at_key k (Some x) (order_at (queued nodes heads)) j
@@ -166,7 +166,7 @@ push_done nodes nodes1 nodes2 heads heads' k x head head' sound vacant there bef
     step = subst (λ (g : Nodes). IsStep (get nodes) g (get heads) (get heads') x.queue (pushed_head k x head) (walked (get nodes) head ++ k ∷ [])) (sym same)
         (sound_pushed (get nodes) (get heads) sound k x head (get heads') vacant there before after small changed')
 
--- a queue is no longer than there are slots, and its shares are as few
+-- a queue has at most as many nodes as there are slots, which bounds its shares
 pub queue_fits : (nodes nodes1 : Slab Node) (heads : Slab Head) (k : ℕ) (x : Node) (head : Head) (most : ℕ) → IsSound (get nodes) (get heads) → get nodes k ≡ None → get heads x.queue ≡ Some head
     → Updates nodes nodes1 k (Some x) → length nodes1.slots ≤ most → most < 2 ^ 64 → x.order.shares < 2 ^ 32 → (head.orders + 1 < 2 ^ 64) × (head.shares + x.order.shares < 2 ^ 128)
 queue_fits nodes nodes1 heads k x head most sound vacant there updates few most_fits small =
@@ -195,7 +195,7 @@ queue_fits nodes nodes1 heads k x head most sound vacant there updates few most_
     len = let n = length-le_from_distinct_below (ks ++ k ∷ []) (length nodes1.slots) (IsDistinct-push nat_eq_equiv ks k queue.distinct out) below in
         omega (arith, n, few, length-append ks (k ∷ []))
 
--- where contracts see a queue, there is its head
+-- a queue that contracts describe has a head
 pub has_head : (nodes : Slab Node) (heads : Slab Head) (q : ℕ) → IsSome (keys_at (queued nodes heads) q) → IsSome (get heads q)
 has_head nodes heads q h = by_head (get heads q) (subst IsSome (keys_seen nodes heads q) h)
   where
@@ -203,7 +203,7 @@ has_head nodes heads q h = by_head (get heads q) (subst IsSome (keys_seen nodes 
     by_head None h = absurd (false≢true h)
     by_head (Some head) h = refl
 
--- the same, as the calls state it
+-- the same in the form of the calls
 pub push_known : (nodes nodes1 nodes2 : Slab Node) (heads heads' : Slab Head) (q k : ℕ) (o : Order) (x : Node) (head1 head head' : Head) → IsSound (get nodes) (get heads) → get nodes k ≡ None
     → get heads q ≡ Some head1 → get heads q ≡ Some head → x.order ≡ o → x.queue ≡ q → x.before ≡ head1.last → x.after ≡ None → o.shares < 2 ^ 32 → Updates nodes nodes1 k (Some x)
     → ((j : ℕ) → get nodes2 j ≡ with_after head1.last (Some k) (get nodes1) j) → ((y : Node) → y.before ≡ head1.last → y.order.shares ≡ o.shares → head' ≡ pushed_head k y head)

@@ -1,4 +1,4 @@
--- Walking the orders of a locate, from one to the next after it.
+-- Walking the orders of a locate from one to the next.
 use Rattle.std.proofs.Common.{◌≡◌, ℕ, ◌==◌, Bool, false, List, [], ◌∷◌, filter, find, Option, Some, None, IfSome, refl, sym, ap, ◌∙◌, subst, arith}
 use Rattle.std.proofs.lemmas.Bool.{cond_both}
 use Rattle.std.proofs.lemmas.Bool.Decides.{nat_tests}
@@ -10,7 +10,7 @@ pub use Rattle.itch_book.proofs.Distinct.{walk_none}
 use Rattle.itch_book.proofs.OrderLemmas.{in_is}
 use Rattle.itch_book.proofs.BookLemmas.{sides-book}
 
--- what is found has been given its reference by no earlier order
+-- no earlier order has the reference of the match
 other_reference : (p : Order → Bool) (y : Order) (ys : List Order) (x : Order) → get ys y.reference ≡ None → find p ys ≡ Some x → has_reference x.reference y ≡ false
 other_reference p y [] x none found = absurd (let no_one : ⊥ = cc in no_one)
 other_reference p y (z ∷ zs) x none found =
@@ -26,7 +26,7 @@ other_reference p y (z ∷ zs) x none found =
     turned : (a b : ℕ) → (b == a) ≡ false → (a == b) ≡ false
     turned a b h = grind (arith, nat_tests)
 
--- what is found is live under its reference
+-- the match is live under its reference
 pub found_get : (p : Order → Bool) (xs : List Order) (x : Order) → IsDistinct xs → find p xs ≡ Some x → get xs x.reference ≡ Some x
 found_get p [] x d h = absurd (let no_one : ⊥ = cc in no_one)
 found_get p (y ∷ ys) x d h =
@@ -39,7 +39,7 @@ found_get p (y ∷ ys) x d h =
     let other = other_reference p y ys x (head_distinct y ys d) there in
     simp other (found_get p ys x (tail_distinct y ys d) there))
 
--- the orders that pass a test are the first that does, and those after it
+-- the orders that meet a condition are the first one that does, and those after it
 pub walk_some : (p : Order → Bool) (xs : List Order) (x : Order) → IsDistinct xs → find p xs ≡ Some x → filter p xs ≡ x ∷ filter p (following x.reference xs)
 walk_some p [] x d h = absurd (let no_one : ⊥ = cc in no_one)
 walk_some p (y ∷ ys) x d h =
@@ -57,7 +57,7 @@ IsDistinct-following r [] d = d
 IsDistinct-following r (x ∷ xs) d =
     cond_both (has_reference r x) xs (following r xs) IsDistinct (λ e. tail_distinct x xs d) (λ e. IsDistinct-following r xs (tail_distinct x xs d))
 
--- an order that stands after another is in the list, and what stands after it is the same there
+-- an order after another one is in the list, and the orders after it are the same there
 pub following_get : (p : Order → Bool) (r : ℕ) (xs : List Order) (x : Order) → IsDistinct xs → find p (following r xs) ≡ Some x → get xs x.reference ≡ Some x
 following_get p r [] x d h = absurd (let no_one : ⊥ = cc in no_one)
 following_get p r (y ∷ ys) x d h =
@@ -88,7 +88,7 @@ walk_on p r xs x d h =
     walk_some p (following r xs) x (IsDistinct-following r xs d) h
     ∙ ap (λ t. x ∷ filter p t) (following-following p r xs x d h)
 
--- the orders of a locate are its first, and those after it
+-- the orders of a locate are its first order, and those after it
 pub first_left : (xs : List Order) (l : ℕ) → IsBook xs → sides xs l ≡ from_order xs (find (is_in l) xs)
 first_left xs l b = sides-book xs l b ∙ by_first (find (is_in l) xs) refl
   where
@@ -97,11 +97,11 @@ first_left xs l b = sides-book xs l b ∙ by_first (find (is_in l) xs) refl
     by_first (Some x) e =
         subst (λ k. filter (is_in l) xs ≡ x ∷ filter (is_in k) (following x.reference xs)) (sym (in_is l x (found_passes (is_in l) xs x e))) (walk_some (is_in l) xs x b.distinct e)
 
--- the next of the same locate, for an order that is live
+-- the next order of the same locate, after a live order
 pub after_is : (xs : List Order) (x : Order) → get xs x.reference ≡ Some x → after xs x.reference ≡ find (is_in x.locate) (following x.reference xs)
 after_is xs x h = ap (λ o. next_in o x.reference xs) h
 
--- from an order on: the order, and from the next one on
+-- the orders from one order on are that order, and those from the next one on
 pub next_left : (xs : List Order) (x : Order) → IsDistinct xs → get xs x.reference ≡ Some x → from_order xs (Some x) ≡ x ∷ from_order xs (after xs x.reference)
 next_left xs x d h =
     ap (λ t. x ∷ t) (by_next (find (is_in x.locate) (following x.reference xs)) refl ∙ ap (from_order xs) (sym (after_is xs x h)))
@@ -113,7 +113,7 @@ next_left xs x d h =
         (sym (in_is x.locate y (found_passes (is_in x.locate) (following x.reference xs) y e)))
         (walk_on (is_in x.locate) x.reference xs y d e)
 
--- the first of a locate, and the next after a live order, are live
+-- the first order of a locate, and the next one after a live order, are live
 pub first_live : (xs : List Order) (l : ℕ) → IsDistinct xs → IfSome (find (is_in l) xs) (λ y. get xs y.reference ≡ Some y)
 first_live xs l d = by_first (find (is_in l) xs) refl
   where

@@ -1,4 +1,4 @@
--- Any two proofs that a list is a book's are equal, so a book may have such a proof as a ghost field.
+-- Any two proofs that a list is the list of a book are equal, so a book may contain such a proof as a ghost field.
 use Rattle.std.specs.Prelude.{◌≡◌, false, List, [], ◌∷◌}
 use Rattle.std.specs.Coded.{×_prop, Π_prop, Unit-prop, le_prop, Coded-set, coded_bool}
 use Rattle.std.specs.List.{AllByRecursion-prop}
@@ -11,15 +11,15 @@ pub IsInOrder-prop : (xs : List Order) → IsProp (IsInOrder stands_before xs)
 IsInOrder-prop [] = Unit-prop
 IsInOrder-prop (x ∷ xs) = ×_prop (AllByRecursion-prop (λ y. stands_before y x ≡ false) (λ y. Coded-set coded_bool (stands_before y x) false) xs) (IsInOrder-prop xs)
 
--- the same of proofs that references are distinct
+-- any two proofs that references are distinct are equal
 pub IsDistinct-prop : (xs : List Order) → IsProp (IsDistinct xs)
 IsDistinct-prop xs = Π_prop (λ reference. le_prop)
 
--- that an order may be live
+-- any two proofs that an order may be live are equal
 pub IsLive-prop : (x : Order) → IsProp (IsLive x)
 IsLive-prop x = ×_prop le_prop (Coded-set coded_bool (fits x) _)
 
--- and that a list is a book's
+-- any two proofs that a list is the list of a book are equal
 pub IsBook-prop : (xs : List Order) → IsProp (IsBook xs)
 IsBook-prop xs = λ a b i. record {
   in_place = IsInOrder-prop xs a.in_place b.in_place i;

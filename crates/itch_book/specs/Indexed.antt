@@ -1,4 +1,4 @@
--- What an index of queues by price means: its orders, level by level.
+-- An index of queues by price, as the list of its orders, level by level.
 use Rattle.std.specs.Prelude.{◌≡◌, ℕ, ◌<◌, ◌^◌, ◌&&◌, Bool, true, false, List, [], ◌∷◌, ◌++◌, eqb, Option, Some, None, IsSome}
 use Rattle.std.specs.declared.cmp.Ordering.{Ordering}
 use Rattle.std.specs.Ordering.{nat_cmp, ordering_then}
@@ -15,7 +15,7 @@ use Rattle.itch_book.specs.Queued.{Seen, found}
 abbrev pub Place : Type 0
 Place = ℕ × ℕ
 
--- by locate, and then by price
+-- comparison by locate, and then by price
 abbrev pub place_cmp : Place → Place → Ordering
 place_cmp a b = ordering_then (nat_cmp a.0 b.0) (nat_cmp a.1 b.1)
 
@@ -28,7 +28,7 @@ abbrev pub AreApart : List (Place × ℕ) → Type 0
 AreApart [] = Unit {0}
 AreApart (e ∷ es) = (queue_at es e.0.0 e.0.1 ≡ None) × AreApart es
 
--- the orders of these nodes, if there are any keys
+-- the orders of these nodes, if there are nodes
 abbrev pub orders_in : (ℕ → Option Order) → Option (List ℕ) → List Order
 orders_in orders None = []
 orders_in orders (Some ks) = found orders ks
@@ -51,7 +51,7 @@ abbrev pub queue_of_side : Side → List (Place × ℕ) → List (Place × ℕ) 
 queue_of_side Buy bids asks locate price = queue_at bids locate price
 queue_of_side Sell bids asks locate price = queue_at asks locate price
 
--- whether this is the side and place
+-- this side and place
 abbrev pub is_there : Side → ℕ → ℕ → Side → ℕ → ℕ → Bool
 is_there s0 l0 p0 s l p = same_side s0 s && is_at (place_cmp (l0, p0)) (l, p)
 
@@ -76,11 +76,11 @@ pub record IsPlaced (bids asks : List (Place × ℕ)) (q : ℕ) : Type 0 where
   pub price : ℕ
   pub at_price : queue_of_side side bids asks locate price ≡ Some q
 
--- the two sides and places are the same
+-- the two sides and places are equal
 abbrev pub IsPlace : Side → ℕ → ℕ → Side → ℕ → ℕ → Type 0
 IsPlace s l p t m n = (s ≡ t) × (l ≡ m) × (p ≡ n)
 
--- references lead to the nodes of their orders alone, and prices to the queues, each of which is that of a price
+-- each reference leads to the node of its order, and only to that, and each price to its queue; every queue belongs to a price
 pub record IsIndexed (references : ℕ → Option ℕ) (bids asks : List (Place × ℕ)) (v : Seen) : Type 0 where
   pub book : IsBook (indexed v bids asks)
   pub live : (k : ℕ) (x : Order) → v.orders k ≡ Some x → IsLive x
@@ -96,7 +96,7 @@ pub record IsIndexed (references : ℕ → Option ℕ) (bids asks : List (Place 
   pub listed : (k : ℕ) (x : Order) → v.orders k ≡ Some x → IsListed v bids asks k x
   pub full : (q : ℕ) (keys : List ℕ) (k : ℕ) → v.keys q ≡ Some keys → list_any (eqb k) keys ≡ true → IsSome (v.orders k)
 
--- whether a queue has nodes
+-- a queue has nodes
 abbrev pub has_keys : Option (List ℕ) → Bool
 has_keys None = false
 has_keys (Some []) = false
@@ -106,11 +106,11 @@ has_keys (Some (k ∷ ks)) = true
 abbrev pub IsBusy : Seen → List (Place × ℕ) → List (Place × ℕ) → Type 0
 IsBusy v bids asks = (s : Side) (l p q : ℕ) → queue_of_side s bids asks l p ≡ Some q → has_keys (v.keys q) ≡ true
 
--- each queue but one has nodes
+-- each queue except one has nodes
 abbrev pub IsBusyBut : Seen → List (Place × ℕ) → List (Place × ℕ) → ℕ → Type 0
 IsBusyBut v bids asks but = (s : Side) (l p q : ℕ) → queue_of_side s bids asks l p ≡ Some q → eqb but q ≡ false → has_keys (v.keys q) ≡ true
 
--- an index between calls: no queue is empty
+-- an index between calls, in which no queue is empty
 pub record IsWhole (references : ℕ → Option ℕ) (bids asks : List (Place × ℕ)) (v : Seen) : Type 0 where
   pub index : IsIndexed references bids asks v
   pub busy : IsBusy v bids asks
@@ -119,13 +119,13 @@ pub record IsWhole (references : ℕ → Option ℕ) (bids asks : List (Place ×
 abbrev pub level_entry : Place × ℕ → ℕ × ℕ
 level_entry e = (e.0.1, e.1)
 
--- of the prices of a side that are worse than the last, this is the best, with its queue
+-- the best price of a side that is worse than the last, and its queue
 pub record IsNextLevel (at : ℕ → Option ℕ) (side : Side) (last : Option ℕ) (e : ℕ × ℕ) : Type 0 where
   pub here : at e.0 ≡ Some e.1
   pub worse : is_worse side last e.0 ≡ true
   pub best : (p : ℕ) → p < 2 ^ 32 → is_worse side last p ≡ true → IsSome (at p) → is_better side p e.0 ≡ false
 
--- or there is no worse price
+-- the same, or there is no worse price
 abbrev pub IsNextOr : (ℕ → Option ℕ) → Side → Option ℕ → Option (ℕ × ℕ) → Type 0
 IsNextOr at side last None = (p : ℕ) → p < 2 ^ 32 → is_worse side last p ≡ true → at p ≡ None
 IsNextOr at side last (Some e) = IsNextLevel at side last e

@@ -1,4 +1,4 @@
--- The price levels of one side: a line of levels for each locate, the best price last, and far levels, which found their line full.
+-- The price levels of one side: one line of levels per locate, the best price last, and far levels, whose line was full.
 use Rattle.std.specs.Prelude.{◌≡◌, ℕ, suc, true, cond, eqb, List, [], ◌∷◌, ◌++◌, map, Option, Some, None, slice_index_or}
 use Rattle.std.specs.List.{AllByRecursion}
 use Rattle.std.specs.List.Sorted.{IsStrictlySortedBy}
@@ -11,7 +11,7 @@ use Rattle.itch_book.specs.declared.ladder.Ladder.{Ladder}
 use Rattle.itch_book.specs.Orders.{is_better}
 use Rattle.itch_book.specs.Indexed.{Place, place_cmp, queue_at}
 
--- the lines by their locates
+-- the lines by locate
 abbrev pub lines : {A : Type 0} → List (Vec Level A) → List (List Level)
 lines {A} near = map (λ (v : Vec Level A). v.items) near
 
@@ -24,16 +24,16 @@ abbrev pub queue_in : List Level → ℕ → Option ℕ
 queue_in [] price = None
 queue_in (x ∷ xs) price = cond (eqb price x.price) (Some x.queue) (queue_in xs price)
 
--- each price is better than those before it
+-- each price of a line is better than those before it
 abbrev pub IsRising : Side → List Level → Type 0
 IsRising side [] = Unit {0}
 IsRising side (x ∷ xs) = AllByRecursion (λ (y : Level). is_better side y.price x.price ≡ true) xs × IsRising side xs
 
--- the queues of a line under their places
+-- the queues of a line by their places
 abbrev pub places_of : ℕ → List Level → List (Place × ℕ)
 places_of l xs = map (λ (x : Level). ((l, x.price), x.queue)) xs
 
--- those of the lines of the locates from l on
+-- the queues of the lines of the locates from l on
 abbrev pub places_from : ℕ → List (List Level) → List (Place × ℕ)
 places_from l [] = []
 places_from l (xs ∷ ls) = places_of l xs ++ places_from (suc l) ls
@@ -46,13 +46,13 @@ levels_in ls far = places_from 0 ls ++ far
 abbrev pub queue_among : List (List Level) → List (Place × ℕ) → ℕ → ℕ → Option ℕ
 queue_among ls far l p = or_else (queue_in (line_of ls l) p) (queue_at far l p)
 
--- lines in order, and far levels in order, which stand in no line
+-- lines in order, and far levels in order, which are in no line
 pub record IsParted (side : Side) (ls : List (List Level)) (far : List (Place × ℕ)) : Type 0 where
   pub rising : (l : ℕ) → IsRising side (line_of ls l)
   pub parted : (l p q : ℕ) → queue_in (line_of ls l) p ≡ Some q → queue_at far l p ≡ None
   pub sorted : IsStrictlySortedBy place_cmp (keys_of far)
 
--- the same of a ladder
+-- the queues of a ladder
 abbrev pub levels_on : {A : Type 0} → Ladder A → List (Place × ℕ)
 levels_on t = levels_in (lines t.near.items) t.far.entries
 
@@ -68,7 +68,7 @@ better_of side None level = level
 better_of side (Some one) None = Some one
 better_of side (Some one) (Some other) = cond (is_better side other.0 one.0) (Some other) (Some one)
 
--- what is seen of the prices: the queues of both sides under their places
+-- the queues of both sides by their places, as contracts describe the prices
 pub record Priced : Type 0 where
   pub bids : List (Place × ℕ)
   pub asks : List (Place × ℕ)

@@ -1,5 +1,5 @@
--- What a book means: the list of its orders, and what each change does to such a list.
--- Names in quotes are the sections of TotalView-ITCH 5.0 on the messages that make the change.
+-- A book as the list of its orders, and the effect of each change on such a list. Names in quotes are the sections of TotalView-ITCH 5.0 on
+-- the messages that make the change.
 use Rattle.std.specs.Prelude.{◌≡◌, ℕ, ◌-◌, ◌≤◌, ◌<◌, ◌==◌, nat_lt, Bool, true, false, not, ◌&&◌, ◌||◌, if◌then◌else◌, List, [], ◌∷◌, ◌++◌, map, length, Option, Some, None, option_map, suc, zero}
 use Rattle.std.specs.List.{filter, find, sum_by, AllByRecursion}
 use Rattle.itch_book.specs.declared.order.Order.{Order}
@@ -23,7 +23,7 @@ same_side Sell Sell = true
 abbrev pub is_of : ℕ → Side → Order → Bool
 is_of locate side x = (x.locate == locate) && same_side x.side side
 
--- the orders of a locate and side, the better price first, and at one price in order of arrival
+-- the orders of a locate and side, the better price first, and at the same price in order of arrival
 abbrev pub queue : List Order → ℕ → Side → List Order
 queue orders locate side = in_order (λ x y. is_better side x.price y.price) (filter (is_of locate side) orders)
 
@@ -48,7 +48,7 @@ place_before l Buy p m Sell q = nat_lt l m || l == m
 place_before l Sell p m Buy q = nat_lt l m
 place_before l Sell p m Sell q = nat_lt l m || (l == m && nat_lt p q)
 
--- x comes before y in snapshot order, whichever of them arrived first
+-- x comes before y in snapshot order, for any order of arrival
 abbrev pub stands_before : Order → Order → Bool
 stands_before x y = place_before x.locate x.side x.price y.locate y.side y.price
 
@@ -64,11 +64,11 @@ AllFit orders = AllByRecursion (λ x. fits x ≡ true) orders
 abbrev pub has_reference : ℕ → Order → Bool
 has_reference reference x = x.reference == reference
 
--- the order of a reference, if it is live
+-- the order with a reference, if it is live
 abbrev pub get : List Order → ℕ → Option Order
 get orders reference = find (has_reference reference) orders
 
--- the orders without that of a reference ("Order Delete Message")
+-- the orders without the one with this reference ("Order Delete Message")
 abbrev pub without : ℕ → List Order → List Order
 without reference orders = filter (λ x. not (has_reference reference x)) orders
 
@@ -80,7 +80,8 @@ less reference shares x = if has_reference reference x then record x { shares = 
 abbrev pub has_shares : Order → Bool
 has_shares x = not (x.shares == 0)
 
--- shares taken from the order of a reference, which is removed if none are left ("Order Executed Message", "Order Cancel Message")
+-- the orders after shares were taken from the one with this reference, which is removed if no shares are left ("Order Executed Message",
+-- "Order Cancel Message")
 abbrev pub taken : ℕ → ℕ → List Order → List Order
 taken reference shares orders = filter has_shares (map (less reference shares) orders)
 
@@ -88,17 +89,18 @@ taken reference shares orders = filter has_shares (map (less reference shares) o
 abbrev pub added : Order → List Order → List Order
 added x orders = orders ++ x ∷ []
 
--- what a replacement leaves, by the order that it replaces
+-- the orders after a replacement of this order, if there is one
 abbrev pub replaced_by : Option Order → ℕ → ℕ → ℕ → ℕ → List Order → List Order
 replaced_by None original reference shares price orders = orders
 replaced_by (Some x) original reference shares price orders =
     without original orders ++ record x { reference = reference; shares = shares; price = price } ∷ []
 
--- a new order in place of another one, with its locate, side and attribution, which arrived last ("Order Replace Message")
+-- the orders with a new order in place of another one, with its locate, side and attribution; the new one arrived last ("Order Replace
+-- Message")
 abbrev pub replaced : ℕ → ℕ → ℕ → ℕ → List Order → List Order
 replaced original reference shares price orders = replaced_by (get orders original) original reference shares price orders
 
--- each reference is that of one order at most
+-- each reference belongs to at most one order
 abbrev pub IsDistinct : List Order → Type 0
 IsDistinct orders = (reference : ℕ) → length (filter (has_reference reference) orders) ≤ 1
 
@@ -106,7 +108,7 @@ IsDistinct orders = (reference : ℕ) → length (filter (has_reference referenc
 abbrev pub IsLive : Order → Type 0
 IsLive x = (0 < x.shares) × (fits x ≡ true)
 
--- the list of a book: in snapshot order, each order live, with a reference of its own
+-- the list of a book: in snapshot order, with only live orders, each with a unique reference
 pub record IsBook (orders : List Order) : Type 0 where
   pub in_place : IsInOrder stands_before orders
   pub distinct : IsDistinct orders
@@ -116,17 +118,17 @@ pub record IsBook (orders : List Order) : Type 0 where
 abbrev pub is_in : ℕ → Order → Bool
 is_in locate x = x.locate == locate
 
--- what follows the order of a reference
+-- the orders after the one with this reference
 abbrev pub following : ℕ → List Order → List Order
 following reference [] = []
 following reference (x ∷ xs) = if has_reference reference x then xs else following reference xs
 
--- what follows an order among those of its locate, if there is that order
+-- the next order of the same locate after this order, if there is one
 abbrev pub next_in : Option Order → ℕ → List Order → Option Order
 next_in None reference orders = None
 next_in (Some x) reference orders = find (is_in x.locate) (following reference orders)
 
--- the next order of the same locate after that of a reference
+-- the next order of the same locate after the one with this reference
 abbrev pub after : List Order → ℕ → Option Order
 after orders reference = next_in (get orders reference) reference orders
 
@@ -135,7 +137,7 @@ abbrev pub from_order : List Order → Option Order → List Order
 from_order orders None = []
 from_order orders (Some x) = x ∷ filter (is_in x.locate) (following x.reference orders)
 
--- worse than a price, or any price if none is given
+-- the price is worse than another one, if one is given
 abbrev pub is_worse : Side → Option ℕ → ℕ → Bool
 is_worse side None price = true
 is_worse side (Some last) price = is_better side last price
@@ -144,7 +146,7 @@ is_worse side (Some last) price = is_better side last price
 abbrev pub is_next : ℕ → Side → Option ℕ → Order → Bool
 is_next locate side last x = is_of locate side x && is_worse side last x.price
 
--- the best price of a side, or the best one worse than another
+-- the best price of a side, or the best one worse than the last
 abbrev pub next_price : List Order → ℕ → Side → Option ℕ → Option ℕ
 next_price orders locate side last = option_map (λ x. x.price) (find (is_next locate side last) orders)
 
@@ -169,8 +171,7 @@ first (x ∷ xs) = Some x
 abbrev pub is_at_price : ℕ → Order → Bool
 is_at_price price x = x.price == price
 
--- the one list of the orders of a locate and side in which better prices come first,
--- and the orders at one price are in order of arrival
+-- the one list of the orders of a locate and side in which better prices come first, and the orders at the same price are in order of arrival
 pub record IsQueue (orders : List Order) (locate : ℕ) (side : Side) (line : List Order) : Type 0 where
   pub better_first : IsInOrder (λ x y. is_better side x.price y.price) line
   pub as_they_came : (price : ℕ) → filter (is_at_price price) line ≡ filter (is_at_price price) (filter (is_of locate side) orders)

@@ -1,36 +1,36 @@
--- What contracts see of a table: a link under each of some keys.
+-- A table as contracts describe it: a link for each of some keys.
 use Rattle.std.specs.Prelude.{◌≡◌, ℕ, List, length, eqb, Option, None, Some, is_some}
 use Rattle.std.specs.List.{list_any, IsDistinct}
 use Rattle.std.specs.Map.{lookup, update}
 use Rattle.itch_book.specs.Pages.{Paged, link_at}
 
--- links by their pages, and others
+-- links in pages, and other links
 pub record Links : Type 0 where
   pub near : Paged
   pub far : List (ℕ × ℕ)
 
--- the first of two answers
+-- the first of two results, or else the second
 abbrev pub or_else : Option ℕ → Option ℕ → Option ℕ
 or_else None other = other
 or_else (Some link) other = Some link
 
--- the link at a key
+-- the link of a key
 abbrev pub at : Links → ℕ → Option ℕ
 at t k = or_else (link_at t.near k) (lookup (eqb k) t.far)
 
--- the new table has this at the key, and every other key keeps what it had
+-- the new table has this link for the key, and the same link as before for every other key
 abbrev pub Updates : Links → Links → ℕ → Option ℕ → Type 0
 Updates old new key link = (q : ℕ) → at new q ≡ update eqb (at old) key link q
 
--- each key keeps what it had
+-- each key has the same link as before
 abbrev pub IsSame : Links → Links → Type 0
 IsSame old new = (q : ℕ) → at new q ≡ at old q
 
--- a key stands in one of the two
+-- each key is in only one of the two parts
 abbrev pub IsParted : Paged → List (ℕ × ℕ) → Type 0
 IsParted near far = (k link : ℕ) → link_at near k ≡ Some link → lookup (eqb k) far ≡ None
 
--- so many keys have a link: these, and each stands here once
+-- f has a link for exactly this number of keys: the listed ones, each listed once
 pub record IsCount (f : ℕ → Option ℕ) (n : ℕ) : Type 0 where
   pub keys : List ℕ
   pub distinct : IsDistinct eqb keys

@@ -1,15 +1,15 @@
-//! Orders that are read before they are asked for: many at once, so that a program waits for memory once, and not for each in turn.
+//! Reads orders before they are needed: many at once, so that the program waits for memory once instead of once per order.
 
 use crate::table::Table;
 use std::alloc::Allocator;
 
-/// How many orders are read ahead at once.
+/// The number of orders that are read ahead at once.
 pub(crate) const AHEAD: usize = 32;
 
-/// Fewer orders than this lie in a processor's cache anyway.
+/// Fewer orders than this are in the processor's cache anyway.
 pub(crate) const MANY: usize = 1 << 14;
 
-/// The links of the first references in a table. Those that it does not have are given link 0.
+/// Returns the links of the first references in a table. A reference that is not in the table gets link 0.
 #[inline(always)]
 pub(crate) fn links_of<A: Allocator>(table: &Table<A>, references: &[u64]) -> [u32; AHEAD] {
     let mut links = [0; AHEAD];

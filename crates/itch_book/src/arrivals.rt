@@ -1,4 +1,4 @@
-//! Orders in whatever order, or in snapshot order from one `settle` to the next change.
+//! Orders in any order, or in snapshot order between a `settle` and the next change.
 ghost use Rattle.std.specs.Prelude.{◌≡◌, ◌<◌, ◌≤◌, ◌-◌, [], length, None, Some, OnOk, OnErr, IsSome, IsSomeAnd, IfSome, find, true, false, option_map};
 ghost use Rattle.std.specs.Map.{values_of};
 ghost use Rattle.std.specs.Option.{option_copied};
@@ -15,13 +15,13 @@ use itch_codec::Side;
 use std::alloc::{AllocError, Allocator, Global};
 use std::marker::Model;
 
-/// The live orders, seen as the list in snapshot order, and whether they stand so.
+/// The live orders, which contracts describe as the list in snapshot order, and whether they are stored in that order.
 #[derive(Drop)]
 pub(crate) struct Arrivals<A: Allocator = Global> {
     references: References<A>,
-    // The arrival of the next order.
+    // The arrival number of the next order.
     next: u64,
-    // Whether the orders stand in snapshot order.
+    // Whether the orders are stored in snapshot order.
     is_settled: bool,
 }
 
@@ -37,7 +37,7 @@ impl<A: Allocator> Model for Arrivals<A> {
 }
 
 impl<A: Allocator + Copy> Arrivals<A> {
-    /// No orders.
+    /// Creates an empty collection.
     pub(crate) fn new(alloc: A) -> Self
         ensures orders { result.orders ≡ [] }
         ensures settled { result.is_settled ≡ false }
@@ -49,14 +49,14 @@ impl<A: Allocator + Copy> Arrivals<A> {
         }
     }
 
-    /// Whether the orders stand in snapshot order, so that they are found by search.
+    /// Returns whether the orders are stored in snapshot order, so that they are found by binary search.
     pub(crate) fn is_settled(&self) -> bool
         ensures { result ≡ self.now.is_settled }
     {
         self.is_settled
     }
 
-    /// Puts the orders in snapshot order, so that until the next change they are found by search.
+    /// Sorts the orders into snapshot order, so that until the next change they are found by binary search.
     pub(crate) fn settle(&mut self)
         ensures orders { self.new.orders ≡ self.old.orders }
         ensures settled { self.new.is_settled ≡ true }
@@ -68,7 +68,7 @@ impl<A: Allocator + Copy> Arrivals<A> {
         self.is_settled = true;
     }
 
-    /// Has the orders of these references read into the processor's cache, where there are many orders.
+    /// Reads the orders of these references into the processor's cache, if there are many orders.
     #[inline(always)]
     pub(crate) fn look_ahead(&mut self, references: &[u64])
         ensures { self.new ≡ self.old }
@@ -76,13 +76,13 @@ impl<A: Allocator + Copy> Arrivals<A> {
         self.references.look_ahead(references);
     }
 
-    /// Whether an order with a new reference is likely to find room without an allocation.
+    /// Returns whether an order with a new reference probably needs no allocation.
     #[inline(always)]
     pub(crate) fn has_room(&self, reference: u64) -> bool {
         self.references.has_room(reference)
     }
 
-    /// The number of orders.
+    /// Returns the number of orders.
     #[inline(always)]
     pub(crate) fn len(&self) -> usize
         ensures { result ≡ length self.now.orders }
@@ -90,7 +90,7 @@ impl<A: Allocator + Copy> Arrivals<A> {
         self.references.len()
     }
 
-    /// The order of a reference.
+    /// Returns the order with a reference.
     #[inline(always)]
     pub(crate) fn get(&self, reference: u64) -> Option<&Order>
         ensures { option_copied result ≡ get self.now.orders reference }
@@ -98,7 +98,7 @@ impl<A: Allocator + Copy> Arrivals<A> {
         order_of(self.find(reference))
     }
 
-    /// The order of a reference, and its place.
+    /// Returns the order with a reference, and its place.
     #[inline(always)]
     pub(crate) fn find(&self, reference: u64) -> Option<Placed<'_>>
         ensures { option_map (λ p. p.order.now) result ≡ get self.now.orders reference }
@@ -106,7 +106,7 @@ impl<A: Allocator + Copy> Arrivals<A> {
         self.references.find(reference)
     }
 
-    /// The first order of a locate.
+    /// Returns the first order of a locate.
     pub(crate) fn first(&self, locate: u16) -> Option<Placed<'_>>
         ensures { option_map (λ p. p.order.now) result ≡ find (is_in locate) self.now.orders }
     {
@@ -114,7 +114,7 @@ impl<A: Allocator + Copy> Arrivals<A> {
         sought(&self.references, line, Wanted::In(locate))
     }
 
-    /// The order of a locate and side that has priority over all others there.
+    /// Returns the order of a locate and side with the highest priority.
     pub(crate) fn front(&self, locate: u16, side: Side) -> Option<&Order>
         ensures { option_copied result ≡ find (is_of locate side) self.now.orders }
     {
@@ -122,7 +122,7 @@ impl<A: Allocator + Copy> Arrivals<A> {
         order_of(sought(&self.references, line, Wanted::Next(locate, side, None)))
     }
 
-    /// The best price of a side, or the best one worse than the last.
+    /// Returns the best price of a side, or the best one worse than the last.
     pub(crate) fn next_price(&self, locate: u16, side: Side, last: Option<u32>) -> Option<u32>
         ensures { result ≡ next_price self.now.orders locate side last }
     {
@@ -131,7 +131,8 @@ impl<A: Allocator + Copy> Arrivals<A> {
         Some(placed.order.price)
     }
 
-    /// The order of the same locate after that of a reference: the next in the line, if the order stands at this place in it.
+    /// Returns the order after the one with a reference, among those of its locate. If that order is at this place in the sorted line, it is
+    /// the next one there.
     #[inline(always)]
     pub(crate) fn after(&self, reference: u64, place: usize) -> Option<Placed<'_>>
         requires { IsSome (get self.now.orders reference) }
@@ -147,7 +148,7 @@ impl<A: Allocator + Copy> Arrivals<A> {
         sought(&self.references, line, Wanted::After(this))
     }
 
-    /// The shares at a price, and the number of orders.
+    /// Returns the total shares at a price, and the number of orders.
     pub(crate) fn level_total(&self, locate: u16, side: Side, price: u32) -> (u128, u64)
         ensures { result ≡ level_total self.now.orders locate side price }
     {
@@ -157,8 +158,7 @@ impl<A: Allocator + Copy> Arrivals<A> {
         }
     }
 
-    /// Adds an order, last at its price. If an allocation fails, or if there is no number left for its arrival, no order
-    /// changes.
+    /// Adds an order, last at its price. If an allocation fails, or if there is no arrival number left, no order changes.
     #[inline(always)]
     pub(crate) fn add(&mut self, order: Order) -> Result<(), AllocError>
         requires some_shares { 0 < order.shares }
@@ -176,8 +176,7 @@ impl<A: Allocator + Copy> Arrivals<A> {
         Ok(())
     }
 
-    /// Takes shares from an order, which keeps its place, and is removed if none remain. It is not looked for if it stands at
-    /// this place.
+    /// Takes shares from an order, which keeps its place, and removes it if no shares remain. It is not searched for if it is at this place.
     #[inline(always)]
     pub(crate) fn take(&mut self, reference: u64, place: usize, shares: u32) -> Taken
         requires { IsSomeAnd (get self.old.orders reference) (λ x. shares ≤ x.shares) }
@@ -210,10 +209,10 @@ impl<A: Allocator + Copy> Arrivals<A> {
         cut(&mut self.references, reference).order
     }
 
-    /// Replaces an order by a new one, last at its price, with the side, locate and attribution of the original, which is not
-    /// looked for if it stands at this place.
+    /// Replaces an order by a new one, last at its price, with the side, locate and attribution of the original. The original is not searched
+    /// for if it is at this place.
     ///
-    /// If an allocation fails, or if there is no number left for its arrival, no order changes.
+    /// If an allocation fails, or if there is no arrival number left, no order changes.
     #[inline(always)]
     pub(crate) fn replace(
         &mut self,
@@ -252,7 +251,7 @@ impl<A: Allocator + Copy> Arrivals<A> {
     }
 }
 
-// The first in snapshot order that is looked for: by search in the line, or where there is none by going over all orders.
+// Returns the first wanted order in snapshot order: by binary search in the sorted line, or by a scan over all orders if they are not sorted.
 fn sought<'a, A: Allocator>(
     references: &'a References<A>,
     line: Option<&'a [Arrived]>,

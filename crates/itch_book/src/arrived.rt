@@ -1,4 +1,4 @@
-//! Orders with the numbers of their arrivals, and where each stands in snapshot order.
+//! Orders with their arrival numbers, and their positions in snapshot order.
 ghost use Rattle.std.specs.Prelude.{◌≡◌, ◌<◌, ◌^◌, option_map};
 ghost use Rattle.std.specs.Option.{option_copied};
 ghost use Rattle.itch_book.specs.Settled.{comes_before, price_rank, rank, its_order, wants, is_from, begins, sooner, HasRank};
@@ -7,25 +7,25 @@ use crate::order::Order;
 use crate::priority::{is_of, is_worse};
 use itch_codec::Side;
 
-/// An order, and the number of its arrival, which no other live order has.
+/// An order and its arrival number, which is unique among live orders.
 #[derive(Clone, Copy)]
 pub(crate) struct Arrived {
     pub(crate) order: Order,
     pub(crate) arrival: u64,
 }
 
-/// What is looked for.
+/// A description of the wanted orders.
 #[derive(Clone, Copy)]
 pub(crate) enum Wanted {
     /// An order of a locate.
     In(u16),
-    /// An order of a locate and side, at a worse price than the last if there is a last one.
+    /// An order of a locate and side. If there is a last price, its price is worse than that.
     Next(u16, Side, Option<u32>),
-    /// An order of the same locate as another one, after it.
+    /// An order of the same locate as another one, and after it.
     After(Arrived),
 }
 
-// A side and price as a number: bids before asks, and the better price first.
+// Returns a side and price as a number: bids before asks, and the better price first.
 fn price_rank(side: Side, price: u32) -> u64
     ensures rank { result ≡ price_rank side price }
     ensures fits { (result < 2 ^ 33) × (price < 2 ^ 32) }
@@ -36,7 +36,7 @@ fn price_rank(side: Side, price: u32) -> u64
     }
 }
 
-// Where an order stands, as a number: by locate, side and price, and at one price by arrival.
+// Returns the position of an order as a number: by locate, side and price, and at one price by arrival.
 fn rank(one: Arrived) -> u128
     ensures rank { result ≡ rank one }
     ensures fits { HasRank one }
@@ -46,15 +46,15 @@ fn rank(one: Arrived) -> u128
     (u128::from(place) << 64) + u128::from(one.arrival)
 }
 
-// Whether one order comes before another in snapshot order.
+// Returns whether one order comes before another in snapshot order.
 pub(crate) fn comes_before(one: &Arrived, other: &Arrived) -> bool
     ensures { result ≡ comes_before one.now other.now }
 {
-    // One comparison, without a branch: a sort asks this of each two.
+    // A single comparison without a branch, since a sort executes this for each pair.
     rank(*one) < rank(*other)
 }
 
-// Whether an order is looked for.
+// Returns whether an order is wanted.
 pub(crate) fn wants(wanted: &Wanted, one: &Arrived) -> bool
     ensures { result ≡ wants wanted.now one.now }
 {
@@ -67,7 +67,7 @@ pub(crate) fn wants(wanted: &Wanted, one: &Arrived) -> bool
     }
 }
 
-// Whether an order is of a locate and side, or stands after those.
+// Returns whether an order is of this locate and side, or comes after those orders.
 fn is_from(order: &Order, locate: u16, side: Side) -> bool
     ensures { result ≡ is_from locate side order.now }
 {
@@ -75,7 +75,7 @@ fn is_from(order: &Order, locate: u16, side: Side) -> bool
         || (order.locate == locate && (side == Side::Buy || order.side == Side::Sell))
 }
 
-// Whether all that is looked for is this order or stands after it, so that a search may end here.
+// Returns whether all wanted orders are at this order or after it, so that a binary search can end here.
 pub(crate) fn begins(wanted: &Wanted, one: &Arrived) -> bool
     ensures { result ≡ begins wanted.now one.now }
 {
@@ -89,7 +89,7 @@ pub(crate) fn begins(wanted: &Wanted, one: &Arrived) -> bool
     }
 }
 
-// The one of two that comes before the other, if there is another.
+// Returns the earlier of two orders in snapshot order, if there is a second one.
 pub(crate) fn sooner<'a>(one: &'a Arrived, other: Option<&'a Arrived>) -> Option<&'a Arrived>
     ensures { option_copied result ≡ sooner one.now (option_copied other.entry) }
 {
@@ -105,7 +105,7 @@ pub(crate) fn sooner<'a>(one: &'a Arrived, other: Option<&'a Arrived>) -> Option
     }
 }
 
-// The order alone.
+// Returns the order without its arrival number.
 pub(crate) fn its_order(arrived: Option<&Arrived>) -> Option<&Order>
     ensures { option_copied result ≡ option_map its_order (option_copied arrived.entry) }
 {

@@ -1,4 +1,4 @@
-//! What every order book does.
+//! The interface of all order books.
 ghost use Rattle.std.specs.Prelude.{◌≡◌, ◌-◌, ◌<◌, ◌≤◌, List, [], length, Option, Some, None, IsSome, IsSomeAnd, IfSome, OnOk, OnErr, find, option_map};
 ghost use Rattle.std.specs.Option.{option_copied};
 ghost use Rattle.itch_book.specs.declared.order.Order.{Order};
@@ -9,66 +9,66 @@ use crate::order::{Order, Placed, Taken};
 use itch_codec::Side;
 use std::alloc::{AllocError, Allocator};
 
-/// The live orders of all locates, in snapshot order: by ascending locate, bids before asks, bids from the highest price,
-/// asks from the lowest, and one price by time priority.
+/// The live orders of all locates, in snapshot order: by ascending locate, bids before asks, bids from the highest price, asks from the
+/// lowest, and at one price in time priority.
 pub trait OrderBook: Drop {
     /// The allocator of the book's memory.
     type Alloc: Allocator + Copy;
 
-    // The orders in snapshot order, however the book keeps them.
+    // The orders in snapshot order, for any internal representation of the book.
     ghost orders: { Self → List Order };
 
-    /// A book with no orders, which allocates nothing.
+    /// Creates a book with no orders, without allocating.
     fn new(alloc: Self::Alloc) -> Self
         ensures { orders result ≡ [] };
 
-    /// The number of orders.
+    /// Returns the number of orders.
     fn len(&self) -> usize
         ensures { result ≡ length (orders self.now) };
 
-    /// The order of a reference.
+    /// Returns the order with a reference.
     fn get(&self, reference: u64) -> Option<&Order>
         ensures { option_copied result ≡ get (orders self.now) reference };
 
-    /// The order of a reference, and its place.
+    /// Returns the order with a reference, and its place.
     fn find(&self, reference: u64) -> Option<Placed<'_>>
         ensures { option_map (λ p. p.order.now) result ≡ get (orders self.now) reference };
 
-    /// The first order of a locate.
+    /// Returns the first order of a locate.
     fn first(&self, locate: u16) -> Option<Placed<'_>>
         ensures { option_map (λ p. p.order.now) result ≡ find (is_in locate) (orders self.now) };
 
-    /// The order of the same locate after that of a reference.
+    /// Returns the order after the one with a reference, among those of its locate.
     ///
-    /// The place is the one that came with that order. With another number the answer is the same, and may take longer.
+    /// `place` is the place returned with that order. Any other number gives the same result, but may take longer.
     fn after(&self, reference: u64, place: usize) -> Option<Placed<'_>>
         requires { IsSome (get (orders self.now) reference) }
         ensures { option_map (λ p. p.order.now) result ≡ after (orders self.now) reference };
 
-    /// The order of a locate and side that has priority over all others there.
+    /// Returns the order of a locate and side with the highest priority.
     fn front(&self, locate: u16, side: Side) -> Option<&Order>
         ensures { option_copied result ≡ find (is_of locate side) (orders self.now) };
 
-    /// The best price of a side, or the best one worse than `last`.
+    /// Returns the best price of a side, or the best one worse than `last`.
     fn next_price(&self, locate: u16, side: Side, last: Option<u32>) -> Option<u32>
         ensures { result ≡ next_price (orders self.now) locate side last };
 
-    /// The shares at a price, and the number of orders.
+    /// Returns the total shares at a price, and the number of orders.
     fn level_total(&self, locate: u16, side: Side, price: u32) -> (u128, u64)
         ensures { result ≡ level_total (orders self.now) locate side price };
 
     /// Adds an order, last at its price (TotalView-ITCH 5.0, "Add Order Message").
-    /// If an allocation fails, the book is left as it was.
+    /// If an allocation fails, the book does not change.
     fn add(&mut self, order: Order) -> Result<(), AllocError>
         requires some_shares { 0 < order.shares }
         requires new_reference { get (orders self.old) order.reference ≡ None }
         ensures ok { OnOk result (orders self.new ≡ lay (added order (orders self.old))) }
         ensures err { OnErr result (orders self.new ≡ orders self.old) };
 
-    /// Takes shares from an order, which keeps its place, and is removed if none remain
-    /// (TotalView-ITCH 5.0, "Order Executed Message", "Order Cancel Message").
+    /// Takes shares from an order, which keeps its place, and removes it if no shares remain (TotalView-ITCH 5.0, "Order Executed Message",
+    /// "Order Cancel Message").
     ///
-    /// The place is the one that came with that order. With another number the same is done, and may take longer.
+    /// `place` is the place returned with that order. Any other number gives the same result, but may take longer.
     fn take(&mut self, reference: u64, place: usize, shares: u32) -> Taken
         requires { IsSomeAnd (get (orders self.old) reference) (λ x. shares ≤ x.shares) }
         ensures orders { orders self.new ≡ lay (taken reference shares (orders self.old)) }
@@ -76,17 +76,17 @@ pub trait OrderBook: Drop {
 
     /// Removes an order, and returns it (TotalView-ITCH 5.0, "Order Delete Message").
     ///
-    /// The place is the one that came with that order. With another number the same is done, and may take longer.
+    /// `place` is the place returned with that order. Any other number gives the same result, but may take longer.
     fn delete(&mut self, reference: u64, place: usize) -> Order
         requires { IsSome (get (orders self.old) reference) }
         ensures orders { orders self.new ≡ lay (without reference (orders self.old)) }
         ensures order { get (orders self.old) reference ≡ Some result };
 
-    /// Replaces an order by a new one, last at its price, with the side, locate and attribution of the original
-    /// (TotalView-ITCH 5.0, "Order Replace Message").
-    /// If an allocation fails, the book is left as it was.
+    /// Replaces an order by a new one, last at its price, with the side, locate and attribution of the original (TotalView-ITCH 5.0, "Order
+    /// Replace Message").
+    /// If an allocation fails, the book does not change.
     ///
-    /// The place is the one that came with the original. With another number the same is done, and may take longer.
+    /// `place` is the place returned with the original. Any other number gives the same result, but may take longer.
     fn replace(
         &mut self,
         original: u64,
@@ -101,30 +101,30 @@ pub trait OrderBook: Drop {
         ensures ok { OnOk result (orders self.new ≡ lay (replaced original reference shares price (orders self.old))) }
         ensures err { OnErr result (orders self.new ≡ orders self.old) };
 
-    /// Whether an order with this reference, which the book does not have, is likely to find room without an allocation. It is a hint
-    /// for a caller that takes another way where memory may be wanted; a book may always say no.
+    /// Returns whether an order with this reference, which is not in the book, probably needs no allocation. It is a hint for a caller that
+    /// handles possible allocations separately; a book may always return false.
     fn has_room(&self, reference: u64) -> bool {
         let _reference = reference;
         false
     }
 
-    /// Tells the book that look-ups follow, so that it may make them fast. No order changes, and no memory is taken.
+    /// Prepares the book for look-ups, so that they can be fast. No order changes, and no memory is allocated.
     fn settle(&mut self)
         ensures { orders self.new ≡ orders self.old };
 
-    /// Tells the book that these references are asked for next, so that it may look at their orders ahead. No order changes, and no
-    /// memory is taken.
+    /// Announces that these references are needed next, so that the book can read their orders ahead. No order changes, and no memory is
+    /// allocated.
     fn look_ahead(&mut self, references: &[u64])
         ensures { orders self.new ≡ orders self.old }
     {
         let _references = references;
     }
 
-    /// Tells the book that the orders of a locate are asked for next, first to last, so that it may read them ahead.
+    /// Announces that the orders of a locate are needed next, from first to last, so that the book can read them ahead.
     fn walk_ahead(&self, locate: u16) {
         let _locate = locate;
     }
 
-    // The list is in snapshot order, each order has a reference of its own, shares, and a locate.
+    // The list is in snapshot order, and each order has a unique reference, shares, and a valid locate.
     ghost is_book: { (b : Self) → IsBook (orders b) };
 }

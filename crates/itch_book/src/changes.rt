@@ -1,4 +1,4 @@
-//! Changes to a list in snapshot order: orders inserted, reduced and removed.
+//! Changes to a list in snapshot order: orders are inserted, reduced and removed.
 ghost use Rattle.std.specs.Prelude.{◌≡◌, ◌-◌, ◌<◌, ◌≤◌, None, Some, IsOk, IsSome, IsSomeAnd, IfSome, OnOk, OnErr, vec_len, vec_capacity};
 ghost use Rattle.itch_book.specs.Orders.{IsBook, get, lay, added, taken, without, replaced};
 ghost use Rattle.itch_book.specs.TakenShares.{IsLeft};
@@ -7,7 +7,7 @@ use crate::order::{Order, Taken};
 use crate::priority::{index_of, place_of};
 use std::alloc::{AllocError, Allocator};
 
-// Removes the order of a reference, and returns it. That leaves room for another one.
+// Removes the order with a reference, and returns it. The list then has room for another order.
 #[tactic(auto, using(crate::proofs::PlaceLemmas::is_cut, crate::proofs::PlaceLemmas::found_there))]
 pub(crate) fn take_out<A: Allocator>(orders: &mut Vec<Order, A>, reference: u64) -> Order
     requires book { IsBook orders.old.items }
@@ -21,7 +21,7 @@ pub(crate) fn take_out<A: Allocator>(orders: &mut Vec<Order, A>, reference: u64)
     orders.remove(place)
 }
 
-// Takes shares from the order of a reference, which is removed if none are left.
+// Takes shares from the order with a reference, and removes it if none are left.
 pub(crate) fn take_from<A: Allocator>(
     orders: &mut Vec<Order, A>,
     reference: u64,
@@ -43,7 +43,7 @@ pub(crate) fn take_from<A: Allocator>(
     Taken::Left(left)
 }
 
-// Inserts an order, last at its price. If there is room, this never fails.
+// Inserts an order, last at its price. If there is room, this cannot fail.
 pub(crate) fn put_in<A: Allocator>(
     orders: &mut Vec<Order, A>,
     order: Order,

@@ -21,14 +21,14 @@ use std::alloc::{AllocError, Allocator, Global};
 use std::cell::Cell;
 use std::marker::Model;
 
-/// The live orders as queues of one price each, seen as the list in snapshot order.
+/// The live orders as one queue per price, which contracts describe as the list in snapshot order.
 #[derive(Drop)]
 pub(crate) struct Index<A: Allocator = Global> {
     // The node of each reference.
     references: Table<A>,
     prices: Prices<A>,
     queues: Queues<A>,
-    // What was last read ahead. Nothing is made of it; but what nobody keeps, a compiler need not read.
+    // The data last read ahead. Nothing uses it, but the compiler may omit a read whose result is not stored.
     touched: Cell<u64>,
 }
 
@@ -47,7 +47,7 @@ impl<A: Allocator> Model for Index<A> {
 }
 
 impl<A: Allocator + Copy> Index<A> {
-    /// No orders.
+    /// Creates an empty index.
     pub(crate) fn new(alloc: A) -> Self
         ensures { result ≡ [] }
     {
@@ -59,14 +59,14 @@ impl<A: Allocator + Copy> Index<A> {
         }
     }
 
-    /// The number of orders.
+    /// Returns the number of orders.
     pub(crate) fn len(&self) -> usize
         ensures { result ≡ length self.now }
     {
         self.references.len()
     }
 
-    /// The order of a reference.
+    /// Returns the order with a reference.
     pub(crate) fn get(&self, reference: u64) -> Option<&Order>
         ensures order { option_copied result ≡ get self.now reference }
         ensures book { IsBook self.now }
@@ -104,7 +104,7 @@ impl<A: Allocator + Copy> Index<A> {
         }
     }
 
-    /// Takes shares from an order, which keeps its place, and is removed if none remain.
+    /// Takes shares from an order, which keeps its place, and removes it if no shares remain.
     pub(crate) fn take(&mut self, reference: u64, shares: u32) -> Taken
         requires { IsSomeAnd (get self.old reference) (λ x. shares ≤ x.shares) }
         ensures orders { self.new ≡ lay (taken reference shares self.old) }
@@ -166,7 +166,7 @@ impl<A: Allocator + Copy> Index<A> {
         Ok(())
     }
 
-    /// The order of the same locate after that of a reference, which is not looked for if it is at this node.
+    /// Returns the order after the one with a reference, among those of its locate. That order is not searched for if it is at this node.
     pub(crate) fn after(&self, reference: u64, node: usize) -> Option<Placed<'_>>
         requires { IsSome (get self.now reference) }
         ensures { option_map (λ p. p.order.now) result ≡ after self.now reference }
@@ -191,7 +191,7 @@ impl<A: Allocator + Copy> Index<A> {
         }
     }
 
-    /// Has the orders of the first of these references read into the processor's cache, with what changes beside them.
+    /// Reads the orders of the first of these references into the processor's cache, with the data that changes together with them.
     pub(crate) fn look_ahead(&self, references: &[u64]) {
         if self.len() >= MANY {
             let nodes = links_of(&self.references, references);
@@ -199,14 +199,14 @@ impl<A: Allocator + Copy> Index<A> {
         }
     }
 
-    /// Has the first orders at each price of a locate read into the processor's cache.
+    /// Reads the first orders at each price of a locate into the processor's cache.
     pub(crate) fn walk_ahead(&self, locate: u16) {
         let bids = self.queues.read_ahead(self.prices.line(locate, Side::Buy));
         let asks = self.queues.read_ahead(self.prices.line(locate, Side::Sell));
         self.touched.set(bids ^ asks);
     }
 
-    /// The first order of a locate.
+    /// Returns the first order of a locate.
     pub(crate) fn first(&self, locate: u16) -> Option<Placed<'_>>
         ensures { option_map (λ p. p.order.now) result ≡ find (is_in locate) self.now }
     {
@@ -216,14 +216,14 @@ impl<A: Allocator + Copy> Index<A> {
         }
     }
 
-    /// The order of a locate and side that has priority over all others there.
+    /// Returns the order of a locate and side with the highest priority.
     pub(crate) fn front(&self, locate: u16, side: Side) -> Option<&Order>
         ensures { option_copied result ≡ find (is_of locate side) self.now }
     {
         order_of(self.best(locate, side))
     }
 
-    // The same, with its node.
+    // Returns the same order with its node.
     fn best(&self, locate: u16, side: Side) -> Option<Placed<'_>>
         ensures front { option_map (λ p. p.order.now) result ≡ find (is_of locate side) self.now }
         ensures book { IsBook self.now }
@@ -232,7 +232,7 @@ impl<A: Allocator + Copy> Index<A> {
         head_of(&self.queues, queue)
     }
 
-    /// The best price of a side, or the best one worse than the last.
+    /// Returns the best price of a side, or the best one worse than the last.
     pub(crate) fn next_price(&self, locate: u16, side: Side, last: Option<u32>) -> Option<u32>
         ensures { result ≡ next_price self.now locate side last }
     {
@@ -240,7 +240,7 @@ impl<A: Allocator + Copy> Index<A> {
         Some(price)
     }
 
-    /// The shares at a price, and the number of orders.
+    /// Returns the total shares at a price, and the number of orders.
     pub(crate) fn level_total(&self, locate: u16, side: Side, price: u32) -> (u128, u64)
         ensures { result ≡ level_total self.now locate side price }
     {
@@ -251,7 +251,7 @@ impl<A: Allocator + Copy> Index<A> {
     }
 }
 
-// The node of a reference.
+// Returns the node of a reference.
 fn node_at<A: Allocator>(references: &Table<A>, reference: u64) -> Option<usize>
     ensures { result ≡ at references.now reference }
 {
@@ -261,7 +261,7 @@ fn node_at<A: Allocator>(references: &Table<A>, reference: u64) -> Option<usize>
     }
 }
 
-// The node of a reference that has one.
+// Returns the node of a reference that is in the table.
 fn known_node<A: Allocator>(references: &Table<A>, reference: u64) -> usize
     requires { IsSome (at references.now reference) }
     ensures { at references.now reference ≡ Some result }
@@ -269,7 +269,7 @@ fn known_node<A: Allocator>(references: &Table<A>, reference: u64) -> usize
     node_at(references, reference).unwrap()
 }
 
-// The node of a reference that has one: this node, if the order is there.
+// Returns the node of a reference that is in the table: this node, if it holds the order.
 fn node_from<A: Allocator>(
     references: &Table<A>,
     queues: &Queues<A>,
@@ -286,7 +286,7 @@ fn node_from<A: Allocator>(
     known_node(references, reference)
 }
 
-// Puts the next node under a new reference. If the allocation fails, or if no link leads so far, nothing changes.
+// Links a new reference to the next node. If the allocation fails, or if no link can hold the node's key, nothing changes.
 fn refer<A: Allocator + Copy>(
     references: &mut Table<A>,
     reference: u64,
@@ -303,7 +303,7 @@ fn refer<A: Allocator + Copy>(
     references.insert(reference, node as u32)
 }
 
-// The queue at a price of a side, opened if there is none. If an allocation fails, nothing changes.
+// Returns the queue at a price of a side, and opens it if there is none. If an allocation fails, nothing changes.
 fn level_for<A: Allocator + Copy>(
     prices: &mut Prices<A>,
     queues: &mut Queues<A>,
@@ -343,7 +343,7 @@ fn close_empty<A: Allocator + Copy>(
     prices.close_level(queues, queue, locate, side, price);
 }
 
-// Removes the order of a reference, and its queue if that is empty then.
+// Removes the order with a reference, and then its queue if that is empty.
 fn take_out<A: Allocator + Copy>(
     references: &mut Table<A>,
     prices: &mut Prices<A>,
@@ -362,7 +362,7 @@ fn take_out<A: Allocator + Copy>(
     order
 }
 
-// The first order of a queue.
+// Returns the first order of a queue.
 fn head_of<A: Allocator>(queues: &Queues<A>, queue: usize) -> Option<Placed<'_>>
     requires there { IsSome (keys_at queues.now queue) }
     requires live { (ks : List ℕ) → (k : ℕ) → keys_at queues.now queue ≡ Some ks → list_any (eqb k) ks ≡ true → IsSome (order_at queues.now k) }
@@ -375,7 +375,7 @@ fn head_of<A: Allocator>(queues: &Queues<A>, queue: usize) -> Option<Placed<'_>>
     })
 }
 
-// Puts an order last in the queue of its price. There is room for it, and its reference leads to its node.
+// Puts an order last in the queue of its price. The caller has reserved room, and the order's reference already links to its node.
 fn put_last<A: Allocator + Copy>(queues: &mut Queues<A>, queue: usize, order: Order)
     requires there { IsSome (keys_at queues.old queue) }
     requires room { 0 < queues.old.node_room }

@@ -8,9 +8,9 @@ use crate::order::{Order, Placed, Taken, unplaced};
 use itch_codec::Side;
 use std::alloc::{AllocError, Allocator, Global};
 
-/// The live orders as queues of one price each.
+/// The live orders as one queue per price.
 ///
-/// A side of a locate has its 256 first prices in a line, with the best one last, and others in a tree, so the time of a call
+/// The first 256 prices of a side of a locate are in a sorted line with the best price last, and others are in a tree. So the time of a call
 /// grows with the logarithm of the number of prices.
 #[derive(Drop)]
 pub struct IndexedBook<A: Allocator = Global> {
@@ -92,7 +92,7 @@ impl<A: Allocator + Copy> OrderBook for IndexedBook<A> {
         self.index.walk_ahead(locate);
     }
 
-    // The index is kept with each change.
+    // The index is up to date after each change.
     fn settle(&mut self) {}
 
     ghost is_book = { λ b. b.is_kept };

@@ -1,4 +1,4 @@
-//! The queues of one side's price levels: most in lines, and those that found their line full in a tree.
+//! The queues of one side's price levels: most are in lines, and those whose line was full are in a tree.
 ghost use Rattle.std.specs.Prelude.{◌≡◌, ℕ, [], Some, None, cond, OnOk, OnErr};
 ghost use Rattle.std.specs.BTreeMap.{is_at};
 ghost use Rattle.itch_book.specs.Indexed.{place_cmp, IsNextOr};
@@ -11,19 +11,19 @@ use itch_codec::Side;
 use std::alloc::{AllocError, Allocator, Global};
 use std::collections::BTreeMap;
 
-// A line has at most so many levels: to move them all takes about as long as a search of the tree does.
+// The maximum number of levels of a line: moving all of them takes about as long as a search in the tree.
 const LINE: usize = 256;
 
 /// The queue of each locate and price of a side.
 #[derive(Drop)]
 pub(crate) struct Ladder<A: Allocator = Global> {
-    // The levels of each locate, the best last.
+    // The levels of each locate, with the best level last.
     pub(crate) near: Vec<Vec<Level, A>, A>,
-    // The levels that found their line full.
+    // The levels whose line was full.
     pub(crate) far: Places<A>,
 }
 
-/// No price levels.
+/// Returns a ladder without price levels.
 pub(crate) fn no_levels<A: Allocator + Copy>(side: Side, alloc: A) -> Ladder<A>
     ensures levels { levels_on result ≡ [] }
     ensures ladder { IsLadder side result }
@@ -34,7 +34,7 @@ pub(crate) fn no_levels<A: Allocator + Copy>(side: Side, alloc: A) -> Ladder<A>
     }
 }
 
-/// The queue at a place.
+/// Returns the queue at a place.
 pub(crate) fn queue_on<A: Allocator>(
     ladder: &Ladder<A>,
     side: Side,
@@ -51,7 +51,7 @@ pub(crate) fn queue_on<A: Allocator>(
     ladder.far.get(&(locate, price)).copied()
 }
 
-// The better of two levels, if there are two.
+// Returns the better of two levels, if there are two.
 fn better_of(
     side: Side,
     one: Option<(u32, usize)>,
@@ -72,7 +72,7 @@ fn better_of(
     }
 }
 
-/// The best price of a locate, or the best one worse than the last, and its queue.
+/// Returns the best price of a locate, or the best one worse than the last, and its queue.
 pub(crate) fn next_on<A: Allocator>(
     ladder: &Ladder<A>,
     side: Side,
@@ -89,7 +89,7 @@ pub(crate) fn next_on<A: Allocator>(
     better_of(side, near, next_far(&ladder.far, side, locate, last))
 }
 
-/// Puts a queue at a place that has none. If an allocation fails, no level changes.
+/// Puts a queue at a place without a queue. If an allocation fails, no level changes.
 pub(crate) fn put_on<A: Allocator + Copy>(
     ladder: &mut Ladder<A>,
     side: Side,
@@ -112,7 +112,7 @@ pub(crate) fn put_on<A: Allocator + Copy>(
     }
 }
 
-/// Takes the queue from a place.
+/// Removes the queue from a place.
 pub(crate) fn cut_on<A: Allocator + Copy>(
     ladder: &mut Ladder<A>,
     side: Side,

@@ -1,6 +1,6 @@
-//! What holds of orders and of every book, of any size.
+//! Laws of orders and of all books, of any size.
 //!
-//! Each function of this module does nothing: its clauses are the laws.
+//! Each function of this module has an empty body: its clauses state the laws.
 ghost use Rattle.std.specs.Prelude.{◌≡◌, ℕ, ◌<◌, ◌⊎◌, ◌↔◌, true, false, List, Some, Option, IsPermutation, IfSome, IfNone, Contains, slice_get, find};
 ghost use Rattle.std.specs.List.{filter, AllByRecursion};
 ghost use Rattle.itch_codec.specs.declared.orders.Side.{Side};
@@ -10,9 +10,8 @@ ghost use Rattle.itch_book.specs.Priority.{arrival, IsLine};
 
 use crate::book::OrderBook;
 
-/// A queue has the orders of its locate and side, each as often as it arrived. Of any two places in it, one comes before the
-/// other if and only if its order has the better price, or the same price and arrived earlier. No other list has
-/// these two properties.
+/// A queue contains the orders of its locate and side, each as often as it arrived. For any two positions in it, one is before the other if
+/// and only if its order has the better price, or the same price and arrived earlier. No other list has these two properties.
 #[tactic(auto, using(crate::proofs::QueueLemmas::queue_members))]
 pub fn queues()
     ensures members { (orders : List Order) → (locate : ℕ) → (side : Side)
@@ -26,8 +25,8 @@ pub fn queues()
         → IsLine orders locate side line → line ≡ queue orders locate side }
 {}
 
-/// A laid list, that is, one put into snapshot order, stays as it is if it is laid again, and has the queues and the orders of
-/// the list that it was made from.
+/// A laid list, that is, a list sorted into snapshot order, does not change if it is laid again, and has the same queues and the same orders
+/// as the original list.
 #[tactic(auto, using(crate::proofs::LawRules::laid_laws))]
 pub fn laid_lists()
     ensures laid { (orders : List Order) → lay (lay orders) ≡ lay orders }
@@ -37,7 +36,7 @@ pub fn laid_lists()
         → get (lay orders) reference ≡ get orders reference }
 {}
 
-/// A change has the same effect on a list and on the laid list, once both results are laid.
+/// A change has the same effect on a list and on the laid list, after both results are laid.
 #[tactic(auto, using(crate::proofs::LawRules::effect_laws))]
 pub fn changes()
     ensures added { (x : Order) → (orders : List Order) → lay (added x (lay orders)) ≡ lay (added x orders) }
@@ -48,7 +47,7 @@ pub fn changes()
         → lay (replaced original reference shares price (lay orders)) ≡ lay (replaced original reference shares price orders) }
 {}
 
-/// Lists with equal queues, or with equal orders at every price level, have one laid list.
+/// Lists with equal queues, or with equal orders at every price level, have the same laid list.
 #[tactic(auto, using(crate::proofs::LawRules::same_laws))]
 pub fn same_lists()
     ensures queues { (xs ys : List Order)
@@ -57,8 +56,8 @@ pub fn same_lists()
         → ((locate : ℕ) → (side : Side) → (price : ℕ) → level xs locate side price ≡ level ys locate side price) → lay xs ≡ lay ys }
 {}
 
-/// Live orders with distinct references, laid, are a book's list. A book's list is laid, has at each locate and side the first
-/// of its queue first, and has the orders of a locate with bids before asks.
+/// Live orders with distinct references, laid, are the list of a book. The list of a book is laid, the first order of each locate and side is
+/// the first of its queue, and the orders of a locate are its bids and then its asks.
 #[tactic(auto, using(crate::proofs::LawRules::book_laws))]
 pub fn books()
     ensures made { (orders : List Order) → IsDistinct orders → AllByRecursion IsLive orders → IsBook (lay orders) }
@@ -68,8 +67,8 @@ pub fn books()
     ensures sides { (orders : List Order) → (locate : ℕ) → IsBook orders → sides orders locate ≡ filter (is_in locate) orders }
 {}
 
-/// The next price of a side is that of an order whose price is worse than the last; no such order has a better price.
-/// If there is no next price, there is no such order.
+/// The next price of a side is the price of an order that is worse than the last price; no such order has a better price. If there is no next
+/// price, there is no such order.
 #[tactic(auto, using(crate::proofs::LawRules::price_laws))]
 pub fn next_prices()
     ensures stands { (orders : List Order) → (locate : ℕ) → (side : Side) → (last : Option ℕ)

@@ -1,10 +1,10 @@
-//! The live orders of a day as one list: all its order books in one, in snapshot order.
+//! The live orders of a day as one list in snapshot order, which contains all order books.
 //!
-//! An [`OrderBook`] adds, takes, deletes and replaces orders, and gives the best of a side, the next price and the total of a
-//! price level. Its contracts speak only of the list of live orders, so every book meets the same ones: [`ListBook`]
-//! is that list, [`IndexedBook`] is the one to use, and [`SettledBook`] serves where only the last state is looked at. Only adding
-//! and replacing allocate; if that fails, the book is left as it was. `laws` states what holds of every book, and `table` has the map
-//! in which the last two find an order by its reference.
+//! An [`OrderBook`] adds, takes, deletes and replaces orders, and returns the best order of a side, the next price and the total of a price
+//! level. Its contracts refer only to the list of live orders, so they are the same for every book. [`ListBook`] stores exactly that list.
+//! Use [`IndexedBook`] by default; [`SettledBook`] is faster if you only look at the final state. Only adding and replacing allocate memory;
+//! if an allocation fails, the book does not change. `laws` states the properties of all books, and `table` is the map that the last two
+//! books use to find an order by its reference.
 //!
 //! ```
 //! let mut book = IndexedBook::new(alloc);

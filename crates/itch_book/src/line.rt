@@ -1,4 +1,4 @@
-//! A line: orders in snapshot order, in which they are found by search, or from one to the next.
+//! A line: orders in snapshot order, which are found by binary search, or from one to the next.
 ghost use Rattle.std.specs.Prelude.{◌≡◌, ◌+◌, ◌<◌, ◌↔◌, IsTrue, IsSomeAnd, IfSome, length, drop, map, find, option_map, slice_get};
 ghost use Rattle.itch_book.specs.StableLists.{IsInOrder};
 ghost use Rattle.itch_book.specs.Orders.{is_in, level_total};
@@ -9,7 +9,7 @@ use crate::order::{Order, Placed};
 use crate::priority::{is_level, stands_before};
 use itch_codec::Side;
 
-// The first that is looked for.
+// Returns the first wanted order.
 pub(crate) fn first_in_line(line: &[Arrived], wanted: Wanted) -> Option<Placed<'_>>
     requires { IsInOrder comes_before line.now }
     ensures { option_map (λ p. p.order.now) result ≡ option_map its_order (find (wants wanted) line.now) }
@@ -26,7 +26,7 @@ pub(crate) fn first_in_line(line: &[Arrived], wanted: Wanted) -> Option<Placed<'
     }
 }
 
-// Whether the order of a reference stands at a place.
+// Returns whether the order with a reference is at a place.
 #[inline(always)]
 pub(crate) fn stands_at(line: &[Arrived], reference: u64, place: usize) -> bool
     ensures { IsTrue result ↔ IsSomeAnd (slice_get line.now place) (λ x. x.order.reference ≡ reference) }
@@ -37,7 +37,7 @@ pub(crate) fn stands_at(line: &[Arrived], reference: u64, place: usize) -> bool
     }
 }
 
-// The next order of the locate of the one at a place.
+// Returns the next order with the same locate as the one at a place.
 pub(crate) fn next_in_line(line: &[Arrived], place: usize) -> Option<Placed<'_>>
     requires order { IsInOrder comes_before line.now }
     requires within { place < length line.now }
@@ -45,7 +45,7 @@ pub(crate) fn next_in_line(line: &[Arrived], place: usize) -> Option<Placed<'_>>
 {
     let here = &line[place];
     let place = place + 1;
-    // The orders of a locate stand side by side.
+    // The orders of a locate are contiguous.
     let next = line.get(place)?;
     if next.order.locate == here.order.locate {
         Some(Placed {
@@ -57,12 +57,12 @@ pub(crate) fn next_in_line(line: &[Arrived], place: usize) -> Option<Placed<'_>>
     }
 }
 
-// The shares at a price, and the number of orders.
+// Returns the total shares at a price, and the number of orders.
 pub(crate) fn level_in_line(line: &[Arrived], locate: u16, side: Side, price: u32) -> (u128, u64)
     requires { IsInOrder comes_before line.now }
     ensures { result ≡ level_total (map its_order line.now) locate side price }
 {
-    // Of this one only the place counts.
+    // Only the position of this order matters.
     let there = Order {
         reference: 0,
         shares: 0,
@@ -76,7 +76,7 @@ pub(crate) fn level_in_line(line: &[Arrived], locate: u16, side: Side, price: u3
     total_in(&line[start..end], locate, side, price)
 }
 
-// The shares at a price, and the number of orders, by going over all of these orders.
+// Returns the total shares at a price, and the number of orders, by a scan over all of these orders.
 pub(crate) fn total_in(orders: &[Arrived], locate: u16, side: Side, price: u32) -> (u128, u64)
     ensures { result ≡ level_total (map its_order orders.now) locate side price }
 {

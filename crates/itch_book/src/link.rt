@@ -1,13 +1,13 @@
-//! Links to places of a vector or a slab, of half a word each.
+//! Links to places of a vector or a slab, of half a machine word each.
 ghost use Rattle.std.specs.Prelude.{◌≡◌, ℕ, ◌<◌, Option, Some, None};
 ghost use Rattle.itch_book.specs.Link.{place_of, word_of, word_of-place_of};
 
 use std::marker::Model;
 
-/// A place, or none.
+/// A place, or no place.
 #[derive(Clone, Copy)]
 pub(crate) struct Link {
-    // The greatest number stands for none: every place is below it.
+    // The largest number means no place: every place is below it.
     word: u32,
 }
 
@@ -22,7 +22,7 @@ impl Model for Link {
 }
 
 impl Link {
-    /// A link to no place.
+    /// Returns a link to no place.
     #[inline(always)]
     pub(crate) fn none() -> Link
         ensures { result ≡ None }
@@ -30,7 +30,7 @@ impl Link {
         Link { word: u32::MAX }
     }
 
-    /// A link to a place.
+    /// Returns a link to a place.
     #[inline(always)]
     pub(crate) fn to(place: u32) -> Link
         requires { place < 4294967295 }
@@ -39,7 +39,7 @@ impl Link {
         Link { word: place }
     }
 
-    /// The place.
+    /// Returns the place.
     #[inline(always)]
     pub(crate) fn place(self) -> Option<u32>
         ensures { result ≡ self }
@@ -50,7 +50,7 @@ impl Link {
         Some(self.word)
     }
 
-    /// The place, as the key of a slab.
+    /// Returns the place, as the key of a slab.
     pub(crate) fn key(self) -> Option<usize>
         ensures { result ≡ self }
     {

@@ -1,4 +1,4 @@
-//! A book that is one list.
+//! A book that is a single list.
 ghost use Rattle.std.specs.Prelude.{◌≡◌, ◌<◌, None, IsSome, IsOk, OnOk, OnErr, vec_len, vec_capacity};
 ghost use Rattle.itch_book.specs.Orders.{IsBook, get, lay, added, replaced};
 ghost use Rattle.itch_book.specs.BookLists.{IsBook-prop};
@@ -12,7 +12,7 @@ use std::alloc::{AllocError, Allocator, Global};
 
 /// The live orders as one list in snapshot order.
 ///
-/// Each call goes over the list, so the time of a call grows with the number of live orders.
+/// Each call scans the list, so the time of a call grows with the number of live orders.
 #[derive(Drop)]
 pub struct ListBook<A: Allocator = Global> {
     orders: Vec<Order, A>,
@@ -82,7 +82,7 @@ impl<A: Allocator + Copy> OrderBook for ListBook<A> {
         take_out(&mut self.orders, reference)
     }
 
-    // The removed order leaves room, so nothing is allocated.
+    // Allocates nothing, since the removed order leaves room.
     fn replace(
         &mut self,
         original: u64,

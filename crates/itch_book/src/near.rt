@@ -1,4 +1,4 @@
-//! The price levels of one side, a line for each locate. The best price is last, where most changes are.
+//! The price levels of one side, in one line per locate. The best price is last, where most changes occur.
 ghost use Rattle.std.specs.Prelude.{◌≡◌, ℕ, ◌<◌, ◌≤◌, not, cond, eqb, length, None, Some, is_some, OnOk, OnErr};
 ghost use Rattle.std.specs.List.{position_or_len};
 ghost use Rattle.std.specs.BTreeMap.{is_at};
@@ -17,7 +17,7 @@ pub(crate) struct Level {
     pub(crate) queue: usize,
 }
 
-// How many levels are worse than a price.
+// Returns the number of levels that are worse than a price.
 fn place_of(levels: &[Level], side: Side, price: u32) -> usize
     requires { IsRising side levels.now }
     ensures place { result ≡ position_or_len (λ x. not (is_better side price x.price)) levels.now }
@@ -26,7 +26,7 @@ fn place_of(levels: &[Level], side: Side, price: u32) -> usize
     levels.partition_point(|level| is_better(side, price, level.price))
 }
 
-// How many levels are worse than the last price, if there is one.
+// Returns the number of levels that are worse than the last price, if there is one.
 fn end_of(levels: &[Level], side: Side, last: Option<u32>) -> usize
     requires { IsRising side levels.now }
     ensures end { result ≡ position_or_len (λ x. not (is_worse side last x.price)) levels.now }
@@ -38,7 +38,7 @@ fn end_of(levels: &[Level], side: Side, last: Option<u32>) -> usize
     }
 }
 
-/// The queue at a price.
+/// Returns the queue at a price.
 pub(crate) fn queue_in(levels: &[Level], side: Side, price: u32) -> Option<usize>
     requires { IsRising side levels.now }
     ensures { result ≡ queue_in levels.now price }
@@ -51,7 +51,7 @@ pub(crate) fn queue_in(levels: &[Level], side: Side, price: u32) -> Option<usize
     }
 }
 
-/// The best price, or the best one worse than the last, and its queue.
+/// Returns the best price, or the best one worse than the last, and its queue.
 pub(crate) fn next_in(levels: &[Level], side: Side, last: Option<u32>) -> Option<(u32, usize)>
     requires { IsRising side levels.now }
     ensures { IsNextOr (queue_in levels.now) side last result }
@@ -65,7 +65,7 @@ pub(crate) fn next_in(levels: &[Level], side: Side, last: Option<u32>) -> Option
     Some((level.price, level.queue))
 }
 
-// Puts a level at a price that has none. If the allocation fails, nothing changes.
+// Inserts a level at a price without a level. If the allocation fails, nothing changes.
 fn put_in<A: Allocator>(
     levels: &mut Vec<Level, A>,
     side: Side,
@@ -82,7 +82,7 @@ fn put_in<A: Allocator>(
     Ok(())
 }
 
-// Takes out the level at a price. Returns whether there was one.
+// Removes the level at a price. Returns whether there was one.
 fn cut_from<A: Allocator>(levels: &mut Vec<Level, A>, side: Side, price: u32) -> bool
     requires { IsRising side levels.old.items }
     ensures rising { IsRising side levels.new.items }
@@ -100,7 +100,7 @@ fn cut_from<A: Allocator>(levels: &mut Vec<Level, A>, side: Side, price: u32) ->
     true
 }
 
-/// The line of a locate.
+/// Returns the line of a locate.
 pub(crate) fn line_of<A: Allocator>(near: &[Vec<Level, A>], locate: u16) -> &[Level]
     ensures { result.now ≡ line_of (lines near.now) locate }
 {
@@ -110,7 +110,7 @@ pub(crate) fn line_of<A: Allocator>(near: &[Vec<Level, A>], locate: u16) -> &[Le
     }
 }
 
-/// Makes the lines reach a locate. If an allocation fails, no level changes.
+/// Extends the lines up to a locate. If an allocation fails, no level changes.
 pub(crate) fn reach<A: Allocator + Copy>(
     near: &mut Vec<Vec<Level, A>, A>,
     locate: u16,
@@ -126,7 +126,7 @@ pub(crate) fn reach<A: Allocator + Copy>(
     Ok(())
 }
 
-/// Puts a level at a price that has none. If the allocation fails, nothing changes.
+/// Inserts a level at a price without a level. If the allocation fails, nothing changes.
 pub(crate) fn put_near<A: Allocator>(
     near: &mut Vec<Vec<Level, A>, A>,
     side: Side,
@@ -143,7 +143,7 @@ pub(crate) fn put_near<A: Allocator>(
     put_in(&mut near[locate as usize], side, level)
 }
 
-/// Takes out the level at a price. Returns whether there was one.
+/// Removes the level at a price. Returns whether there was one.
 pub(crate) fn cut_near<A: Allocator>(
     near: &mut Vec<Vec<Level, A>, A>,
     side: Side,

@@ -1,4 +1,4 @@
-//! The queues of price levels, for each side.
+//! The queues of the price levels of both sides.
 ghost use Rattle.std.specs.Prelude.{◌≡◌, ℕ, [], Some, None, cond, OnErr, IfOk, Ok, ◌<◌};
 ghost use Rattle.std.specs.BTreeMap.{is_at};
 ghost use Rattle.itch_codec.specs.declared.orders.Side.{Side};
@@ -33,7 +33,7 @@ impl<A: Allocator> Model for Prices<A> {
 }
 
 impl<A: Allocator> Prices<A> {
-    /// The levels in the line of a locate and side.
+    /// Returns the levels in the line of a locate and side.
     pub(crate) fn line(&self, locate: u16, side: Side) -> &[Level] {
         match side {
             Side::Buy => line_of(&self.bids.near, locate),
@@ -43,7 +43,7 @@ impl<A: Allocator> Prices<A> {
 }
 
 impl<A: Allocator + Copy> Prices<A> {
-    /// No price levels.
+    /// Returns a collection without price levels.
     pub(crate) fn new(alloc: A) -> Self
         ensures bids { result.bids ≡ [] }
         ensures asks { result.asks ≡ [] }
@@ -54,7 +54,7 @@ impl<A: Allocator + Copy> Prices<A> {
         }
     }
 
-    /// The queue at a price of a side.
+    /// Returns the queue at a price of a side.
     pub(crate) fn queue_at(&self, locate: u16, side: Side, price: u32) -> Option<usize>
         ensures { result ≡ queue_of_side side self.now.bids self.now.asks locate price }
     {
@@ -64,7 +64,7 @@ impl<A: Allocator + Copy> Prices<A> {
         }
     }
 
-    /// The best price of a side, or the best one worse than the last, and its queue.
+    /// Returns the best price of a side, or the best one worse than the last, and its queue.
     pub(crate) fn next_level(
         &self,
         locate: u16,
@@ -79,7 +79,7 @@ impl<A: Allocator + Copy> Prices<A> {
         }
     }
 
-    /// The queue at a price of a side, opened if there is none. If an allocation fails, nothing changes.
+    /// Returns the queue at a price of a side, and opens it if there is none. If an allocation fails, nothing changes.
     pub(crate) fn level(
         &mut self,
         queues: &mut Queues<A>,
@@ -101,7 +101,7 @@ impl<A: Allocator + Copy> Prices<A> {
         }
     }
 
-    /// Takes an empty queue from a price of a side, and closes it.
+    /// Removes an empty queue from a price of a side, and closes it.
     pub(crate) fn close_level(
         &mut self,
         queues: &mut Queues<A>,
@@ -125,7 +125,7 @@ impl<A: Allocator + Copy> Prices<A> {
     }
 }
 
-// The queue at a place, opened if there is none. If an allocation fails, nothing changes.
+// Returns the queue at a place, and opens it if there is none. If an allocation fails, nothing changes.
 fn level_on<A: Allocator + Copy>(
     ladder: &mut Ladder<A>,
     queues: &mut Queues<A>,

@@ -1,4 +1,4 @@
-//! The places of orders in a list that is in snapshot order.
+//! The places of orders in a list in snapshot order.
 ghost use Rattle.std.specs.Prelude.{◌≡◌, ◌<◌, ◌≤◌, ◌&&◌, length, Option, IsSome, find};
 ghost use Rattle.std.specs.List.{position, position_or_len};
 ghost use Rattle.std.specs.Option.{option_copied};
@@ -9,7 +9,7 @@ ghost use Rattle.itch_book.specs.Orders.{stands_before, has_reference, is_better
 use crate::order::Order;
 use itch_codec::Side;
 
-// Whether the first price is better than the second.
+// Returns whether the first price is better than the second.
 pub(crate) fn is_better(side: Side, price: u32, other: u32) -> bool
     ensures { result ≡ is_better side price other }
 {
@@ -19,7 +19,7 @@ pub(crate) fn is_better(side: Side, price: u32, other: u32) -> bool
     }
 }
 
-// Whether one order comes before another in the list, whichever of them arrived first.
+// Returns whether one order comes before another in the list, for any order of arrival.
 pub(crate) fn stands_before(one: &Order, other: &Order) -> bool
     ensures { result ≡ stands_before one.now other.now }
 {
@@ -34,7 +34,7 @@ pub(crate) fn stands_before(one: &Order, other: &Order) -> bool
     }
 }
 
-// The place for an order that arrived last: before the first order that it precedes.
+// Returns the place for an order that arrived last: before the first order that it precedes.
 pub(crate) fn place_of(orders: &[Order], order: &Order) -> usize
     requires { IsInOrder stands_before orders.now }
     ensures place { result ≡ position_or_len (stands_before order.now) orders.now }
@@ -43,14 +43,14 @@ pub(crate) fn place_of(orders: &[Order], order: &Order) -> usize
     orders.partition_point(|other| !stands_before(order, other))
 }
 
-// The place of the order of a reference, if it is there.
+// Returns the place of the order with a reference, if it is in the list.
 pub(crate) fn place_in(orders: &[Order], reference: u64) -> Option<usize>
     ensures { result ≡ position (has_reference reference) orders.now }
 {
     orders.iter().position(|order| order.reference == reference)
 }
 
-// The place of an order that is there.
+// Returns the place of an order that is in the list.
 pub(crate) fn index_of(orders: &[Order], reference: u64) -> usize
     requires { IsSome (get orders.now reference) }
     ensures place { result ≡ position_or_len (has_reference reference) orders.now }
@@ -59,28 +59,28 @@ pub(crate) fn index_of(orders: &[Order], reference: u64) -> usize
     place_in(orders, reference).unwrap()
 }
 
-// The first order of a locate.
+// Returns the first order of a locate.
 pub(crate) fn first_in(orders: &[Order], locate: u16) -> Option<&Order>
     ensures { option_copied result ≡ find (is_in locate) orders.now }
 {
     orders.iter().find(|order| order.locate == locate)
 }
 
-// Whether an order is one of a locate and side.
+// Returns whether an order is of this locate and side.
 pub(crate) fn is_of(order: &Order, locate: u16, side: Side) -> bool
     ensures { result ≡ is_of locate side order.now }
 {
     order.locate == locate && order.side == side
 }
 
-// The first order of a locate and side.
+// Returns the first order of a locate and side.
 pub(crate) fn first_of(orders: &[Order], locate: u16, side: Side) -> Option<&Order>
     ensures { option_copied result ≡ find (is_of locate side) orders.now }
 {
     orders.iter().find(|order| is_of(order, locate, side))
 }
 
-// The next order of the same locate after that of a reference.
+// Returns the order after the one with a reference, among those of its locate.
 pub(crate) fn next_of(orders: &[Order], reference: u64) -> Option<&Order>
     requires { IsSome (get orders.now reference) }
     ensures { option_copied result ≡ after orders.now reference }
@@ -89,7 +89,7 @@ pub(crate) fn next_of(orders: &[Order], reference: u64) -> Option<&Order>
     first_in(&orders[index + 1..], orders[index].locate)
 }
 
-// Whether a price is worse than the last, if there is a last one.
+// Returns whether a price is worse than the last, if there is a last one.
 pub(crate) fn is_worse(side: Side, last: Option<u32>, price: u32) -> bool
     ensures { result ≡ is_worse side last price }
 {
@@ -99,7 +99,7 @@ pub(crate) fn is_worse(side: Side, last: Option<u32>, price: u32) -> bool
     }
 }
 
-// The best price of a side, or the best one worse than the last.
+// Returns the best price of a side, or the best one worse than the last.
 pub(crate) fn price_after(
     orders: &[Order],
     locate: u16,
@@ -114,14 +114,14 @@ pub(crate) fn price_after(
         .map(|order| order.price)
 }
 
-// Whether an order is at a price.
+// Returns whether an order is at a price.
 pub(crate) fn is_level(order: &Order, locate: u16, side: Side, price: u32) -> bool
     ensures { result ≡ is_level locate side price order.now }
 {
     is_of(order, locate, side) && order.price == price
 }
 
-// The shares at a price, and the number of orders.
+// Returns the total shares at a price, and the number of orders.
 pub(crate) fn total_at(orders: &[Order], locate: u16, side: Side, price: u32) -> (u128, u64)
     ensures { result ≡ level_total orders.now locate side price }
 {

@@ -1,4 +1,4 @@
-//! Queues of orders: nodes linked both ways, and for each queue its ends and totals.
+//! Queues of orders: doubly linked nodes, and the ends and totals of each queue.
 ghost use Rattle.std.specs.Prelude.{◌≡◌, ℕ, ◌+◌, ◌-◌, ◌<◌, ◌≤◌, ◌^◌, List, [], ◌∷◌, ◌++◌, IsSome, Some, None, Option, option_map, OnOk, eqb, true, IsTrue, ◌↔◌, IsSomeAnd};
 ghost use Rattle.std.specs.List.{list_any};
 ghost use Rattle.slab.specs.Slab.{get, slab_len, ContainsKey};
@@ -26,7 +26,7 @@ pub(crate) struct Node {
     after: Link,
 }
 
-// With the slab's own word a node takes less than a cache line of 64 bytes.
+// With the slab's own word, a node is smaller than a cache line of 64 bytes.
 const _: () = prove!(size_of::<Node>() == 40);
 
 // The ends of a queue, and its totals.
@@ -38,7 +38,7 @@ pub(crate) struct Head {
     orders: u64,
 }
 
-/// Orders under node keys, each in one of many queues.
+/// Orders by node key, each in one of many queues.
 #[derive(Drop)]
 pub(crate) struct Queues<A: Allocator = Global> {
     nodes: Slab<Node, A>,
@@ -58,7 +58,7 @@ impl<A: Allocator> Model for Queues<A> {
 }
 
 impl<A: Allocator + Copy> Queues<A> {
-    /// No queues.
+    /// Creates a collection without queues.
     pub(crate) fn new(alloc: A) -> Self
         ensures queues { result.queues ≡ [] }
         ensures orders { result.orders ≡ [] }
@@ -71,21 +71,21 @@ impl<A: Allocator + Copy> Queues<A> {
 }
 
 impl<A: Allocator> Queues<A> {
-    /// The key of the next order's node.
+    /// Returns the key of the next order's node.
     pub(crate) fn next_key(&self) -> usize
         ensures { result ≡ self.now.next_key }
     {
         self.nodes.vacant_key()
     }
 
-    /// The key of the next queue.
+    /// Returns the key of the next queue.
     pub(crate) fn next_queue(&self) -> usize
         ensures { result ≡ self.now.next_queue }
     {
         self.heads.vacant_key()
     }
 
-    /// Makes room for one more order, and for one more queue.
+    /// Reserves room for one more order, and for one more queue.
     pub(crate) fn reserve(&mut self) -> Result<(), AllocError>
         ensures room { OnOk result ((0 < self.new.node_room) × (0 < self.new.queue_room)) }
         ensures queues { self.new.queues ≡ self.old.queues }
@@ -141,7 +141,7 @@ impl<A: Allocator> Queues<A> {
         let last = self.heads[queue].last;
         let node = last_node(order, queue, last);
         let key = self.nodes.insert_reserved(node);
-        // No queue has more nodes than the capacity.
+        // A queue has no more nodes than the capacity.
         let _most = self.nodes.capacity();
         let link = Link::to(key as u32);
         link_after(&mut self.nodes, last, link);
@@ -190,7 +190,7 @@ impl<A: Allocator> Queues<A> {
         set_head(&mut self.heads, queue, head);
     }
 
-    /// Whether the order of a reference is at a node.
+    /// Returns whether the order with a reference is at a node.
     pub(crate) fn has_at(&self, key: usize, reference: u64) -> bool
         ensures { IsTrue result ↔ IsSomeAnd (order_at self.now key) (λ x. x.reference ≡ reference) }
     {
@@ -200,7 +200,7 @@ impl<A: Allocator> Queues<A> {
         }
     }
 
-    /// The order of a node.
+    /// Returns the order of a node.
     pub(crate) fn order(&self, key: usize) -> &Order
         requires { IsSome (order_at self.now key) }
         ensures { order_at self.now key ≡ Some result.now }
@@ -208,7 +208,7 @@ impl<A: Allocator> Queues<A> {
         &self.nodes[key].order
     }
 
-    /// The queue that a node is in.
+    /// Returns the queue of a node.
     pub(crate) fn queue_of(&self, key: usize) -> usize
         requires { IsSome (order_at self.now key) }
         ensures member { IsSomeAnd (keys_at self.now result) (λ ks. list_any (eqb key) ks ≡ true) }
@@ -217,7 +217,7 @@ impl<A: Allocator> Queues<A> {
         self.nodes[key].queue
     }
 
-    /// The node after another one in its queue.
+    /// Returns the node after another one in its queue.
     pub(crate) fn next(&self, key: usize) -> Option<usize>
         requires { IsSome (order_at self.now key) }
         ensures { (q : ℕ) (before after : List ℕ) → keys_at self.now q ≡ Some (before ++ key ∷ after) → result ≡ first_or after None }
@@ -225,7 +225,7 @@ impl<A: Allocator> Queues<A> {
         self.nodes[key].after.key()
     }
 
-    /// The first node of a queue.
+    /// Returns the first node of a queue.
     pub(crate) fn first(&self, queue: usize) -> Option<usize>
         requires { IsSome (keys_at self.now queue) }
         ensures { (ks : List ℕ) → keys_at self.now queue ≡ Some ks → result ≡ first_or ks None }
@@ -233,7 +233,7 @@ impl<A: Allocator> Queues<A> {
         self.heads[queue].first.key()
     }
 
-    /// The shares in a queue, and the number of orders.
+    /// Returns the total shares of a queue, and the number of orders.
     pub(crate) fn totals(&self, queue: usize) -> (u128, u64)
         requires { IsSome (keys_at self.now queue) }
         ensures { (ks : List ℕ) → keys_at self.now queue ≡ Some ks → result ≡ totals_of (found (order_at self.now) ks) }
@@ -243,7 +243,7 @@ impl<A: Allocator> Queues<A> {
     }
 }
 
-// A node at the end of a queue, after another one.
+// Returns a node at the end of a queue, after another one.
 fn last_node(order: Order, queue: usize, before: Link) -> Node
     ensures order { result.order ≡ order }
     ensures queue { result.queue ≡ queue }
@@ -258,7 +258,7 @@ fn last_node(order: Order, queue: usize, before: Link) -> Node
     }
 }
 
-// `there` if the link has no node, and `other` if it has one.
+// Returns `there` if the link has no node, and `other` if it has one.
 fn either(link: Link, there: Link, other: Link) -> Link
     ensures { result ≡ cond_none link there other }
 {
@@ -268,7 +268,7 @@ fn either(link: Link, there: Link, other: Link) -> Link
     }
 }
 
-// The head of a queue with one more node at its end, with these shares, after the node of a link.
+// Returns the head of a queue with one more node at its end, with these shares, after the node of a link.
 fn head_with(head: Head, link: Link, before: Link, shares: u32) -> Head
     requires orders { head.orders + 1 < 2 ^ 64 }
     requires shares { head.shares + shares < 2 ^ 128 }
@@ -282,7 +282,7 @@ fn head_with(head: Head, link: Link, before: Link, shares: u32) -> Head
     }
 }
 
-// The head of a queue without one of its nodes.
+// Returns the head of a queue without one of its nodes.
 fn head_without(head: Head, node: Node) -> Head
     requires orders { 1 ≤ head.orders }
     requires shares { node.order.shares ≤ head.shares }
@@ -296,7 +296,7 @@ fn head_without(head: Head, node: Node) -> Head
     }
 }
 
-// A node with other shares.
+// Returns a node with other shares.
 fn with_shares(node: Node, shares: u32) -> Node
     ensures { result ≡ record node { order = record node.order { shares = shares } } }
 {
@@ -307,7 +307,7 @@ fn with_shares(node: Node, shares: u32) -> Node
     Node { order, ..node }
 }
 
-// The head of a queue with other shares at one of its nodes.
+// Returns the head of a queue after a change of one node's shares.
 fn head_changed(head: Head, had: u32, shares: u32) -> Head
     requires enough { had ≤ head.shares }
     requires fits { head.orders < 2 ^ 64 → head.shares + shares < 2 ^ 128 }

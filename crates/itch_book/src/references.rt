@@ -1,4 +1,4 @@
-//! Orders under their references, which stand as they came or in snapshot order.
+//! Orders by reference, stored in order of arrival or in snapshot order.
 ghost use Rattle.std.specs.Prelude.{◌≡◌, ◌<◌, ◌^◌, ◌∷◌, [], eqb, length, None, Some, OnOk, OnErr, IsSome, IsPermutation, find, option_map};
 ghost use Rattle.std.specs.Map.{lookup, values_of, set_value, remove_entry};
 ghost use Rattle.std.specs.Option.{option_copied};
@@ -20,18 +20,18 @@ use std::cmp::Ordering;
 use std::marker::Model;
 use std::mem::size_of;
 
-// Two orders to a cache line of 64 bytes.
+// Two orders fit into a cache line of 64 bytes.
 const _: () = prove!(size_of::<Arrived>() == 32);
 
-/// The orders under their references.
+/// The orders by reference.
 ///
-/// They stand side by side, and a table has the place of each. So a look-up reads an entry of the table and the order, and
-/// to go over all of them reads nothing else.
+/// They are stored contiguously, and a table contains the place of each. So a look-up reads one entry of the table and the order, and a scan
+/// over all orders reads nothing else.
 #[derive(Drop)]
 pub(crate) struct References<A: Allocator = Global> {
     places: Table<A>,
     orders: Vec<Arrived, A>,
-    // What was last looked at ahead. Nothing is made of it; but what nobody keeps, a compiler need not read.
+    // The data last read ahead. Nothing uses it, but the compiler may omit a read whose result is not stored.
     seen: u64,
 }
 
@@ -46,7 +46,7 @@ impl<A: Allocator> Model for References<A> {
 }
 
 impl<A: Allocator> References<A> {
-    /// No orders.
+    /// Creates an empty collection.
     pub(crate) fn new(alloc: A) -> Self
     where
         A: Copy,
@@ -59,7 +59,7 @@ impl<A: Allocator> References<A> {
         }
     }
 
-    /// The number of orders.
+    /// Returns the number of orders.
     #[inline(always)]
     pub(crate) fn len(&self) -> usize
         ensures { result ≡ length self.now.entries }
@@ -67,13 +67,13 @@ impl<A: Allocator> References<A> {
         self.orders.len()
     }
 
-    /// Whether an order with a new reference is likely to find room without an allocation.
+    /// Returns whether an order with a new reference probably needs no allocation.
     #[inline(always)]
     pub(crate) fn has_room(&self, reference: u64) -> bool {
         self.orders.len() < self.orders.capacity() && self.places.has_room(reference)
     }
 
-    /// The order of a reference, and its place.
+    /// Returns the order with a reference, and its place.
     #[inline(always)]
     pub(crate) fn find(&self, reference: u64) -> Option<Placed<'_>>
         ensures { option_map (λ p. p.order.now) result ≡ option_map its_order (lookup (eqb reference) self.now.entries) }
@@ -87,7 +87,7 @@ impl<A: Allocator> References<A> {
         }
     }
 
-    /// The orders as a line, if they are settled.
+    /// Returns the orders as a line, if they are settled.
     #[inline(always)]
     pub(crate) fn line_if(&self, is_settled: bool) -> Option<&[Arrived]>
         ensures { option_copied result ≡ line_if is_settled (values_of self.now.entries) }
@@ -99,8 +99,8 @@ impl<A: Allocator> References<A> {
         }
     }
 
-    /// Has the orders of the first of these references read into the processor's cache, where there are more than fit there
-    /// anyway. So it waits for memory once, and not for each in turn when messages change them.
+    /// Reads the orders of the first of these references into the processor's cache, if there are more orders than fit there anyway. So the
+    /// program waits for memory once instead of once per message that changes one of them.
     #[inline(always)]
     pub(crate) fn look_ahead(&mut self, references: &[u64])
         ensures { self.new ≡ self.old }
@@ -111,7 +111,7 @@ impl<A: Allocator> References<A> {
         }
     }
 
-    /// Puts the orders in snapshot order where they stand.
+    /// Sorts the orders into snapshot order in place.
     pub(crate) fn settle(&mut self)
         requires { IsApart (values_of self.old.entries) }
         ensures line { values_of self.new.entries ≡ in_order comes_before (values_of self.old.entries) }
@@ -122,20 +122,20 @@ impl<A: Allocator> References<A> {
     }
 }
 
-// Something of each order at these places, so that all of them have to be read.
+// Returns a number that depends on each order at these places, so that all of them have to be read.
 #[inline(always)]
 fn seen_at(orders: &[Arrived], places: &[u32; AHEAD]) -> u64 {
     let mut seen = 0;
     for place in places {
         if let Some(arrived) = orders.get(*place as usize) {
-            // An order may lie in two lines of the cache: both ends are read.
+            // An order may extend over two cache lines, so both ends are read.
             seen ^= arrived.order.reference ^ arrived.arrival;
         }
     }
     seen
 }
 
-// The order of a reference that has one, and its place: the one that is given, if the order stands there.
+// Returns the order of a known reference, and its place: the given one, if the order is there.
 #[inline(always)]
 pub(crate) fn known<A: Allocator>(
     references: &References<A>,
@@ -150,7 +150,7 @@ pub(crate) fn known<A: Allocator>(
     (place, references.orders[place])
 }
 
-// The place of a reference that has an order: the one that is given, if the order stands there. Else the table has it.
+// Returns the place of a known reference: the given one if the order is there, and otherwise the place in the table.
 #[inline(always)]
 fn place_of<A: Allocator>(references: &References<A>, reference: u64, place: usize) -> usize
     requires { IsSome (lookup (eqb reference) references.now.entries) }
@@ -162,7 +162,7 @@ fn place_of<A: Allocator>(references: &References<A>, reference: u64, place: usi
     references.places.get(reference).unwrap() as usize
 }
 
-// Puts an order under its reference. If an allocation fails, or if there are 2^32 - 1 orders, nothing changes.
+// Inserts an order under its reference. If an allocation fails, or if there are 2^32 - 1 orders, nothing changes.
 #[inline(always)]
 pub(crate) fn put<A: Allocator + Copy>(
     references: &mut References<A>,
@@ -184,7 +184,7 @@ pub(crate) fn put<A: Allocator + Copy>(
     Ok(())
 }
 
-// Puts an order in place of that of another reference, which stands at this place. If an allocation fails, nothing changes.
+// Stores an order in place of the one with another reference, which is at this place. If an allocation fails, nothing changes.
 #[inline(always)]
 pub(crate) fn swap<A: Allocator + Copy>(
     references: &mut References<A>,
@@ -205,7 +205,7 @@ pub(crate) fn swap<A: Allocator + Copy>(
     Ok(())
 }
 
-// Takes out the order of a reference. The last one comes into its place.
+// Removes the order with a reference. The last order moves to its place.
 #[inline(always)]
 pub(crate) fn cut<A: Allocator>(references: &mut References<A>, reference: u64) -> Arrived
     requires { IsSome (lookup (eqb reference) references.old.entries) }
@@ -221,7 +221,7 @@ pub(crate) fn cut<A: Allocator>(references: &mut References<A>, reference: u64) 
     arrived
 }
 
-// Writes an order in place of that of the same reference, which stands at this place.
+// Stores an order in place of the one with the same reference, which is at this place.
 #[inline(always)]
 pub(crate) fn write<A: Allocator>(references: &mut References<A>, place: usize, arrived: Arrived)
     requires { IsAt references.old.entries arrived.order.reference place }
@@ -230,7 +230,7 @@ pub(crate) fn write<A: Allocator>(references: &mut References<A>, place: usize, 
     references.orders[place] = arrived;
 }
 
-// Puts the orders in snapshot order. Arrivals differ, so whichever way they are sorted there is one line.
+// Sorts the orders into snapshot order. Arrival numbers are distinct, so there is only one sorted line.
 fn sort<A: Allocator>(orders: &mut Vec<Arrived, A>)
     requires { IsApart orders.old.items }
     ensures line { orders.new.items ≡ in_order comes_before orders.old.items }
@@ -249,7 +249,7 @@ fn sort<A: Allocator>(orders: &mut Vec<Arrived, A>)
     );
 }
 
-// Writes where each order stands now. The table knows their references, so no memory is taken.
+// Writes the new place of each order. The table already contains their references, so no memory is allocated.
 fn write_places<A: Allocator>(places: &mut Table<A>, orders: &[Arrived])
     requires few { length orders.now < 2 ^ 32 }
     requires known { IsKnown (at places.old) (references_of orders.now) }
@@ -260,7 +260,7 @@ fn write_places<A: Allocator>(places: &mut Table<A>, orders: &[Arrived])
     }
 }
 
-// The first in snapshot order that is looked for, by going over all orders.
+// Returns the first wanted order in snapshot order, by a scan over all orders.
 pub(crate) fn least<A: Allocator>(references: &References<A>, wanted: Wanted) -> Option<&Arrived>
     ensures { option_copied result ≡ find (wants wanted) (in_order comes_before (values_of references.now.entries)) }
 {
@@ -273,7 +273,7 @@ pub(crate) fn least<A: Allocator>(references: &References<A>, wanted: Wanted) ->
     least
 }
 
-// The shares at a price, and the number of orders, by going over all orders.
+// Returns the total shares at a price, and the number of orders, by a scan over all orders.
 pub(crate) fn total_of<A: Allocator>(
     references: &References<A>,
     locate: u16,

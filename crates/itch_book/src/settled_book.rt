@@ -1,4 +1,4 @@
-//! A book that keeps orders as they came, and puts them in snapshot order when it is told to.
+//! A book that stores orders in order of arrival, and sorts them into snapshot order on request.
 ghost use Rattle.std.specs.Prelude.{◌≡◌, true};
 ghost use Rattle.itch_book.specs.Orders.{IsBook};
 ghost use Rattle.itch_book.specs.BookLists.{IsBook-prop};
@@ -9,10 +9,10 @@ use crate::order::{Order, Placed, Taken};
 use itch_codec::Side;
 use std::alloc::{AllocError, Allocator, Global};
 
-/// The live orders under their references, each with the number of its arrival.
+/// The live orders by reference, each with its arrival number.
 ///
-/// It serves where only the last state is looked at: `settle` sorts the orders, and until the next change they are
-/// found by search. Without that, each look-up but that of a reference goes over all orders.
+/// Use it if you only look at the final state: `settle` sorts the orders, and until the next change they are found by binary search. Without
+/// `settle`, each look-up except by reference scans all orders.
 #[derive(Drop)]
 pub struct SettledBook<A: Allocator = Global> {
     arrivals: Arrivals<A>,
@@ -65,7 +65,7 @@ impl<A: Allocator + Copy> OrderBook for SettledBook<A> {
         self.arrivals.level_total(locate, side, price)
     }
 
-    // Fails too once every number of an arrival is used up.
+    // Also fails when all arrival numbers are used up.
     #[inline(always)]
     fn add(&mut self, order: Order) -> Result<(), AllocError> {
         self.arrivals.add(order)
@@ -76,13 +76,13 @@ impl<A: Allocator + Copy> OrderBook for SettledBook<A> {
         self.arrivals.take(reference, place, shares)
     }
 
-    // To take the order out of the table gives its place.
+    // Removing the order from the table gives its place.
     #[inline(always)]
     fn delete(&mut self, reference: u64, _place: usize) -> Order {
         self.arrivals.delete(reference)
     }
 
-    // The same, since a replacement arrives anew.
+    // Also fails when all arrival numbers are used up, since a replacement is a new arrival.
     #[inline(always)]
     fn replace(
         &mut self,
@@ -101,7 +101,7 @@ impl<A: Allocator + Copy> OrderBook for SettledBook<A> {
         self.arrivals.has_room(reference)
     }
 
-    // Has the orders of the references read into the processor's cache, where there are many.
+    // Reads the orders of the references into the processor's cache, if there are many.
     #[inline(always)]
     fn look_ahead(&mut self, references: &[u64])
         ensures orders { self.new.arrivals.orders ≡ self.old.arrivals.orders }
@@ -110,7 +110,7 @@ impl<A: Allocator + Copy> OrderBook for SettledBook<A> {
         self.arrivals.look_ahead(references)
     }
 
-    // Puts the orders in snapshot order.
+    // Sorts the orders into snapshot order.
     fn settle(&mut self)
         ensures orders { self.new.arrivals.orders ≡ self.old.arrivals.orders }
         ensures settled { self.new.arrivals.is_settled ≡ true }
@@ -122,7 +122,7 @@ impl<A: Allocator + Copy> OrderBook for SettledBook<A> {
 }
 
 impl<A: Allocator + Copy> SettledBook<A> {
-    /// Whether the book is settled, so that orders are found by search.
+    /// Returns whether the book is settled, so that orders are found by binary search.
     pub fn is_settled(&self) -> bool
         ensures { result ≡ self.now.arrivals.is_settled }
     {

@@ -1,13 +1,13 @@
-//! A map from numbers that are nearly dense, as the order references of a day, to small numbers: links.
+//! A map from nearly dense numbers, such as the order references of a day, to small numbers: links.
 //!
-//! A look-up reads one entry of a directory, which is indexed by the key's page, and one link of that page: no hash. A page
-//! has 128 keys, and stands only while one of them has a link: then it is used again.
+//! A look-up reads one entry of a directory, which is indexed by the key's page, and one link of that page, without hashing. A page has 128
+//! keys, and exists only while one of them has a link; then it is reused.
 //!
-//! A page takes 528 bytes, and its row of the directory four. A key that goes into a page that stands earns 64 bytes; a new page
-//! and the rows up to it have to be paid from what was earned, and a key that cannot pay goes to a hash map. The directory has at
-//! most 2^18 rows, and 16 for each key that has a link. So keys that stay take at most 64 bytes each in pages, or 16 and what
-//! the hash map takes, and four megabytes together. Where keys fill pages and all go but one of each page, each keeps its page and
-//! takes up to 528 bytes, and 64 for its share of the directory. It is twice as much while vectors grow.
+//! A page takes 528 bytes, and its row of the directory four. A key that goes into an existing page earns 64 bytes. A new page and the rows
+//! up to it have to be paid from the bytes earned so far, and a key that cannot pay goes into a hash map. The directory has at most 2^18
+//! rows, plus 16 for each key that has a link. So keys that stay take at most 64 bytes each in pages, or 16 bytes and their share of the hash
+//! map, and four megabytes together. If keys fill pages and then all but one key of each page are removed, each remaining key keeps its page
+//! and takes up to 528 bytes, and 64 for its share of the directory. These numbers double while vectors grow.
 ghost use Rattle.std.specs.Prelude.{◌≡◌, ℕ, ◌<◌, Some, None, OnOk, OnErr, IsSome, eqb, is_some, ◌/◌};
 ghost use Rattle.itch_book.specs.Pages.{place_at};
 ghost use Rattle.itch_book.specs.Table.{at, Updates, IsSame, IsCount};
@@ -22,15 +22,15 @@ use std::collections::HashMap;
 use std::hash::{BuildHasherDefault, FoldHasher};
 use std::marker::Model;
 
-/// A link under each of some keys.
+/// A map from some keys to links.
 #[derive(Drop)]
 pub struct Table<A: Allocator = Global> {
     near: Pages<A>,
     // The links of keys that got no page.
     far: HashMap<u64, u32, BuildHasherDefault<FoldHasher>, A>,
-    // How many keys there are.
+    // The number of keys.
     len: usize,
-    // What pages for new keys may take.
+    // The bytes that pages for new keys may take.
     credit: Credit,
 }
 
@@ -45,7 +45,7 @@ impl<A: Allocator> Model for Table<A> {
 }
 
 impl<A: Allocator> Table<A> {
-    /// No keys.
+    /// Creates an empty table.
     pub fn new(alloc: A) -> Self
     where
         A: Copy,
@@ -59,7 +59,7 @@ impl<A: Allocator> Table<A> {
         }
     }
 
-    /// The number of keys.
+    /// Returns the number of keys.
     #[inline(always)]
     pub fn len(&self) -> usize
         ensures { IsCount (at self.now) result }
@@ -67,7 +67,7 @@ impl<A: Allocator> Table<A> {
         self.len
     }
 
-    /// The link at a key.
+    /// Returns the link of a key.
     #[inline(always)]
     pub fn get(&self, key: u64) -> Option<u32>
         ensures { result ≡ at self.now key }
@@ -79,7 +79,7 @@ impl<A: Allocator> Table<A> {
         self.far.get(&key).copied()
     }
 
-    /// Whether the page of a key stands: then a link is put under the key without taking memory.
+    /// Returns whether the page of a key exists: then inserting a link for the key allocates no memory.
     #[inline(always)]
     pub fn has_room(&self, key: u64) -> bool
         ensures { result ≡ is_some (place_at self.now.near.directory (key / 128)) }
@@ -87,7 +87,7 @@ impl<A: Allocator> Table<A> {
         self.near.has_page(key)
     }
 
-    /// Writes another link in place of that of a key.
+    /// Replaces the link of a key.
     #[inline(always)]
     pub fn set(&mut self, key: u64, link: u32)
         requires link { link < 4294967295 }
@@ -101,7 +101,7 @@ impl<A: Allocator> Table<A> {
         }
     }
 
-    /// Puts a link under a new key. If an allocation fails, or if there are 2^64 - 1 keys, no link changes.
+    /// Inserts a link for a new key. If an allocation fails, or if there are 2^64 - 1 keys, no link changes.
     #[inline(always)]
     pub fn insert(&mut self, key: u64, link: u32) -> Result<(), AllocError>
     where
@@ -132,7 +132,7 @@ impl<A: Allocator> Table<A> {
         }
     }
 
-    /// Takes out the link at a key.
+    /// Removes the link of a key.
     #[inline(always)]
     pub fn remove(&mut self, key: u64) -> u32
         requires { IsSome (at self.old key) }

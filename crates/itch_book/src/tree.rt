@@ -1,4 +1,4 @@
-//! Price levels in a tree, in order of locate and price.
+//! Price levels in a tree, ordered by locate and price.
 ghost use Rattle.std.specs.Prelude.{◌≡◌, Some, None, option_map};
 ghost use Rattle.std.specs.Map.Iter.{deref_pair};
 ghost use Rattle.itch_codec.specs.declared.orders.Side.TheVariants.{Buy, Sell};
@@ -12,7 +12,7 @@ use std::ops::Bound;
 /// The queue of each locate and price.
 pub(crate) type Places<A> = BTreeMap<(u16, u32), usize, A>;
 
-// The price of an entry, and its queue.
+// Returns the price of an entry, and its queue.
 fn level_of(entry: Option<(&(u16, u32), &usize)>) -> Option<(u32, usize)>
     ensures { result ≡ option_map level_entry (option_map deref_pair entry.entry) }
 {
@@ -20,7 +20,7 @@ fn level_of(entry: Option<(&(u16, u32), &usize)>) -> Option<(u32, usize)>
     Some((place.1, *queue))
 }
 
-// The highest price of a locate below the last, and its queue.
+// Returns the highest price of a locate below the last, and its queue.
 fn highest<A: Allocator>(places: &Places<A>, locate: u16, last: Option<u32>) -> Option<(u32, usize)>
     ensures { IsNextOr (queue_at places.now.entries locate) Buy last result }
 {
@@ -39,7 +39,7 @@ fn highest<A: Allocator>(places: &Places<A>, locate: u16, last: Option<u32>) -> 
     }
 }
 
-// The lowest price of a locate above the last, and its queue.
+// Returns the lowest price of a locate above the last, and its queue.
 fn lowest<A: Allocator>(places: &Places<A>, locate: u16, last: Option<u32>) -> Option<(u32, usize)>
     ensures { IsNextOr (queue_at places.now.entries locate) Sell last result }
 {
@@ -54,7 +54,7 @@ fn lowest<A: Allocator>(places: &Places<A>, locate: u16, last: Option<u32>) -> O
     }
 }
 
-/// The best price of a locate, or the best one worse than the last, and its queue.
+/// Returns the best price of a locate, or the best one worse than the last, and its queue.
 pub(crate) fn next_far<A: Allocator>(
     places: &Places<A>,
     side: Side,

@@ -1,4 +1,4 @@
--- The bytes of a day file that have passed, as far as they are kept.
+-- The kept bytes of a day file as it is read.
 use Rattle.std.proofs.Common.{◌≡◌, refl, Bool, true, false, ℕ, ◌<◌, ◌≤◌, ◌+◌, ◌-◌, ◌^◌, min, nat_lt, List, ◌++◌, length, take, drop, sym, ap, ap₂, ◌∙◌, append-nil, arith, length-append}
 use Rattle.std.proofs.lemmas.Bool.Decides.{nat_tests}
 use Rattle.std.proofs.lemmas.List.{take-append-le, take-append-drop, take_all, take_min, length-take, drop-append-le, drop-take, take_rest}
@@ -6,7 +6,7 @@ use Rattle.std.proofs.Math.Seq.{take-append-add, drop-append-add}
 use Rattle.itch_checkpoints.specs.Fingerprints.{HavePassed, digits_of, fingerprint}
 use Rattle.itch_checkpoints.specs.declared.fingerprint.Fingerprint.{Fingerprint}
 
--- by cases of a test
+-- by cases of a condition
 by_test : {P : Type 0} (b : Bool) → (b ≡ true → P) → (b ≡ false → P) → P
 by_test true holds fails = holds refl
 by_test false holds fails = fails refl
@@ -18,7 +18,7 @@ module _ (xs ys : List ℕ) (b e : ℕ) (order : b ≤ e) (within : e ≤ length
       let whole : b + (e - b) ≡ e = omega arith in
       append-nil (take (e - b) (drop b xs)) ∙ sym (drop-take b (e - b) xs) ∙ ap (λ n. drop b (take n xs)) whole ∙ ap (drop b) (sym (take-append-le e xs ys less))
 
-  -- it is within the second
+  -- it is within the second list
   in_second : length xs ≤ b → take ((e - length xs) - (b - length xs)) (drop (b - length xs) ys) ≡ drop b (take e (xs ++ ys))
   in_second more =
       let n : ℕ = length xs in
@@ -29,7 +29,7 @@ module _ (xs ys : List ℕ) (b e : ℕ) (order : b ≤ e) (within : e ≤ length
       ∙ sym (drop-append-add xs (take (e - n) ys) (b - n)) ∙ ap (λ m. drop m (xs ++ take (e - n) ys)) left
       ∙ ap (drop b) (sym (take-append-add xs ys (e - n)) ∙ ap (λ m. take m (xs ++ ys)) right)
 
-  -- it begins in the first one, and ends in the second
+  -- it begins in the first list, and ends in the second
   in_both : b ≤ length xs → length xs ≤ e → take (length xs - b) (drop b xs) ++ take (e - length xs) (drop 0 ys) ≡ drop b (take e (xs ++ ys))
   in_both less more =
       let n : ℕ = length xs in
@@ -37,7 +37,7 @@ module _ (xs ys : List ℕ) (b e : ℕ) (order : b ≤ e) (within : e ≤ length
       ap (λ us. us ++ take (e - n) ys) (take_rest xs b) ∙ sym (drop-append-le b xs (take (e - n) ys) less)
       ∙ ap (drop b) (sym (take-append-add xs ys (e - n)) ∙ ap (λ m. take m (xs ++ ys)) right)
 
-  -- what two lists have from one place to another, one list after the other
+  -- the part of two lists, one after the other, from one position to another
   pub part_is : take (min e (length xs) - min b (length xs)) (drop (min b (length xs)) xs) ++ take ((e - length xs) - (b - length xs)) (drop (b - length xs) ys) ≡ drop b (take e (xs ++ ys))
   part_is = by_test (nat_lt (length xs) e)
       (λ far. let beyond : length xs < e = grind (arith, nat_tests) in
@@ -59,7 +59,7 @@ module _ (xs ys : List ℕ) (b e : ℕ) (order : b ≤ e) (within : e ≤ length
       let none_before : b - length xs ≡ 0 = omega arith in
       rw (first, second, none, none_before) (in_first inside))
 
--- the first bytes once a piece has passed
+-- the first bytes after another piece
 pub first_on : (room : ℕ) (bytes piece : List ℕ) → room ≡ 65536 - length (take 65536 bytes) → take 65536 bytes ++ take (min room (length piece)) piece ≡ take 65536 (bytes ++ piece)
 first_on room bytes piece is = ap (λ ps. take 65536 bytes ++ ps) (take_min room piece) ∙ by_test (nat_lt (length bytes) 65536)
     (λ short. let less : length bytes < 65536 = grind (arith, nat_tests) in
@@ -76,7 +76,7 @@ abbrev pub fingerprint_by : List ℕ → List ℕ → Fingerprint
 fingerprint_by first last = record { first = digits_of first; last = digits_of last }
 
 module _ (first older newer : List ℕ) (count place behind last begin : ℕ) (bytes : List ℕ) (passed : HavePassed first older newer count bytes) where
-  -- the fingerprint of a place is found among the bytes that are kept
+  -- the fingerprint of a position can be computed from the kept bytes
   pub place_found : count < 2 ^ 64 - 1 → place + behind ≡ count → last + behind ≡ length older + length newer → begin + min place 256 ≡ last → min place 65536 ≤ length first
       → fingerprint_by (take (min place 65536) first) (drop begin (take last (older ++ newer))) ≡ fingerprint place bytes
   place_found few here there from enough =

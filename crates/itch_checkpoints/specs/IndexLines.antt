@@ -1,24 +1,24 @@
--- The index of the snapshots of a folder: a line for each.
+-- The index of the snapshots of a folder: one line per snapshot.
 use Rattle.std.specs.Prelude.{ℕ, List, [], ◌++◌, codes, decimal, Option, None, Some}
 use Rattle.itch_checkpoints.specs.declared.fingerprint.Fingerprint.{Fingerprint}
 use Rattle.itch_day.specs.declared.mark.Mark.{Mark}
 
--- a number of JSON, or null where there is none
+-- a JSON number, or null if there is no number
 abbrev pub number_or_null : Option ℕ → List ℕ
 number_or_null None = codes "null"
 number_or_null (Some number) = decimal number
 
--- what a line says of the messages of the snapshot, and the name of its file
+-- the part of a line about the messages of the snapshot, with the name of its file
 abbrev pub mark_part : Mark → List ℕ
 mark_part mark =
     codes "{\"messages\":" ++ decimal mark.count ++ codes ",\"offset\":" ++ decimal mark.offset ++ codes ",\"timestamp\":" ++ number_or_null mark.latest
     ++ codes ",\"file\":\"" ++ decimal mark.count ++ codes ".snap\""
 
--- what it says of the bytes of the day file before the offset
+-- the part about the bytes of the day file before the offset
 abbrev pub digits_part : Fingerprint → List ℕ
 digits_part f = codes ",\"first\":\"" ++ f.first ++ codes "\",\"last\":\"" ++ f.last ++ codes "\""
 
--- the list of the locates that the snapshot has, if it has only some
+-- the list of the snapshot's locates, if it contains only some
 abbrev pub list_part : Option (List ℕ) → List ℕ
 list_part None = []
 list_part (Some list) = codes ",\"only\":\"" ++ list ++ codes "\""

@@ -1,4 +1,4 @@
-//! A checkpoint, as a line of an index says.
+//! A checkpoint, described by a line of an index.
 
 use crate::fingerprint::Fingerprint;
 use crate::latest::Latest;
@@ -6,22 +6,22 @@ use itch_day::{Limit, Mark};
 use serde_json::Value;
 use std::alloc::{AllocError, Global};
 
-/// A snapshot of a folder, as a line of the index there says.
+/// A snapshot in a folder, as described by a line of the index there.
 #[derive(Drop)]
 pub struct Checkpoint {
-    /// How many messages it has.
+    /// The number of messages before it.
     pub count: u64,
-    /// Where in the day file the next message begins.
+    /// The offset in the day file where the next message begins.
     pub offset: u64,
     pub latest: Latest,
-    /// What the bytes of the day before its offset are, if the line says that.
+    /// The fingerprint of the day's bytes before its offset, if the line contains it.
     pub fingerprint: Option<Fingerprint>,
-    /// The list of the locates that it has, if it has only some.
+    /// The list of its locates, if the snapshot contains only some.
     pub only: Option<String>,
 }
 
 impl Checkpoint {
-    /// The beginning of a day, where there is nothing to compare.
+    /// Returns the beginning of a day, where there are no bytes to compare.
     pub fn beginning() -> Checkpoint {
         Checkpoint {
             count: 0,
@@ -32,12 +32,12 @@ impl Checkpoint {
         }
     }
 
-    /// The mark of its messages, where it can be used for a point of the day.
+    /// Returns the mark of its messages, if the checkpoint can be used for a point of the day.
     pub fn mark(&self, point: Limit) -> Option<Mark> {
         self.latest.mark(self.count, self.offset, point)
     }
 
-    /// The checkpoint of a line, if it has one. The last line may not be whole.
+    /// Returns the checkpoint of a line, if the line describes one. The last line may be incomplete.
     pub(crate) fn read(alloc: Global, line: &[u8]) -> Result<Option<Checkpoint>, AllocError> {
         let Ok(text) = std::str::from_utf8(line) else {
             return Ok(None);
@@ -82,7 +82,7 @@ fn read_place(fields: &Value) -> Option<(u64, u64)> {
     Some((count, offset))
 }
 
-// Whether a line of so many messages names the snapshot of that number, if it names any.
+// Returns whether the snapshot file that a line with `count` messages names, if it names one, is the one with this number.
 fn is_of_its_file(alloc: Global, fields: &Value, count: u64) -> Result<bool, AllocError> {
     let Some(file) = fields.get("file") else {
         return Ok(true);
@@ -105,7 +105,7 @@ fn read_latest(timestamp: Option<&Value>) -> Latest {
     }
 }
 
-// The fingerprint of a line, if it has one; none if it has something else in its place.
+// Returns the fingerprint of a line, if it has one, or `None` if other values are in its place.
 fn read_fingerprint(fields: &Value) -> Option<Option<Fingerprint>> {
     match (fields.get("first"), fields.get("last")) {
         (None, None) => Some(None),

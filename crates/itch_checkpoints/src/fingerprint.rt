@@ -1,4 +1,4 @@
-//! What tells the messages before a place in a day file from those of another day.
+//! Fingerprints, which distinguish the messages before a position in a day file from those of another day.
 ghost use Rattle.std.specs.Prelude.{◌≡◌, ◌++◌, ◌≤◌, length, IfSome};
 ghost use Rattle.itch_checkpoints.specs.Fingerprints.{digits_of, unfit_of};
 
@@ -7,14 +7,14 @@ use std::alloc::Global;
 use std::fmt;
 use std::io::{self, Read, Seek, SeekFrom};
 
-/// How many bytes at the beginning of a day file a fingerprint has at most.
+/// The maximum number of bytes from the beginning of a day file in a fingerprint.
 pub(crate) const MOST_FIRST: usize = 65_536;
 
-/// How many bytes right before its place it has at most.
+/// The maximum number of bytes right before its position in a fingerprint.
 pub(crate) const MOST_LAST: usize = 256;
 
-/// The bytes of a day file before a place, as far as they are compared: the first ones, and those right before the place. Of either
-/// it has sixteen hexadecimal digits of the SHA-256 digest.
+/// A fingerprint of the bytes of a day file before a position: of the first ones, and of those right before the position. Each part is
+/// sixteen hexadecimal digits of a SHA-256 digest.
 #[derive(Clone, Copy, Debug, PartialEq, Eq)]
 pub struct Fingerprint {
     pub first: [u8; 16],
@@ -22,7 +22,7 @@ pub struct Fingerprint {
 }
 
 impl Fingerprint {
-    /// That of these bytes: the first ones, and the last ones in two parts.
+    /// Returns the fingerprint of the first bytes, and of the last bytes, which are given in two parts.
     pub fn of(first: &[u8], last: &[u8], rest: &[u8]) -> Fingerprint
         ensures { result ≡ record { first = digits_of first.now; last = digits_of (last.now ++ rest.now) } }
     {
@@ -32,7 +32,7 @@ impl Fingerprint {
         }
     }
 
-    /// The one that has these digits, if they are as many.
+    /// Returns the fingerprint with these digits, if each part has sixteen.
     pub fn read(first: &str, last: &str) -> Option<Fingerprint>
         ensures { IfSome result (λ f. (f.first ≡ first.now) × (f.last ≡ last.now)) }
     {
@@ -43,7 +43,7 @@ impl Fingerprint {
     }
 }
 
-// The first hexadecimal digits of the digest of these bytes, in two parts.
+// Returns the first hexadecimal digits of the digest of these bytes, which are given in two parts.
 fn digits_of(first: &[u8], rest: &[u8]) -> [u8; 16]
     ensures { result ≡ digits_of (first.now ++ rest.now) }
 {
@@ -56,7 +56,7 @@ fn digits_of(first: &[u8], rest: &[u8]) -> [u8; 16]
     digits
 }
 
-/// The fingerprint of what a file has before an offset. The file is left there.
+/// Returns the fingerprint of the bytes of a file before an offset. The file's position afterwards is that offset.
 pub fn fingerprint_before<F: Read + Seek>(
     alloc: Global,
     file: &mut F,
@@ -73,14 +73,14 @@ pub fn fingerprint_before<F: Read + Seek>(
     Ok(Fingerprint::of(&first, last, b""))
 }
 
-/// Why the checkpoint that is nearest to a point of the day is not taken.
+/// The reason why the nearest checkpoint to a point of the day is not used.
 #[derive(Clone, Copy, Debug, PartialEq, Eq)]
 pub enum Unfit {
-    /// Its snapshot has only some locates, and others are wanted.
+    /// Its snapshot contains only some locates, and others are requested.
     Partial,
     /// It is beyond the end of the feed.
     Beyond,
-    /// The bytes of the feed before it are those of another day.
+    /// The feed has other bytes before it, so they belong to another day.
     OtherDay,
 }
 
@@ -94,8 +94,9 @@ impl fmt::Display for Unfit {
     }
 }
 
-/// Why a feed is not read on from a checkpoint, if there is a reason. `recorded` is what the index says of the bytes before the
-/// checkpoint, if it says that, and `found` what the feed has there, if it is as long.
+/// Returns the reason why a feed cannot be read from a checkpoint on, if there is one. `recorded` is the fingerprint in the index of the
+/// bytes before the checkpoint, if the index contains it, and `found` is the fingerprint of the feed's bytes there, if the feed is long
+/// enough.
 pub fn why_unfit(recorded: Option<Fingerprint>, found: Option<Fingerprint>) -> Option<Unfit>
     ensures { result ≡ unfit_of recorded found }
 {

@@ -6,7 +6,7 @@ use itch_day::{Limit, Mark};
 use std::alloc::Global;
 use std::io::{self, BufRead};
 
-/// The checkpoints that an index lists. What is no checkpoint is passed over.
+/// Reads the checkpoints of an index. Lines that do not describe a checkpoint are skipped.
 #[derive(Drop)]
 pub struct IndexReader<R> {
     alloc: Global,
@@ -21,7 +21,11 @@ impl<R: BufRead> IndexReader<R> {
         }
     }
 
-    /// The next checkpoint, or none after the last one. An error is that of the file, or of memory that was refused.
+    /// Returns the next checkpoint, or `None` after the last one.
+    ///
+    /// # Errors
+    ///
+    /// A read failed, or memory ran out.
     pub fn next(&mut self) -> io::Result<Option<Checkpoint>> {
         for _ in 0..u64::MAX {
             let Some(line) = self.lines.next()? else {
@@ -35,7 +39,7 @@ impl<R: BufRead> IndexReader<R> {
     }
 }
 
-/// The checkpoint of an index with the most messages that is not beyond a point, or the beginning of the day.
+/// Returns the checkpoint of an index with the most messages that is not beyond a point, or the beginning of the day.
 pub fn nearest<R: BufRead + Drop>(alloc: Global, index: R, point: Limit) -> io::Result<Checkpoint> {
     let mut reader = IndexReader::new(alloc, index);
     let mut nearest = Checkpoint::beginning();

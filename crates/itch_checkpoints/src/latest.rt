@@ -1,20 +1,21 @@
-//! What an index says of the latest timestamp before a checkpoint.
+//! The latest timestamp before a checkpoint, as an index states it.
 ghost use Rattle.std.specs.Prelude.{◌≡◌};
 ghost use Rattle.itch_checkpoints.specs.Checkpoints.{mark_for};
 
 use itch_day::{Limit, Mark};
 
-/// What a line of an index says of the latest timestamp of its messages.
+/// The latest timestamp of a line's messages, as the line states it.
 #[derive(Clone, Copy, Debug, PartialEq, Eq)]
 pub enum Latest {
-    /// This is it, or none of them has one.
+    /// This timestamp, or `None` if none of the messages has one.
     Known(Option<u64>),
-    /// Nothing that could be one.
+    /// The line states no valid timestamp.
     Unknown,
 }
 
 impl Latest {
-    /// The mark that a line of an index says, for a point of the day. If nothing is known of its timestamps, there is none for a time.
+    /// Returns the mark that a line of an index describes, for a point of the day. If the timestamp is unknown and the point is a time, there
+    /// is no mark.
     pub fn mark(self, count: u64, offset: u64, point: Limit) -> Option<Mark>
         ensures { result ≡ mark_for point count offset self }
     {

@@ -1,7 +1,7 @@
-//! Checkpoints of a day file: snapshots of it in a folder, and the index there that says where in the file each of them is.
+//! Checkpoints of a day file: snapshots of it in a folder, and the index there with the position of each snapshot in the file.
 //!
-//! [`index_line`] spells the line of a snapshot and [`IndexReader`] reads such lines. A [`Fingerprint`] tells the day file of a
-//! checkpoint from another day's.
+//! [`index_line`] returns the line of a snapshot, and [`IndexReader`] reads such lines. A [`Fingerprint`] distinguishes the day file of a
+//! checkpoint from that of another day.
 #![tactic(auto)]
 
 mod checkpoint;

@@ -1,15 +1,15 @@
-//! The lines of a file, each in memory of its own.
+//! Reads the lines of a file.
 
 use std::alloc::Global;
 use std::io::{self, BufRead, Read, Take};
 
-/// A longer line is passed over. One of an index is shorter: the longest list of locates has less than half of this.
+/// Longer lines are skipped. The lines of an index are shorter: the longest list of locates has less than half of this length.
 const MOST_BYTES: u64 = 1 << 19;
 
-/// Lines of a file that are read one after another, into the same memory.
+/// The lines of a file, which are read one after another into the same memory.
 #[derive(Drop)]
 pub struct Lines<R> {
-    // It ends before a line is too long.
+    // Ends before a line is too long.
     reader: Take<R>,
     line: Vec<u8, Global>,
 }
@@ -22,7 +22,7 @@ impl<R: BufRead> Lines<R> {
         }
     }
 
-    /// The next line, without its line feed, or none after the last one. One that is too long is empty.
+    /// Returns the next line, without its line feed, or `None` after the last one. A line that is too long is returned as an empty one.
     pub fn next(&mut self) -> io::Result<Option<&[u8]>> {
         self.line.clear();
         self.reader.set_limit(MOST_BYTES);

@@ -7,9 +7,9 @@ use itch_day::Mark;
 use itoa::Buffer;
 use std::alloc::{AllocError, Allocator};
 
-/// The line of the snapshot after the messages of a mark: an object of JSON with their number, the offset of the next message in
-/// the day file, the latest timestamp of theirs, the name of the snapshot's file, the fingerprint of the day file before the
-/// offset, and the list of the locates that the snapshot has, if it has only some.
+/// Returns the line of the snapshot after the messages of a mark: a JSON object with the number of messages, the offset of the next message
+/// in the day file, their latest timestamp, the name of the snapshot's file, the fingerprint of the day file before the offset, and the list
+/// of the snapshot's locates, if it contains only some.
 pub fn index_line<A: Allocator>(
     alloc: A,
     mark: Mark,

@@ -1,4 +1,4 @@
-//! The bytes of a day file that have been read, as far as a fingerprint needs them.
+//! Keeps the bytes of a day file that a fingerprint needs, as they are read.
 ghost use Rattle.std.specs.Prelude.{◌≡◌, ◌≤◌, ◌+◌, ◌++◌, ℕ, List, [], drop, length, take, IfOk, IfSome, OnOk};
 ghost use Rattle.itch_checkpoints.specs.Fingerprints.{HavePassed, fingerprint as fingerprint_of};
 
@@ -6,22 +6,22 @@ use crate::fingerprint::{Fingerprint, MOST_FIRST, MOST_LAST};
 use std::alloc::{AllocError, Allocator};
 use std::mem;
 
-/// How many bytes each half of the recent ones has. A place is behind the last byte that was read by no more than what the buffer of a
-/// file has, and two blocks.
+/// The number of bytes of each half of the recent bytes. A position is behind the last byte read by at most the size of a file's buffer and
+/// two blocks.
 const HALF: usize = 1 << 18;
 
-/// Of the bytes of a day file that have passed, its first ones, and recent ones.
+/// The first bytes and some recent bytes of a day file, as it is read.
 #[derive(Drop)]
 pub struct Passed<A: Allocator> {
     first: Vec<u8, A>,
     older: Vec<u8, A>,
     newer: Vec<u8, A>,
-    // How many have passed. The number stops at 2^64 - 1.
+    // The number of bytes that were read. It remains at its maximum, 2^64 - 1.
     count: u64,
 }
 
 impl<A: Allocator + Copy> Passed<A> {
-    /// Nothing has passed. All memory is taken here, for pieces that are no longer than a half.
+    /// Creates a value that holds no bytes. It allocates all of its memory here, for pieces no longer than a half.
     pub fn new(alloc: A) -> Result<Self, AllocError>
         ensures { IfOk result (λ p. HavePassed p.first.items p.older.items p.newer.items p.count []) }
     {
@@ -35,7 +35,7 @@ impl<A: Allocator + Copy> Passed<A> {
 }
 
 impl<A: Allocator> Passed<A> {
-    /// A piece of the file passes.
+    /// Records the next piece of the file.
     pub fn pass(&mut self, piece: &[u8]) -> Result<(), AllocError>
         ensures { OnOk result ((bytes : List ℕ) → HavePassed self.old.first.items self.old.older.items self.old.newer.items self.old.count bytes
             → HavePassed self.new.first.items self.new.older.items self.new.newer.items self.new.count (bytes ++ piece.now)) }
@@ -46,7 +46,7 @@ impl<A: Allocator> Passed<A> {
         Ok(())
     }
 
-    /// The fingerprint of the bytes before a place, if it was passed and is not too far behind.
+    /// Returns the fingerprint of the bytes before a position, if the position was passed and is not too far behind.
     pub fn fingerprint(&self, place: u64) -> Option<Fingerprint>
         ensures { IfSome result (λ found. (bytes : List ℕ) → HavePassed self.now.first.items self.now.older.items self.now.newer.items self.now.count bytes
             → found ≡ fingerprint_of place bytes) }
@@ -68,7 +68,7 @@ impl<A: Allocator> Passed<A> {
     }
 }
 
-// Keeps what a piece has of the first bytes.
+// Keeps the part of a piece that belongs to the first bytes.
 fn keep_first<A: Allocator>(first: &mut Vec<u8, A>, piece: &[u8]) -> Result<(), AllocError>
     ensures { OnOk result ((bytes : List ℕ) → first.old.items ≡ take 65536 bytes → first.new.items ≡ take 65536 (bytes ++ piece.now)) }
 {
@@ -77,7 +77,7 @@ fn keep_first<A: Allocator>(first: &mut Vec<u8, A>, piece: &[u8]) -> Result<(), 
     Ok(())
 }
 
-// Keeps a piece behind the recent bytes, of which the older ones are dropped where there is no room.
+// Keeps a piece behind the recent bytes, and drops the older ones if there is no room.
 fn keep_recent<A: Allocator>(
     older: &mut Vec<u8, A>,
     newer: &mut Vec<u8, A>,
@@ -95,7 +95,7 @@ fn keep_recent<A: Allocator>(
     Ok(())
 }
 
-// What two lists, one after the other, have from one place to another.
+// Returns the part of two lists, one after the other, from one position to another.
 fn part<'a>(older: &'a [u8], newer: &'a [u8], begin: usize, end: usize) -> (&'a [u8], &'a [u8])
     requires order { begin ≤ end }
     requires within { end ≤ length older.now + length newer.now }

@@ -1,8 +1,8 @@
-//! How much of the time goes into snapshots.
+//! The share of time spent on encoding snapshots.
 ghost use Rattle.std.specs.Prelude.{◌≡◌, ◌-◌};
 ghost use Rattle.itch_clients.specs.Budgets.{may_encode, is_slow};
 
-/// When the last snapshot was encoded, and how long that took.
+/// When the last snapshot was encoded, and how long it took.
 #[derive(Clone, Copy, Debug)]
 pub struct Budget {
     ended_ms: u64,
@@ -10,7 +10,7 @@ pub struct Budget {
 }
 
 impl Budget {
-    /// Nothing was encoded yet.
+    /// Creates a budget before the first snapshot.
     pub fn new() -> Budget
         ensures ended { result.ended_ms ≡ 0 }
         ensures took { result.took_ms ≡ 0 }
@@ -21,14 +21,14 @@ impl Budget {
         }
     }
 
-    /// Whether a snapshot may be encoded now; `idle` says that no client takes anything meanwhile.
+    /// Returns whether a snapshot may be encoded now. `idle` means that there is no other work.
     pub fn allows(&self, now_ms: u64, idle: bool) -> bool
         ensures { result ≡ may_encode self.now.ended_ms self.now.took_ms now_ms idle }
     {
         may_encode(self.ended_ms, self.took_ms, now_ms, idle)
     }
 
-    /// Takes note that a snapshot was encoded between two moments.
+    /// Records that a snapshot was encoded between two times.
     pub fn spend(&mut self, begun_ms: u64, ended_ms: u64)
         ensures ended { self.new.ended_ms ≡ ended_ms }
         ensures took { self.new.took_ms ≡ ended_ms - begun_ms }
@@ -38,15 +38,15 @@ impl Budget {
     }
 }
 
-/// Whether a snapshot may be encoded now, where encoding the last one took so long and ended then: at most a third of the time goes into that, as
-/// long as there is something else to do.
+/// Returns whether a snapshot may be encoded now. The last one took `took_ms` milliseconds and was ready at `ended_ms`. Encoding takes at
+/// most a third of the time, as long as there is other work.
 pub fn may_encode(ended_ms: u64, took_ms: u64, now_ms: u64, idle: bool) -> bool
     ensures { result ≡ may_encode ended_ms took_ms now_ms idle }
 {
     idle || now_ms.saturating_sub(ended_ms) >= took_ms.saturating_mul(2)
 }
 
-/// Whether a client that took so many bytes of its snapshot in so many milliseconds is slow: less than a megabyte a second.
+/// Returns whether a client that accepted this many bytes of its snapshot in this time is slow: less than a megabyte per second.
 pub fn is_slow(bytes: u64, passed_ms: u64) -> bool
     ensures { result ≡ is_slow bytes passed_ms }
 {

@@ -1,4 +1,4 @@
-//! A client that is served a snapshot.
+//! A client that receives a snapshot.
 
 use crate::budget::is_slow;
 use itch_book::OrderBook;
@@ -6,24 +6,25 @@ use itch_live::Desk;
 use itch_sessions::{Departure, Link, Who, departure_of};
 use mio::event::Event;
 
-/// What is written to one client in one turn, at most.
+/// The most bytes written to one client per turn.
 const SHARE: usize = 1 << 20;
 
-/// For so long no client is slow: what its socket takes at first says little.
+/// No client counts as slow before this many milliseconds: the first bytes that a socket accepts say little about its speed.
 const FAIR_MS: u64 = 1_000;
 
 /// The connection of the client at a place of a desk.
 #[derive(Drop)]
 pub struct ClientSide {
     link: Link,
-    // How its connection has ended once it has all of the snapshot that it is sent, since when it is sent that, and how much of it was taken.
+    // How its connection will have ended once it has received the complete snapshot, since when it receives this snapshot, and how many bytes
+    // of it the socket has accepted.
     answer: Option<Departure>,
     since_ms: u64,
     taken: u64,
 }
 
 impl ClientSide {
-    /// A client whose login is right.
+    /// Creates a client whose login is valid.
     pub fn new(link: Link) -> ClientSide {
         ClientSide {
             link,
@@ -33,32 +34,32 @@ impl ClientSide {
         }
     }
 
-    /// Whose connection it is.
+    /// Returns the client of the connection.
     pub fn who(&self) -> Who {
         self.link.who()
     }
 
-    /// Whether nothing was sent of its snapshot.
+    /// Returns whether nothing was sent of its snapshot.
     pub fn has_none(&self) -> bool {
         self.taken == 0
     }
 
-    /// Its connection.
+    /// Returns its connection.
     pub fn into_link(self) -> Link {
         self.link
     }
 
-    /// Takes note of what is ready.
+    /// Records the readiness reported by an event.
     pub fn note(&mut self, event: &Event) {
         self.link.note(event);
     }
 
-    /// Whether there is something to read, or to write, before anything else is ready.
+    /// Returns whether there may be bytes to read, or room to write pending ones, without waiting for another event.
     pub fn is_busy<B: OrderBook>(&self, desk: &Desk<B>, place: usize) -> bool {
         self.link.is_busy(!desk.pending(place).is_empty())
     }
 
-    /// Takes note that it is answered at this moment with a snapshot of so many packets, whose End has this number.
+    /// Records that it is answered at this time with a snapshot of `packets` packets, whose End of Snapshot has this number.
     pub fn note_answer(&mut self, next: u64, packets: u64, now_ms: u64) {
         if self.answer.is_none() {
             self.answer = Some(Departure::Answered { next, packets });
@@ -66,7 +67,7 @@ impl ClientSide {
         }
     }
 
-    /// The number of the snapshot that it is sent, and since when, if it takes that slowly.
+    /// Returns the number of its snapshot and the time since when it receives it, if it is slow.
     pub fn slow_since(&self, now_ms: u64) -> Option<(u64, u64)> {
         let Some(Departure::Answered { next, .. }) = self.answer else {
             return None;
@@ -78,7 +79,7 @@ impl ClientSide {
         Some((next, self.since_ms))
     }
 
-    /// Reads what it has said, as far as the buffer goes.
+    /// Reads bytes from the client, as many as fit the buffer, and passes them to the desk.
     pub fn hear<B: OrderBook>(
         &mut self,
         desk: &mut Desk<B>,
@@ -90,12 +91,13 @@ impl ClientSide {
         hand_on(desk, place, &buffer[..count], now_ms);
     }
 
-    /// Has the next write tried, also where the system has not reported room.
+    /// Makes the next write try the socket, even if the system has not reported room.
     pub fn try_to_write(&mut self) {
         self.link.try_to_write();
     }
 
-    /// Writes what is pending, up to a share, and returns how many bytes that is. Once it has all, the sending half of the connection is ended.
+    /// Writes pending bytes, up to 1 MiB, and returns how many were written. When the client has received everything, the sending half of the
+    /// connection is shut down.
     pub fn tell<B: OrderBook>(&mut self, desk: &mut Desk<B>, place: usize, now_ms: u64) -> u64 {
         let mut sent = 0u64;
         for _ in 0..SHARE {
@@ -107,7 +109,7 @@ impl ClientSide {
             if self.answer.is_some() {
                 self.taken = self.taken.saturating_add(count as u64);
             }
-            // The notes come first, and the snapshot after them.
+            // The packets of the login come first, and the snapshot after them.
             if count == 0 || count == SHARE || desk.pending(place).is_empty() {
                 break;
             }
@@ -120,7 +122,7 @@ impl ClientSide {
         sent
     }
 
-    /// How its connection has ended, once it has all that it is told.
+    /// Returns how its connection has ended, if it has received everything.
     pub fn served(&self) -> Option<Departure> {
         if self.link.has_all() {
             return self.answer;
@@ -128,7 +130,8 @@ impl ClientSide {
         None
     }
 
-    /// How its connection ended, once it is to be closed. A client that sends no more is told all that it asked for before.
+    /// Returns how its connection ended, if it is to be closed. A client that has closed its sending half still receives everything that it
+    /// requested before.
     pub fn departure<B: OrderBook>(&self, desk: &Desk<B>, place: usize) -> Option<Departure> {
         let Some(guest) = desk.guest(place) else {
             return Some(Departure::Fault);
@@ -139,7 +142,7 @@ impl ClientSide {
     }
 }
 
-/// Hands on all bytes of a piece.
+/// Passes all bytes of a piece to the desk.
 pub fn hand_on<B: OrderBook>(desk: &mut Desk<B>, place: usize, piece: &[u8], now_ms: u64) {
     let mut from = 0;
     for _ in 0..piece.len() {

@@ -1,4 +1,4 @@
-//! The clients that are served snapshots.
+//! The clients that receive snapshots.
 
 use crate::client::{ClientSide, hand_on};
 use crate::reception::{Arrival, Reception};
@@ -12,10 +12,10 @@ use mio::Registry;
 use mio::event::Event;
 use std::alloc::{AllocError, Global};
 
-/// Once a client has waited for so long for room for its snapshot, the slowest one is cut off.
+/// When a client has waited this long for room for its snapshot, the slowest client is disconnected.
 const ROOM_MS: u64 = 500;
 
-/// Full sockets are tried this often.
+/// The interval in milliseconds at which writing to full sockets is tried.
 const TRY_MS: u64 = 100;
 
 /// The connections of a desk's clients, one at each of its places.
@@ -23,24 +23,28 @@ const TRY_MS: u64 = 100;
 pub struct Clients {
     seats: Vec<Option<ClientSide>>,
     seated: Seated,
-    // How many may be from one address.
+    // The most clients from one address.
     per_address: usize,
-    // How many bytes the snapshots may have.
+    // The limit of the snapshots in bytes.
     room: SnapshotRoom,
     // The number of the socket at the first place.
     first_token: usize,
-    // Since when somebody has waited for room for a snapshot.
+    // Since when a client has been waiting for room for a snapshot.
     crowded_ms: Option<u64>,
-    // When full sockets were tried last.
+    // When writing to full sockets was last tried.
     tried_ms: u64,
-    // How many snapshots were encoded, and how many bytes were sent.
+    // The number of snapshots that were encoded, and the number of bytes sent.
     encoded: u64,
     sent: u64,
     buffer: Vec<u8>,
 }
 
 impl Clients {
-    /// So many free places. Their sockets will be registered from this number on.
+    /// Creates `places` free places. Their sockets will be registered from the number `first_token` on.
+    ///
+    /// # Errors
+    ///
+    /// [`AllocError`] if memory is refused.
     pub fn new(
         alloc: Global,
         places: usize,
@@ -62,12 +66,12 @@ impl Clients {
         })
     }
 
-    /// How many snapshots were encoded, and how many bytes were sent.
+    /// Returns the number of snapshots that were encoded, and the number of bytes sent.
     pub fn totals(&self) -> (u64, u64) {
         (self.encoded, self.sent)
     }
 
-    /// How many clients wait for a snapshot, and how many are sent one.
+    /// Returns the number of clients that wait for a snapshot, and of those that receive one.
     pub fn counts<B: OrderBook>(&self, desk: &Desk<B>) -> (u64, u64) {
         let (mut waiting, mut served) = (0u64, 0u64);
         for place in 0..self.seats.len() {
@@ -80,12 +84,12 @@ impl Clients {
         (waiting, served)
     }
 
-    /// Whether there is no client.
+    /// Returns whether there are no clients.
     pub fn is_empty(&self) -> bool {
         self.seats.iter().all(|seat| seat.is_none())
     }
 
-    /// Where what a connection says is read to.
+    /// Returns the buffer into which bytes from connections are read.
     pub fn buffer(&mut self) -> &mut [u8] {
         self.buffer.as_mut_slice()
     }
@@ -94,7 +98,7 @@ impl Clients {
         self.seats.iter().any(|seat| seat.is_none())
     }
 
-    /// Whether there is something to read or to write before anything else is ready.
+    /// Returns whether there may be bytes to read, or room to write pending ones, without waiting for another event.
     pub fn is_busy<B: OrderBook>(&self, desk: &Desk<B>) -> bool {
         for (place, seat) in self.seats.iter().enumerate() {
             if let Some(client) = seat
@@ -106,12 +110,12 @@ impl Clients {
         false
     }
 
-    /// Whether something is still to be written to a client, whether or not its socket takes it now.
+    /// Returns whether bytes are pending for any client, whether or not its socket accepts them now.
     pub fn is_telling<B: OrderBook>(&self, desk: &Desk<B>) -> bool {
         (0..self.seats.len()).any(|place| !desk.pending(place).is_empty())
     }
 
-    /// Takes note that the socket of this number is ready.
+    /// Records that the socket with this number is ready.
     pub fn note(&mut self, token: usize, event: &Event) {
         let place = token.saturating_sub(self.first_token);
         if let Some(Some(client)) = self.seats.get_mut(place) {
@@ -119,7 +123,7 @@ impl Clients {
         }
     }
 
-    /// Gives places to those whose login is right, in the order in which they came, as far as there are places.
+    /// Gives places to clients with valid logins, in the order of their arrival, while there are free ones.
     pub fn seat<B: OrderBook>(
         &mut self,
         reception: &mut Reception,
@@ -138,7 +142,7 @@ impl Clients {
         }
     }
 
-    // Gives a client a place. It is turned away where its memory is refused, or its socket cannot be registered.
+    // Gives a client a place. The client is rejected if its memory is refused, or if its socket cannot be registered.
     fn seat_one<B: OrderBook>(
         &mut self,
         arrival: Arrival,
@@ -169,14 +173,14 @@ impl Clients {
         self.seated.set(place, Some(address));
     }
 
-    // Seats a client at a place, or frees it, which closes the connection.
+    // Puts a client at a place, or frees the place, which closes the connection.
     fn set(&mut self, place: usize, client: Option<ClientSide>) {
         if let Some(seat) = self.seats.get_mut(place) {
             *seat = client;
         }
     }
 
-    /// Hands on what the clients have said.
+    /// Passes the bytes from all clients to the desk.
     pub fn hear<B: OrderBook>(&mut self, desk: &mut Desk<B>, now_ms: u64) {
         for (place, seat) in self.seats.iter_mut().enumerate() {
             if let Some(client) = seat {
@@ -185,8 +189,8 @@ impl Clients {
         }
     }
 
-    /// Answers those who wait with the snapshot of the present market. Where it has no room beside the others, or its memory is refused, they
-    /// go on waiting.
+    /// Answers waiting clients with the snapshot of the current market. If there is no room for it in addition to the others, or its memory
+    /// is refused, they continue to wait.
     pub fn answer<B: OrderBook>(&mut self, desk: &mut Desk<B>, now_ms: u64) {
         let follower = desk.follower();
         let (Some(next), Some(market)) = (follower.next(), follower.market()) else {
@@ -195,7 +199,7 @@ impl Clients {
         let messages = u64::try_from(snapshot_len(market)).unwrap_or(u64::MAX);
         let limit = self.room.limit(longest_snapshot(market));
         let kept = desk.snapshot_bytes();
-        // Also where it ends in an error, some were answered.
+        // Even if it ends with an error, some clients were answered.
         let _ = desk.answer(limit, now_ms);
         if desk.snapshot_bytes() > kept {
             self.encoded = self.encoded.saturating_add(1);
@@ -203,7 +207,7 @@ impl Clients {
         self.note_answers(desk, next, messages.saturating_add(1), now_ms);
     }
 
-    /// Whether somebody waits for a snapshot.
+    /// Returns whether any client waits for a snapshot.
     pub fn any_waits<B: OrderBook>(&self, desk: &Desk<B>) -> bool {
         for place in 0..self.seats.len() {
             if let Some(guest) = desk.guest(place)
@@ -215,7 +219,7 @@ impl Clients {
         false
     }
 
-    /// The same. Where nobody does, also since whoever did has left, the next one has not waited yet.
+    /// Returns whether any client waits for a snapshot. If none does, perhaps because it has left, the waiting time starts again.
     pub fn somebody_waits<B: OrderBook>(&mut self, desk: &Desk<B>) -> bool {
         let waits = self.any_waits(desk);
         if !waits {
@@ -224,7 +228,7 @@ impl Clients {
         waits
     }
 
-    // Each who is sent the snapshot of this number has it noted for its line, with how many packets it has.
+    // Records for its line that a client receives the snapshot with this number, and the number of its packets.
     fn note_answers<B: OrderBook>(&mut self, desk: &Desk<B>, next: u64, packets: u64, now_ms: u64) {
         for (place, seat) in self.seats.iter_mut().enumerate() {
             if let (Some(client), Some(guest)) = (seat, desk.guest(place))
@@ -235,8 +239,9 @@ impl Clients {
         }
     }
 
-    /// Takes note that somebody waits, or nobody, after those who could be answered were. Where one has waited for half a second, the one that has been
-    /// sent its snapshot for longest at less than a megabyte a second makes room, with whoever takes the same snapshot as slowly.
+    /// Makes room for clients that still wait after the others were answered. If one has waited for half a second, this disconnects the
+    /// client that has been receiving its snapshot for longest at less than a megabyte per second, and all others that receive the same
+    /// snapshot as slowly.
     pub fn make_room<B: OrderBook>(
         &mut self,
         reception: &mut Reception,
@@ -260,7 +265,7 @@ impl Clients {
         }
     }
 
-    // The number of the snapshot of the client that has been slow for longest.
+    // Returns the number of the snapshot of the client that has been slow for longest.
     fn slowest(&self, now_ms: u64) -> Option<u64> {
         let mut found: Option<(u64, u64)> = None;
         for seat in self.seats.iter() {
@@ -274,7 +279,7 @@ impl Clients {
         Some(found?.0)
     }
 
-    // Whether the client at a place takes this snapshot slowly.
+    // Returns whether the client at a place receives this snapshot slowly.
     fn is_slow_at(&self, place: usize, snapshot: u64, now_ms: u64) -> bool {
         match self.seats.get(place) {
             Some(Some(client)) => match client.slow_since(now_ms) {
@@ -285,7 +290,8 @@ impl Clients {
         }
     }
 
-    /// Writes what is pending. Full sockets are tried too, ten times a second: the system reports room only once a third of a buffer is free.
+    /// Writes pending bytes. Full sockets are also tried ten times per second, because the system reports room only when a third of a buffer
+    /// is free.
     pub fn tell<B: OrderBook>(
         &mut self,
         reception: &mut Reception,
@@ -311,7 +317,8 @@ impl Clients {
         }
     }
 
-    /// Cuts off who is silent, closes the connection of each that is gone, and frees the place of each that has all that it is told.
+    /// Disconnects silent clients, closes the connection of each client that is gone, and frees the place of each client that has received
+    /// everything.
     pub fn close<B: OrderBook>(
         &mut self,
         reception: &mut Reception,
@@ -330,14 +337,14 @@ impl Clients {
         }
     }
 
-    /// Cuts off all who are still there.
+    /// Disconnects all remaining clients.
     pub fn cut_off<B: OrderBook>(&mut self, reception: &mut Reception, desk: &mut Desk<B>) {
         for place in 0..self.seats.len() {
             self.free(place, Departure::CutOff, reception, desk);
         }
     }
 
-    // How the connection of the client at a place has ended, once it has all that it is told.
+    // Returns how the connection of the client at a place has ended, if it has received everything.
     fn served_at(&self, place: usize) -> Option<Departure> {
         match self.seats.get(place) {
             Some(Some(client)) => client.served(),
@@ -345,7 +352,7 @@ impl Clients {
         }
     }
 
-    // How the connection of the client at a place ended, once it is to be closed.
+    // Returns how the connection of the client at a place ended, if it is to be closed.
     fn departure<B: OrderBook>(&self, desk: &Desk<B>, place: usize) -> Option<Departure> {
         match self.seats.get(place) {
             Some(Some(client)) => client.departure(desk, place),
@@ -353,7 +360,7 @@ impl Clients {
         }
     }
 
-    // Leaves it to the reception to close the connection of a client that has all.
+    // Leaves the closing of a connection to the reception, after its client has received everything.
     fn see_off(
         &mut self,
         place: usize,
@@ -371,7 +378,7 @@ impl Clients {
         }
     }
 
-    // Closes the connection of the client at a place, which has ended so, and frees the place.
+    // Closes the connection of the client at a place, which has ended in this way, and frees the place.
     fn free<B: OrderBook>(
         &mut self,
         place: usize,
@@ -388,7 +395,7 @@ impl Clients {
     }
 }
 
-// So many free places.
+// Returns this number of free places.
 fn free_seats(alloc: Global, count: usize) -> Result<Vec<Option<ClientSide>>, AllocError> {
     let mut seats = Vec::with_capacity(alloc, count)?;
     for _place in 0..count {

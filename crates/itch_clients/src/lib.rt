@@ -1,8 +1,8 @@
-//! The clients of a server, in one thread over the readiness of their sockets.
+//! The clients of a server, in a single thread, driven by the readiness of their sockets.
 //!
-//! A [`Reception`] has those that have not logged in yet, [`Clients`] those that are sent the snapshot of a market, and [`play_feed`] plays a day file to
-//! many as a feed. What is said to whom is decided by `itch_live`, which has no socket and no clock. Here so much of what a socket has is handed on, and
-//! so much of what is pending is written, and then the next one's turn comes.
+//! A [`Reception`] holds the clients that have not logged in yet, [`Clients`] those that receive the snapshot of a market, and [`play_feed`]
+//! plays a day file to many clients as a feed. `itch_live` decides which bytes each client receives; it has no sockets and no clock. The code
+//! here passes on a limited number of bytes from a socket, writes a limited number of pending bytes, and then turns to the next client.
 #![tactic(auto)]
 
 mod budget;

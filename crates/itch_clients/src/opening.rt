@@ -1,24 +1,24 @@
-//! What a connection says before its login.
+//! The first bytes of a connection, before its login.
 ghost use Rattle.std.specs.Prelude.{◌≡◌};
 ghost use Rattle.itch_clients.specs.Openings.{opening_of};
 
-/// The longest packet that is read before a login, which has 47 bytes.
+/// The length of the longest packet that is read before a login. A login has 47 bytes.
 const LONGEST: usize = 62;
 
-/// What the first bytes are.
+/// The kinds of first bytes.
 #[derive(Clone, Copy, Debug, PartialEq, Eq)]
 pub enum Opening {
-    /// The beginning of a packet: more has to come.
+    /// An incomplete packet: more bytes must arrive.
     Begun,
-    /// A whole packet of this length, after its length in two bytes.
+    /// A complete packet of this length, after two bytes of length.
     Packet(usize),
-    /// The beginning of debug text or of unsequenced data, which are not looked at: so many bytes in all.
+    /// The beginning of debug text or of unsequenced data, which is skipped: this many bytes in total.
     Passed(usize),
     /// The beginning of a packet that is longer than any of its type.
     Broken,
 }
 
-/// What the first bytes are that a connection sends.
+/// Returns the kind of the first bytes of a connection.
 pub fn opening_of(bytes: &[u8]) -> Opening
     ensures { result ≡ opening_of bytes.now }
 {

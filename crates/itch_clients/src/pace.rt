@@ -1,22 +1,22 @@
-//! When a message of a day file that is played is due.
+//! When a message of a played day file is due.
 ghost use Rattle.std.specs.Prelude.{◌≡◌, ◌*◌, nat_le};
 ghost use Rattle.itch_clients.specs.Paces.{is_due, timestamp};
 
 use itch_codec::Stamp;
 
-/// How fast a day file is played.
+/// The speed at which a day file is played.
 #[derive(Clone, Copy, Debug, PartialEq, Eq)]
 pub enum Pace {
-    /// As fast as a client takes it.
+    /// As fast as a client accepts it.
     Free,
-    /// So many messages a second from the login on.
+    /// This number of messages per second, from the login on.
     Rate(u64),
-    /// As the timestamps of its messages say, so many times as fast.
+    /// This many times the pace of the messages' timestamps.
     Clock(u64),
 }
 
-/// Whether a message is due so many milliseconds after the login was accepted, of which so many messages come before it, and so many
-/// nanoseconds lie between the timestamp of the first one and its own.
+/// Returns whether a message is due `passed_ms` milliseconds after the login was accepted, if `before` messages come before it, and its
+/// timestamp is `later_ns` nanoseconds after that of the first message.
 pub fn is_due(pace: Pace, passed_ms: u64, before: u64, later_ns: u64) -> bool
     ensures { result ≡ is_due pace passed_ms before later_ns }
 {
@@ -35,7 +35,7 @@ pub fn is_due(pace: Pace, passed_ms: u64, before: u64, later_ns: u64) -> bool
     }
 }
 
-// Whether a product is no less than what is wanted.
+// Returns whether a product is at least the wanted number.
 fn reaches(wanted: u128, factor: u128, other: u128) -> bool
     ensures { result ≡ nat_le wanted (factor * other) }
 {
@@ -45,7 +45,7 @@ fn reaches(wanted: u128, factor: u128, other: u128) -> bool
     }
 }
 
-/// The timestamp in a message's header, in nanoseconds since midnight; 0 where it has none.
+/// Returns the timestamp in a message's header, in nanoseconds since midnight, or 0 if it has none.
 pub fn timestamp(message: &[u8]) -> u64
     ensures { result ≡ timestamp message.now }
 {

@@ -1,4 +1,4 @@
-//! `feed`: a day file that is played as a live feed, to each client from the number on that it asks for.
+//! `feed`: plays a day file as a live feed, to each client from the number that it asks for.
 
 use crate::pace::Pace;
 use crate::playback::Playback;
@@ -24,40 +24,39 @@ const LISTENER: usize = 0;
 
 const PLACES: usize = 1;
 
-/// Where the sockets of those begin that hold no place.
+/// The number of the first socket without a place.
 const ROOMS: usize = PLACES + CLIENTS;
 
-/// How many clients a feed has at a time.
+/// The most clients of a feed at a time.
 const CLIENTS: usize = 64;
 
 const EVENTS: usize = 1_024;
 
-/// The moment is looked at this often, where no socket is ready; and where a message is not due yet.
+/// The intervals in milliseconds at which the time is checked: if no socket is ready, and if a message is not due yet.
 const MOMENT_MS: u64 = 100;
 
 const SOON_MS: u64 = 2;
 
-/// What is played, to whom and how.
+/// The day file to play, its clients and its pace.
 #[derive(Clone, Copy)]
 pub struct Playing<'a> {
     pub path: &'a str,
     pub address: SocketAddr,
-    /// The session that logins are accepted in.
+    /// The session under which logins are accepted.
     pub session: Alpha<10>,
     pub pace: Pace,
-    /// After how many connections it ends, if it does.
+    /// The number of connections after which it ends, if it does.
     pub count: Option<u64>,
-    /// Whether heartbeats follow the last message, and not the end of the session.
+    /// Whether heartbeats follow the last message, instead of the end of the session.
     pub stay: bool,
 }
 
-/// Plays a day file to each of these users that logs in, from the number on that it asks for, with a line on `out` for each that is gone. Its
-/// messages are counted first. Each client has the file opened for itself, so it may be at any place of it.
+/// Plays a day file to each of these users that logs in, from the requested number on, with a line on `out` for each client that is gone. The
+/// messages of the file are counted first. The file is opened separately for each client, so clients may be at different places.
 ///
 /// # Faults
 ///
-/// A file that cannot be opened, or ends within a message (`Stopped`); `Socket` if the port cannot be listened on; a line that
-/// cannot be written.
+/// A file that cannot be opened, or ends within a message (`Stopped`); `Socket` if the port cannot be bound; a line that cannot be written.
 pub fn play_feed<R, W: CountedWrite>(
     rt: &R,
     playing: &Playing<'_>,
@@ -96,7 +95,7 @@ struct Players<'a, R: Clock> {
     clients: Vec<Option<PlayerSide<File>>>,
     seated: Seated,
     spare: Spare,
-    // How many connections have ended.
+    // The number of connections that have ended.
     ended: u64,
     buffer: Vec<u8>,
 }
@@ -105,7 +104,7 @@ impl<'a, R> Players<'a, R>
 where
     R: Net + Clock + Files<File = File> + Eprint + AllocGlobal,
 {
-    // Listens on the port, and says so.
+    // Listens on the port, and prints its address.
     fn new(
         rt: &'a R,
         playing: &'a Playing<'a>,
@@ -155,7 +154,7 @@ where
         Ok(())
     }
 
-    // How long there is nothing to do unless something is ready.
+    // Returns how long to wait for a socket to become ready.
     fn patience_ms(&self) -> u64 {
         if self.reception.is_busy() {
             return 0;
@@ -174,7 +173,7 @@ where
         most_ms
     }
 
-    // Takes note of what is ready.
+    // Records which sockets are ready.
     fn note(&mut self) {
         for event in self.turns.events().iter() {
             let Token(token) = event.token();
@@ -188,7 +187,8 @@ where
         }
     }
 
-    // Gives places to those whose login is right, in the order in which they came, as far as there are places, and a descriptor for the file of each.
+    // Gives places to clients with valid logins, in the order of their arrival, while there are free places and a descriptor for the file of
+    // each.
     fn seat(&mut self, now_ms: u64) {
         for place in 0..self.clients.len() {
             if self.is_taken(place) {
@@ -213,14 +213,14 @@ where
         matches!(self.clients.get(place), Some(Some(_)))
     }
 
-    // Seats a client at a place, or frees it, which closes the connection.
+    // Puts a client at a place, or frees the place, which closes the connection.
     fn set(&mut self, place: usize, client: Option<PlayerSide<File>>) {
         if let Some(seat) = self.clients.get_mut(place) {
             *seat = client;
         }
     }
 
-    // A client with the file opened for it.
+    // Creates a client with the file opened for it.
     fn seat_one(
         &self,
         arrival: Arrival,
@@ -242,7 +242,7 @@ where
         Ok(PlayerSide::new(link, player, playback))
     }
 
-    // Plays to each client what is due.
+    // Plays the messages that are due to each client.
     fn play(&mut self, now_ms: u64) {
         let (pace, stay) = (self.playing.pace, self.playing.stay);
         for client in self.clients.iter_mut() {
@@ -252,7 +252,7 @@ where
         }
     }
 
-    // Closes the connection of each that is gone.
+    // Closes the connection of each client that is gone.
     fn close(&mut self) {
         for place in 0..self.clients.len() {
             if let Some((who, departure)) = self.departure(place) {
@@ -276,7 +276,7 @@ where
         self.log.report(now_ms);
     }
 
-    // Whose connection that at a place is, and how it ended, once it is to be closed.
+    // Returns the client at a place and how its connection ended, if it is to be closed.
     fn departure(&self, place: usize) -> Option<(Who, Departure)> {
         match self.clients.get(place) {
             Some(Some(client)) => Some((client.who(), client.departure()?)),
@@ -285,7 +285,7 @@ where
     }
 }
 
-// Free places.
+// Returns free places.
 fn no_clients<F: Read + Drop>(alloc: Global) -> Result<Vec<Option<PlayerSide<F>>>, AllocError> {
     let mut clients = Vec::with_capacity(alloc, CLIENTS)?;
     for _place in 0..CLIENTS {

@@ -1,4 +1,4 @@
-//! A day file that is played to one client, which reads it by itself.
+//! A day file that is played to one client, with its own reader.
 
 use crate::pace::timestamp;
 use itch_frame::{BlockReader, Buffered};
@@ -14,14 +14,13 @@ use std::rt::Files;
 #[derive(Drop)]
 pub struct Playback<F: Read + Drop> {
     blocks: BlockReader<Buffered<F, Global>, Global>,
-    // The message at hand, with its number: 0 before the first one.
+    // The current message and its number, which is 0 before the first one.
     message: Vec<u8>,
     number: u64,
 }
 
 impl<F: Read + Drop> Playback<F> {
-    /// The file of a path, before its first message. A pipe or a device is refused: it would give its bytes only once, and each client reads
-    /// the file from its beginning.
+    /// Opens the file at a path, before its first message. A pipe or a device is refused, because each client reads the file from its beginning.
     pub fn open<R: Files<File = F> + AllocGlobal>(
         rt: &R,
         path: &str,
@@ -41,7 +40,11 @@ impl<F: Read + Drop> Playback<F> {
         })
     }
 
-    /// How many messages there are from here on.
+    /// Returns the number of messages from here on.
+    ///
+    /// # Errors
+    ///
+    /// [`SessionFault::Stopped`] if the file cannot be read, or ends within a message.
     pub fn count(self) -> Result<u64, SessionFault> {
         let mut playback = self;
         match playback.blocks.pass_messages(u64::MAX) {
@@ -50,7 +53,11 @@ impl<F: Read + Drop> Playback<F> {
         }
     }
 
-    /// Moves on to a message, over at most so many, and says whether it is at hand. An earlier one is not gone back to.
+    /// Moves on to a message, past at most `most` others, and returns whether it is the current one. It does not move back to an earlier one.
+    ///
+    /// # Errors
+    ///
+    /// [`SessionFault::Stopped`] if the file cannot be read, or ends before the message; [`SessionFault::OutOfMemory`] if memory is refused.
     pub fn move_to(&mut self, number: u64, most: usize) -> Result<bool, SessionFault> {
         let before = number.saturating_sub(1);
         if self.number < before {
@@ -62,7 +69,7 @@ impl<F: Read + Drop> Playback<F> {
         Ok(self.number == number)
     }
 
-    // Passes over so many messages.
+    // Skips `most` messages.
     fn pass_over(&mut self, most: u64) -> Result<(), SessionFault> {
         let (count, passed) = self.blocks.pass_messages(most);
         self.number = self.number.saturating_add(count);
@@ -73,7 +80,7 @@ impl<F: Read + Drop> Playback<F> {
         }
     }
 
-    // The next message is at hand.
+    // Makes the next message the current one.
     fn take_next(&mut self) -> Result<(), SessionFault> {
         match self.blocks.next_message() {
             Ok(Some(payload)) => {
@@ -87,18 +94,18 @@ impl<F: Read + Drop> Playback<F> {
         }
     }
 
-    /// The message at hand.
+    /// Returns the current message.
     pub fn message(&self) -> &[u8] {
         self.message.as_slice()
     }
 
-    /// Its timestamp.
+    /// Returns its timestamp.
     pub fn time(&self) -> u64 {
         timestamp(self.message.as_slice())
     }
 }
 
-// Opens a file that can be opened and read any number of times. A pipe must not be opened: that waits until somebody writes to it.
+// Opens a file that can be read any number of times. A pipe must not be opened: this would wait for a writer.
 fn open_again<R: Files>(rt: &R, path: &str) -> io::Result<R::File> {
     let metadata = fs::metadata(rt, path)?;
     if !metadata.is_file() && !metadata.is_dir() {

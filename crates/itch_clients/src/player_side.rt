@@ -1,4 +1,4 @@
-//! A client that a day file is played to.
+//! A client to which a day file is played.
 
 use crate::pace::{Pace, is_due};
 use crate::playback::Playback;
@@ -8,16 +8,16 @@ use mio::event::Event;
 use std::alloc::Global;
 use std::io::Read;
 
-/// How many messages are played to one client in one turn, at most.
+/// The most messages played to one client per turn.
 const MESSAGES: usize = 4_096;
 
-/// What is written to one client in one turn, at most.
+/// The most bytes written to one client per turn.
 const SHARE: usize = 1 << 18;
 
-/// The longest message that fits a packet.
+/// The length of the longest message that fits a packet.
 const LONGEST: usize = 65_534;
 
-/// From where a client is played to: its first message, the timestamp of that, and when it was at hand.
+/// The start of a client: its first message, with its timestamp, and when it was read.
 #[derive(Clone, Copy)]
 struct Start {
     number: u64,
@@ -25,31 +25,31 @@ struct Start {
     at_ms: u64,
 }
 
-/// What has become of playing to a client in a turn.
+/// The outcome of playing to a client in a turn.
 #[derive(Clone, Copy, PartialEq, Eq)]
 enum Played {
-    /// What it has room for was handed in, or as much as one turn allows.
+    /// As many messages were passed in as there was room for, or as one turn allows.
     Due,
     /// The next message is not due yet.
     Early,
-    /// The file cannot be read on.
+    /// The file cannot be read any further.
     Failed,
 }
 
-/// A client that a day file is played to.
+/// A client to which a day file is played.
 #[derive(Drop)]
 pub struct PlayerSide<F: Read + Drop> {
     link: Link,
     player: Player<Global>,
     playback: Playback<F>,
     start: Option<Start>,
-    // How many messages were handed in, and how that ended in the last turn.
+    // The number of messages that were passed in, and the outcome of the last turn.
     count: u64,
     played: Played,
 }
 
 impl<F: Read + Drop> PlayerSide<F> {
-    /// A client that has connected.
+    /// Creates a client that has connected.
     pub fn new(link: Link, player: Player<Global>, playback: Playback<F>) -> PlayerSide<F> {
         PlayerSide {
             link,
@@ -65,25 +65,25 @@ impl<F: Read + Drop> PlayerSide<F> {
         self.link.who()
     }
 
-    /// Takes note of what is ready.
+    /// Records the readiness reported by an event.
     pub fn note(&mut self, event: &Event) {
         self.link.note(event);
     }
 
-    /// Whether there is something to do before anything else is ready: to read, to write, or to hand in, since what was handed in before
-    /// may have gone out meanwhile.
+    /// Returns whether there may be something to do without waiting for another event: to read, to write, or to pass in messages, because
+    /// earlier ones may have been sent meanwhile.
     pub fn is_busy(&self) -> bool {
         let wants = self.player.wanted().is_some() && !self.is_early();
         wants || self.link.is_busy(!self.player.pending().is_empty())
     }
 
-    /// Whether a message is at hand that is not due yet.
+    /// Returns whether the current message is not due yet.
     pub fn is_early(&self) -> bool {
         matches!(self.played, Played::Early)
     }
 
-    /// Hears what it has said, hands in the messages that are due, and writes what is pending. The session is ended after the last
-    /// message, unless it is to stay.
+    /// Handles the bytes of the client, passes in the messages that are due, and writes pending bytes. The session ends after the last
+    /// message, unless `stay` is set.
     pub fn turn(&mut self, pace: Pace, stay: bool, now_ms: u64, buffer: &mut [u8]) {
         self.hear(now_ms, buffer);
         self.played = match self.play(pace, now_ms) {
@@ -97,13 +97,13 @@ impl<F: Read + Drop> PlayerSide<F> {
         self.player.tick(now_ms);
     }
 
-    // Reads what it has said, as far as the buffer goes.
+    // Reads bytes from the client, as many as fit the buffer, and passes them on.
     fn hear(&mut self, now_ms: u64, buffer: &mut [u8]) {
         let count = self.link.read(buffer);
         hand_on(&mut self.player, &buffer[..count], now_ms);
     }
 
-    // Hands in the messages that are due.
+    // Passes in the messages that are due.
     fn play(&mut self, pace: Pace, now_ms: u64) -> Result<Played, SessionFault> {
         for _ in 0..MESSAGES {
             let Some(number) = self.player.wanted() else {
@@ -126,7 +126,7 @@ impl<F: Read + Drop> PlayerSide<F> {
         Ok(Played::Due)
     }
 
-    // Writes what is pending, up to a share. Once it has all, the sending half of the connection is ended.
+    // Writes pending bytes, up to `SHARE`. When the client has received everything, the sending half of the connection is shut down.
     fn tell(&mut self, now_ms: u64) {
         let pending = self.player.pending();
         let count = self.link.write(&pending[..pending.len().min(SHARE)]);
@@ -136,7 +136,8 @@ impl<F: Read + Drop> PlayerSide<F> {
         }
     }
 
-    /// How its connection ended, once it is to be closed. A client that sends no more is played to as long as it wants a message.
+    /// Returns how its connection ended, if it is to be closed. A client that has closed its sending half still receives messages while it
+    /// accepts them.
     pub fn departure(&self) -> Option<Departure> {
         if matches!(self.played, Played::Failed) {
             return Some(Departure::Fault);
@@ -147,8 +148,8 @@ impl<F: Read + Drop> PlayerSide<F> {
         Some(departure_of(code, self.served(), gone))
     }
 
-    // How its connection ended if it was played to for as long as it wished. One whose socket has failed closed its connection before it had
-    // read all.
+    // Returns how its connection ended, if it received messages for as long as it wished. A client whose socket has failed has closed the
+    // connection before it had read everything.
     fn served(&self) -> Option<Departure> {
         let wished = match self.player.why_gone() {
             Some(Gone::Fault | Gone::Silent) => self.link.has_all(),
@@ -164,7 +165,7 @@ impl<F: Read + Drop> PlayerSide<F> {
     }
 }
 
-/// Hands on all bytes of a piece.
+/// Passes on all bytes of a piece.
 pub fn hand_on(player: &mut Player<Global>, piece: &[u8], now_ms: u64) {
     let mut from = 0;
     for _ in 0..piece.len() {
@@ -174,7 +175,7 @@ pub fn hand_on(player: &mut Player<Global>, piece: &[u8], now_ms: u64) {
     }
 }
 
-// Whether a message is due, by the first one that was played. That one is.
+// Returns whether a message is due, counted from the first message that was played, which is always due.
 fn is_due_from(start: &mut Option<Start>, pace: Pace, number: u64, time: u64, now_ms: u64) -> bool {
     let first = *start.get_or_insert(Start {
         number,

@@ -1,4 +1,4 @@
-//! Connections that hold no place of a server: those that have not logged in yet, and those that are told no more.
+//! Connections without a place: those that have not logged in yet, and those that receive nothing more.
 
 mod visitor;
 
@@ -19,16 +19,16 @@ use std::net::IpAddr;
 use std::rt::Files;
 use visitor::{KEPT, Served, Stage, Visitor};
 
-/// How many there are at most.
+/// The most connections without a place.
 const ROOM: usize = 1_000;
 
-/// So many are accepted in one turn, at most.
+/// The most connections accepted per turn.
 const MOST_ACCEPTED: usize = 64;
 
-/// Where there is no room, one that has been there for so long without a login makes room.
+/// When there is no room, a connection without a login gives way after this many milliseconds.
 const GRACE_MS: u64 = 1_000;
 
-/// A connection whose login is right, by which configuration, and what it has said: its login, and what it may have said after that.
+/// A connection with a valid login, the configuration that accepts it, and the bytes received so far: the login, and perhaps some after it.
 #[derive(Drop)]
 pub struct Arrival {
     pub link: Link,
@@ -37,26 +37,31 @@ pub struct Arrival {
     pub words: ArrayVec<u8, KEPT>,
 }
 
-/// The connections that hold no place.
+/// The connections without a place.
 #[derive(Drop)]
 pub struct Reception {
-    // What is served: the session, and the number after that of the last message there is to log in for.
+    // The session that is served, and the number after its last message that a login may ask for.
     session: Alpha<10>,
     end_number: Seq,
     rooms: Vec<Option<Visitor>>,
     // The number of the socket in the first room.
     first_token: usize,
-    // How many connections there have been, how many are here, and from which room on nobody is.
+    // The number of connections so far, the number of present ones, and the first room after the last occupied one.
     connected: u64,
     present: usize,
     end: usize,
     refusals: Refusals,
-    // What has become of whom, and is not written yet.
+    // The events of connections that were not reported yet.
     happened: Vec<(Who, Happening)>,
 }
 
 impl Reception {
-    /// Nobody yet. Sockets will be registered from this number on, and logins are to this session, for the messages before this number.
+    /// Creates an empty reception. Sockets will be registered from the number `first_token` on. Logins are for this session, for the messages
+    /// before `end_number`.
+    ///
+    /// # Errors
+    ///
+    /// [`AllocError`] if memory is refused.
     pub fn new(
         alloc: Global,
         session: Alpha<10>,
@@ -80,17 +85,17 @@ impl Reception {
         })
     }
 
-    /// Logins are to this session from now on.
+    /// Sets the session of all later logins.
     pub fn begin(&mut self, session: Alpha<10>) {
         self.session = session;
     }
 
-    /// How many connections there have been.
+    /// Returns the number of connections so far.
     pub fn connected(&self) -> u64 {
         self.connected
     }
 
-    /// How many of those here have not logged in, and how many wait for a place.
+    /// Returns the number of present connections that have not logged in, and of those that wait for a place.
     pub fn counts(&self) -> (u64, u64) {
         let (mut opening, mut ready) = (0u64, 0u64);
         for room in self.rooms.iter().take(self.end) {
@@ -105,12 +110,12 @@ impl Reception {
         (opening, ready)
     }
 
-    /// Whether nobody is there.
+    /// Returns whether there are no connections.
     pub fn is_empty(&self) -> bool {
         self.present == 0
     }
 
-    /// Whether there is something to read before anything else is ready.
+    /// Returns whether there may be bytes to read without waiting for another event.
     pub fn is_busy(&self) -> bool {
         self.rooms.iter().take(self.end).any(|room| match room {
             Some(visitor) => visitor.is_busy(),
@@ -118,7 +123,7 @@ impl Reception {
         })
     }
 
-    /// Takes note that the socket of this number is ready.
+    /// Records that the socket with this number is ready.
     pub fn note(&mut self, token: usize, event: &Event) {
         let place = token.saturating_sub(self.first_token);
         if let Some(Some(visitor)) = self.rooms.get_mut(place) {
@@ -126,8 +131,8 @@ impl Reception {
         }
     }
 
-    /// Accepts those who call. Where there is no room, or no descriptor that is not spared, one that has been there for a second without a
-    /// login makes room.
+    /// Accepts new connections. If there is no room, or no descriptor except the spare ones, a connection that has been present for a second
+    /// without a login is closed to make room.
     pub fn accept<R: Files<File = File>>(
         &mut self,
         rt: &R,
@@ -168,7 +173,7 @@ impl Reception {
         self.rooms.iter().position(|room| room.is_none())
     }
 
-    // Has the one that has been there for longest without a login leave, if that is a second.
+    // Closes the connection that has been present for longest without a login, if this is at least a second.
     fn make_room(&mut self, now_ms: u64) -> bool {
         let mut oldest: Option<(usize, u64)> = None;
         for (place, room) in self.rooms.iter().enumerate() {
@@ -209,7 +214,7 @@ impl Reception {
         }
     }
 
-    /// Cuts off those whose login is right: it is to a session that is not served any more.
+    /// Disconnects clients with valid logins, because their session is no longer served.
     pub fn cut_off_ready(&mut self) {
         for place in 0..self.end {
             if let Some(Some(visitor)) = self.rooms.get(place)
@@ -237,24 +242,24 @@ impl Reception {
         Some(visitor)
     }
 
-    // Closes a connection, which has ended so.
+    // Closes a connection, which has ended in this way.
     fn end(&mut self, place: usize, departure: Departure) {
         if let Some(visitor) = self.take(place) {
             self.write_down(&visitor.link.who(), departure);
         }
     }
 
-    /// Takes note of how a connection has ended, for its line.
+    /// Records how a connection has ended, for its line.
     pub fn write_down(&mut self, who: &Who, departure: Departure) {
         self.happens(who, Happening::Ended(departure));
     }
 
-    /// Takes note of what has become of a connection.
+    /// Records an event of a connection.
     pub fn happens(&mut self, who: &Who, happening: Happening) {
         let _ = self.happened.push((*who, happening));
     }
 
-    /// Takes note of a connection whose client is told no more: it is closed once the client closes it.
+    /// Takes over a connection whose client receives nothing more. It is closed when the client closes it.
     pub fn see_off(
         &mut self,
         link: Link,
@@ -279,7 +284,7 @@ impl Reception {
         self.put(place, visitor);
     }
 
-    /// Hears what everyone has said, and closes the connections that are over. These users may log in.
+    /// Handles the bytes of all connections, and closes those that have ended. These users may log in.
     pub fn turn(&mut self, users: &[Login], now_ms: u64, buffer: &mut [u8]) {
         let served = Served {
             users,
@@ -312,7 +317,7 @@ impl Reception {
         }
     }
 
-    /// Takes out the one of those whose login is right that came first, of an address that has fewer than so many clients.
+    /// Removes and returns the earliest connection with a valid login, from an address with fewer than `most` clients.
     pub fn next_arrival(&mut self, seated: &Seated, most: usize) -> Option<Arrival> {
         let mut first: Option<(usize, u64)> = None;
         for (place, room) in self.rooms.iter().take(self.end).enumerate() {
@@ -334,7 +339,7 @@ impl Reception {
         })
     }
 
-    /// What has become of whom, once for each happening.
+    /// Returns the next event and its client. Each event is returned once.
     pub fn next_happening(&mut self) -> Option<(Who, Happening)> {
         if self.happened.is_empty() {
             return None;

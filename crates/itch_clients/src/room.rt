@@ -1,14 +1,14 @@
-//! How many bytes the snapshots in use may have: those that some client is still sent.
+//! The limit of the snapshots in use: those that are still being sent to a client.
 ghost use Rattle.std.specs.Prelude.{◌≡◌, max};
 ghost use Rattle.itch_clients.specs.Rooms.{limit_of};
 
-/// The limit, if none is given and no snapshot is long: 256 MiB.
+/// The default limit in bytes if no snapshot is long: 256 MiB.
 const USUAL: u64 = 1 << 28;
 
-/// If no limit is given, so many of the longest snapshot fit into it.
+/// The default limit is at least this many times the longest snapshot.
 const TIMES: u64 = 4;
 
-/// The limit that was given, if one was, and the length of the longest snapshot so far.
+/// The given limit, if there is one, and the length of the longest snapshot so far.
 #[derive(Clone, Copy, Debug)]
 pub struct SnapshotRoom {
     named: Option<u64>,
@@ -16,7 +16,7 @@ pub struct SnapshotRoom {
 }
 
 impl SnapshotRoom {
-    /// There was no snapshot yet.
+    /// Creates one before the first snapshot.
     pub fn new(named: Option<u64>) -> SnapshotRoom
         ensures named { result.named ≡ named }
         ensures longest { result.longest ≡ 0 }
@@ -24,7 +24,7 @@ impl SnapshotRoom {
         SnapshotRoom { named, longest: 0 }
     }
 
-    /// How many bytes the snapshots in use may have together, where the next one has at most `most`.
+    /// Returns the limit in bytes of all snapshots in use, if the next one has at most `most` bytes.
     pub fn limit(&mut self, most: u64) -> u64
         ensures answer { result ≡ limit_of self.old.named (max self.old.longest most) }
         ensures longest { self.new.longest ≡ max self.old.longest most }
@@ -35,7 +35,7 @@ impl SnapshotRoom {
     }
 }
 
-/// How many bytes the snapshots in use may have together: the limit that was given, or else 256 MiB, or four times the longest one if that is more.
+/// Returns the limit in bytes of all snapshots in use: the given one, or else 256 MiB, or four times the longest snapshot if that is more.
 pub fn limit_of(named: Option<u64>, longest: u64) -> u64
     ensures { result ≡ limit_of named longest }
 {

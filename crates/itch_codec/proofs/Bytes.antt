@@ -1,4 +1,4 @@
--- Bytes, and the numbers that they spell.
+-- Bytes, and the numbers that they encode.
 use Rattle.std.proofs.Common.{◌≡◌, ℕ, zero, suc, ◌+◌, ◌*◌, ◌<◌, ◌≤◌, ◌^◌, ◌/◌, List, [], ◌∷◌, length, take, drop, get_or, refl, sym, ap, ◌∙◌, arith}
 use Rattle.std.specs.Int.{byte_at, bytes_high_first}
 use Rattle.std.proofs.Math.Nat.{mod-lt}
@@ -44,7 +44,7 @@ number_bytes : (n x : ℕ) → AreBytes (bytes_high_first n x)
 number_bytes zero x = tt
 number_bytes (suc n) x = (byte_small n x, number_bytes n x)
 
--- bytes that spell one number are the same
+-- bytes that encode the same number are equal
 same_number : (n : ℕ) (xs ys : List ℕ) → length xs ≡ n → length ys ≡ n → AreBytes xs → AreBytes ys → big_number n xs ≡ big_number n ys → xs ≡ ys
 same_number zero [] [] _ _ _ _ _ = refl
 same_number zero (x ∷ xs) ys lx _ _ _ _ = absurd (omega arith)
@@ -61,7 +61,7 @@ same_number (suc n) (x ∷ xs) (y ∷ ys) lx ly bx by h =
     let rest = same_number n xs ys (omega arith) (omega arith) bx.1 by.1 same.1 in
     λ i. same.0 i ∷ rest i
 
--- the bytes of the number that bytes spell
+-- the bytes of the number that these bytes encode
 pub be-number : (width : ℕ) (bytes : List ℕ) → length bytes ≡ width → AreBytes bytes → be width (big_number width bytes) ≡ bytes
 unfolding be
 be-number width bytes len h =

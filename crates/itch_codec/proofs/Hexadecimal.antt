@@ -1,4 +1,4 @@
--- Bytes in hexadecimal digits, one after the other.
+-- Bytes in hexadecimal digits, one after another.
 use Rattle.std.proofs.Common.{◌≡◌, ℕ, ◌+◌, ◌<◌, ◌/◌, ◌%◌, List, [], ◌∷◌, ◌++◌, length, take, get_or, refl, ap, ◌∙◌}
 use Rattle.std.proofs.Math.Numerals.{add-one}
 use Rattle.std.proofs.Math.Seq.{take-suc}
@@ -17,7 +17,7 @@ pub hex-none : hex [] ≡ []
 unfolding hex
 hex-none = refl
 
--- one byte more
+-- one more byte
 pub hex-take : (bytes : List ℕ) (i : ℕ) → i < length bytes
     → hex (take (i + 1) bytes) ≡ hex (take i bytes) ++ (hex_digit (get_or bytes i 0 / 16) ∷ hex_digit (get_or bytes i 0 % 16) ∷ [])
 hex-take bytes i h =

@@ -1,4 +1,4 @@
--- Fields that stand one after the other: what stands in their joined bytes, and that those are the payload.
+-- Fields one after another: their values in the joined bytes, and the payload as these bytes.
 use Rattle.std.proofs.Common.{◌≡◌, ℕ, ◌+◌, ◌-◌, ◌<◌, ◌≤◌, ◌^◌, ◌==◌, ◌&&◌, Bool, true, false, not, List, [], ◌∷◌, ◌++◌, length, drop, refl, sym, ap, ◌∙◌, subst, arith}
 use Rattle.std.proofs.lemmas.Bool.{and_parts}
 use Rattle.std.proofs.lemmas.Bool.Decides.{nat_tests}
@@ -22,14 +22,14 @@ FitsAt Codes width (Bytes bytes) = IsBytes width bytes
 FitsAt Digits width (Number number) = (1 ≤ number) × (number ≤ 10 ^ 19)
 FitsAt class width value = ⊥
 
--- how wide a field of this class is
+-- the width of a field of this class
 abbrev pub is_wide : Class → ℕ → Bool
 is_wide OneSide width = width == 1
 is_wide Code width = width == 1
 is_wide Digits width = width == 20
 is_wide class width = true
 
--- the fields stand one after the other, from one place to another
+-- the fields follow one another without gaps, from one offset to another
 abbrev pub is_gapless : ℕ → ℕ → List Column → Bool
 is_gapless at end [] = at == end
 is_gapless at end (c ∷ cs) = (at == c.offset) && (is_wide c.class c.width && is_gapless (at + c.width) end cs)
@@ -85,12 +85,12 @@ bytes_len Codes width (Bytes bytes) w h = h.0
 bytes_len Digits width (Number n) w h = let e = same width 20 w in length-dec20 n (omega arith) ∙ sym e
 bytes_len class width value w h = absurd h
 
--- a number stands in its bytes
+-- a number is in its bytes
 number_mid : (offset width n : ℕ) (front rest : List ℕ) → n < 256 ^ width → length front ≡ offset → n ≡ number_at offset width (front ++ (be width n ++ rest))
 number_mid offset width n front rest h f =
     sym (number-slice offset width _ ∙ ap (big_number width) (slice_mid offset width front (be width n) rest f (length-be width n)) ∙ number-be width n h)
 
--- what fits stands in its bytes
+-- a value that fits is in its bytes
 has_mid : (class : Class) (offset width : ℕ) (value : Value) (front rest : List ℕ) → is_wide class width ≡ true → FitsAt class width value → length front ≡ offset
     → HasAt class offset width (front ++ (bytes_at class width value ++ rest)) value
 has_mid Integer offset width (Number n) front rest w h f = number_mid offset width n front rest h f
@@ -111,7 +111,7 @@ FitAll [] [] = Unit {0}
 FitAll (column ∷ columns) (value ∷ values) = FitsAt column.class column.width value × FitAll columns values
 FitAll columns values = ⊥
 
--- fields that fit stand in their joined bytes
+-- values that fit are in their joined bytes
 pub joined_has : (at end : ℕ) (cs : List Column) (vs : List Value) (front payload : List ℕ) → is_gapless at end cs ≡ true → FitAll cs vs → length front ≡ at
     → payload ≡ front ++ joined cs vs → HasAll payload cs vs
 unfolding joined
@@ -138,7 +138,7 @@ joined_len at end (c ∷ cs) (v ∷ vs) g h =
     let rest = joined_len (at + c.width) end cs vs next.rest h.1 in
     let whole = length-append (bytes_at c.class c.width v) (joined cs vs) in omega arith
 
--- which value a payload's bytes are
+-- the value in a payload's bytes
 slice_one : (offset width : ℕ) (payload : List ℕ) → width ≡ 1 → offset < length payload → slice_at offset width payload ≡ byte_at offset payload ∷ []
 unfolding slice_at
 slice_one offset width payload w h =
@@ -156,7 +156,7 @@ has_no_digits (c ∷ cs) = not (is_digits c.class) && has_no_digits cs
 no_digits : (c : Column) (cs : List Column) → has_no_digits (c ∷ cs) ≡ true → (not (is_digits c.class) ≡ true) × (has_no_digits cs ≡ true)
 no_digits c cs h = and_parts _ _ h
 
--- a number's bytes are those of its field
+-- the bytes of a number are those of its field
 number_bytes : (offset width n : ℕ) (payload : List ℕ) → AreBytes payload → offset + width ≤ length payload → n ≡ number_at offset width payload
     → be width n ≡ slice_at offset width payload
 number_bytes offset width n payload b l h =
@@ -182,7 +182,7 @@ drop_slice offset width payload =
     let size : (offset + width) - offset ≡ width = omega arith in
     sym (take-append-drop width (drop offset payload)) ∙ rw (size, drop-drop width offset payload) refl
 
--- a payload that has all its fields is their joined bytes
+-- a payload with all these fields is their joined bytes
 pub has_joined : (at : ℕ) (cs : List Column) (vs : List Value) (payload : List ℕ) → is_gapless at (length payload) cs ≡ true → has_no_digits cs ≡ true → AreBytes payload
     → HasAll payload cs vs → drop at payload ≡ joined cs vs
 unfolding joined
@@ -201,14 +201,14 @@ has_joined at (c ∷ cs) (v ∷ vs) payload g d b h =
     ∙ ap (λ xs. xs ++ drop (at + c.width) payload) (sym first)
     ∙ ap (λ xs. bytes_at c.class c.width v ++ xs) rest
 
--- a number that bytes hold is below the greatest of its width
+-- a number in bytes is below the limit of its width
 number_fits : (offset width n : ℕ) (payload : List ℕ) → AreBytes payload → n ≡ number_at offset width payload → n < 256 ^ width
 number_fits offset width n payload b h =
     let e = h ∙ number-slice offset width payload in
     let small = big_from-lt 0 width (slice_at offset width payload) (each_byte _ (slice_bytes offset width payload b)) in
     subst (λ k. k < 256 ^ width) (sym e) small
 
--- what a field of bytes holds fits
+-- the value of a field of bytes fits
 has_fits : (class : Class) (offset width : ℕ) (payload : List ℕ) (value : Value) → is_wide class width ≡ true → AreBytes payload
     → offset + width ≤ length payload → HasAt class offset width payload value → FitsAt class width value
 has_fits Integer offset width payload (Number n) w b l h = number_fits offset width n payload b h

@@ -1,15 +1,15 @@
--- The digits of a number after a first 1: the last digits of another one, with their zeros.
+-- The digits of a number after a first 1: the last digits of another number, with their zeros.
 use Rattle.std.proofs.Common.{◌≡◌, ℕ, zero, suc, ◌+◌, ◌/◌, ◌%◌, ◌^◌, ◌<◌, ◌≤◌, List, [], ◌∷◌, ◌++◌, length, drop, decimal, ap, ◌∙◌, arith}
 use Rattle.std.proofs.lemmas.Fmt.{decimal_digit, decimal_step}
 use Rattle.itch_codec.specs.Clock.{two_digits, nine_digits}
 use Rattle.itch_codec.specs.Lines.{four_digits}
 
--- the last digits of a number, as many as this
+-- this many of the last digits of a number
 abbrev last : ℕ → ℕ → List ℕ
 last zero n = []
 last (suc k) n = last k (n / 10) ++ (48 + n % 10) ∷ []
 
--- one digit more
+-- one more digit
 one_more : (number front digit : ℕ) (digits : List ℕ) → 10 ≤ number → number < 2 ^ 64 → number / 10 ≡ front → number % 10 ≡ digit → decimal front ≡ digits
     → decimal number ≡ digits ++ (48 + digit) ∷ []
 one_more number front digit digits some fits front_is digit_is are =

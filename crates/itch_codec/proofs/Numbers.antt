@@ -1,4 +1,4 @@
--- Numbers in twenty digits: what is written spells the number, and reading finds what is spelled.
+-- Numbers in twenty digits: the written field encodes the number, and reading returns the encoded number.
 use Rattle.std.proofs.Common.{◌≡◌, ℕ, zero, suc, ◌+◌, ◌-◌, ◌*◌, ◌<◌, ◌≤◌, ◌^◌, ◌&&◌, Bool, true, false, cond, leb, List, [], ◌∷◌, ◌++◌, length, take, drop, replicate, get_or, Some, refl, sym, ap, ◌∙◌, arith}
 use Rattle.std.specs.Prelude.{decimal}
 use Rattle.std.specs.Char.{is_ascii_digit, digit_value}
@@ -18,7 +18,7 @@ use Rattle.itch_codec.specs.Numbers.{dec20, SpellsNumber, IsNumber, read20, is_s
 pub numerals : IsNumeralModel (λ ds. all_ascii_digits ds ≡ true) (digits_value 10)
 numerals = numerals_by_value _ tells_all_ascii_digits
 
--- digits written to the end of twenty spaces
+-- digits written at the end of twenty spaces
 pub written_at : (n start : ℕ) (field : List ℕ) → start + length (decimal n) ≡ 20 → drop start field ≡ decimal n ++ []
     → take start field ≡ take start (replicate 20 32) → field ≡ dec20 n
 unfolding dec20
@@ -38,7 +38,7 @@ length-dec20 n h =
     length-append (replicate (20 - length (decimal n)) 32) (decimal n)
     ∙ ap (λ k. k + length (decimal n)) (length-replicate (20 - length (decimal n)) 32) ∙ omega arith
 
--- the value of digits as it is read
+-- the value of digits during reading
 pub digit_low : (ds : List ℕ) (i : ℕ) → all_ascii_digits ds ≡ true → i < length ds → 48 ≤ get_or ds i 0
 digit_low ds i all h = (digit_at ds i (numerals.to ds all) h).0
 
@@ -59,7 +59,7 @@ value_small ds i all short =
 
 pub ruleset counting = (digit_low, value_more, value_small)
 
--- tests of the front of a list
+-- conditions on the front of a list
 front_step : (p : ℕ → Bool) (x : ℕ) (xs : List ℕ) (b : Bool) → p x ≡ b → list_all p xs ≡ true → list_all p (cond b (x ∷ xs) []) ≡ true
 front_step p x xs true e h = rw (e, h) refl
 front_step p x xs false e h = refl
@@ -95,7 +95,7 @@ no_digit_in_front : (right : List ℕ) → list_all is_space right ≡ true → 
 no_digit_in_front [] h = refl
 no_digit_in_front (b ∷ right) h = rw (space_no_digit b (and_parts _ _ h).0) refl
 
--- what the parts of a field say of its number
+-- the parts of a field and its number
 pub record ArePartsOf (n : ℕ) (digits right : List ℕ) : Type 0 where
   pub some_digit : 0 < length digits
   pub blank : list_all is_space right ≡ true
@@ -128,7 +128,7 @@ parts_number n (d ∷ ds) right h =
     let fits : leb (digits_value 10 (d ∷ ds)) (10 ^ 19) ≡ true = grind (arith, nat_tests) in
     rw (h.blank, fits) (ap Some (sym value))
 
--- what is read is spelled so
+-- a field encodes the number read from it
 pub read-spells : (field : List ℕ) (n : ℕ) → read20 field ≡ Some n → SpellsNumber field n
 unfolding read20 after_spaces digits_in_front after_digits
 read-spells field n h =
@@ -176,7 +176,7 @@ number-read {field} {left} {digits} {right} {n} h =
     rw (text, digits_of digits right h.all_digits h.spaces_after, rest_of digits right h.all_digits h.spaces_after)
     (parts_number n digits right (record { some_digit = h.some_digit; blank = h.spaces_after; value = h.value; bounded = h.bounded }))
 
--- what is spelled is read so
+-- an encoded number is read back
 pub spells-read : (field : List ℕ) (n : ℕ) → SpellsNumber field n → read20 field ≡ Some n
 spells-read field n (left, digits, right, h) = number-read h
 
@@ -184,7 +184,7 @@ spaces_all : (n : ℕ) → list_all is_space (replicate n 32) ≡ true
 spaces_all zero = refl
 spaces_all (suc n) = spaces_all n
 
--- what is written spells the number
+-- the written field encodes the number
 pub dec20-spells : (n : ℕ) → n ≤ 10 ^ 19 → SpellsNumber (dec20 n) n
 unfolding dec20
 dec20-spells n h =
@@ -214,7 +214,7 @@ read-bounded field n h =
 
 pub ruleset reading = (read-spells, read-bounded)
 
--- a field spells at most one number
+-- a field encodes at most one number
 pub same_spelled : (field : List ℕ) (m n : ℕ) → SpellsNumber field m → SpellsNumber field n → m ≡ n
 same_spelled field m n h k = let one = sym (spells-read field m h) ∙ spells-read field n k in cc
 

@@ -1,4 +1,4 @@
--- What spells a message: each message has a spelling, and a payload spells at most one message.
+-- The encoding of messages: each message has an encoding, and a payload encodes at most one message.
 use Rattle.std.proofs.Common.{◌≡◌, ℕ, ◌<◌, ◌==◌, Bool, true, false, cond, List, [], ◌∷◌, length, map, Option, None, Some, Result, Ok, Err, refl, sym, ap, ◌∙◌, subst, arith}
 use Rattle.std.specs.Prelude.{IfOk}
 use Rattle.std.specs.List.{AllByRecursion}
@@ -17,7 +17,7 @@ use Rattle.itch_codec.proofs.Joined.{FitAll, is_gapless, gapless_le, has_no_digi
 abbrev values_at : Layout → List ℕ → List Value
 values_at layout payload = map (value_at payload) layout.columns
 
--- a row of the table: its type is its own, its fields fill the message, and a message made of such fields has this layout
+-- a row of the table: its type is unique, its fields fill the message, and a message with these values has this layout
 pub record IsRow (layout : Layout) : Type 0 where
   pub known : layout_of layout.kind ≡ Some layout
   pub gapless : is_gapless 1 layout.size layout.columns ≡ true
@@ -78,7 +78,7 @@ end_of_snapshot_row = record { known = refl; gapless = refl; short = omega arith
 rows : AllByRecursion IsRow table
 rows = (system_event_row, (stock_directory_row, (trading_action_row, (reg_sho_row, (operational_halt_row, (participant_position_row, (add_order_row, (attributed_add_order_row, (order_executed_row, (order_executed_with_price_row, (order_cancel_row, (order_delete_row, (order_replace_row, (trade_row, (cross_trade_row, (broken_trade_row, (end_of_snapshot_row, tt)))))))))))))))))
 
--- what is found in the table is a row of it, with the type that was sought
+-- a layout found in the table is a row, with the requested type
 row_in : (layouts : List Layout) (kind : ℕ) (layout : Layout) → AllByRecursion IsRow layouts → layout_in layouts kind ≡ Some layout
     → IsRow layout × (layout.kind ≡ kind)
 row_in [] kind layout each h = absurd (cc)
@@ -97,7 +97,7 @@ row_in (l ∷ ls) kind layout each h = row_at l ls kind layout each _ refl h (ro
 row_of : (kind : ℕ) (layout : Layout) → layout_of kind ≡ Some layout → IsRow layout × (layout.kind ≡ kind)
 row_of kind layout h = row_in table kind layout rows h
 
--- a message's shape is a row of the table, from whose values the message is made again; or the message is the payload
+-- the shape of a message is a row of the table, and its values give the message again; or the message is an undecoded payload
 abbrev Makes : Shape → Message → Type 0
 Makes (Fields layout values) m = IsRow layout × (made layout.kind values ≡ m)
 Makes (Payload bytes) m = is.Other bytes ≡ m
@@ -122,7 +122,7 @@ makes (is.BrokenTrade m) = (broken_trade_row, refl)
 makes (is.End next) = (end_of_snapshot_row, refl)
 makes (is.Other bytes) = refl
 
--- the message off the payload's fields
+-- the message with the values of the payload's fields
 laid_message : (layout : Layout) (values : List Value) (payload : List ℕ) → IsRow layout → IsLaid layout values payload
     → made layout.kind values ≡ message_of payload
 unfolding message_of
@@ -139,14 +139,14 @@ shape_message : (s : Shape) (m : Message) (payload : List ℕ) → Makes s m →
 shape_message (Fields layout values) m payload from h = sym from.1 ∙ laid_message layout values payload from.0 h
 shape_message (Payload bytes) m payload from h = sym from ∙ ap is.Other (sym h.whole) ∙ kept_message payload h.undecoded
 
--- a payload spells the message that is read off it, and no other
+-- a payload encodes only the message that is read from it
 pub message_of-Spells : (m : Message) (payload : List ℕ) → Spells m payload → m ≡ message_of payload
 message_of-Spells m payload h = shape_message (shape m) m payload (makes m) h
 
 pub same_message : (m n : Message) (payload : List ℕ) → Spells m payload → Spells n payload → m ≡ n
 same_message m n payload h k = message_of-Spells m payload h ∙ sym (message_of-Spells n payload k)
 
--- what is spelled has no fault
+-- the payload of a message has no fault
 laid_fine : (layout : Layout) (payload : List ℕ) → length payload ≡ layout.size → first_fault payload layout.columns ≡ None → laid_fault layout payload ≡ None
 laid_fine layout payload size none = let test : (length payload == layout.size) ≡ true = grind (arith, nat_tests) in rw test none
 
@@ -164,7 +164,7 @@ shape_fault (Payload bytes) m (kind ∷ rest) from h = ap (λ found. fault_by_la
 pub fault-Spells : (m : Message) (payload : List ℕ) → Spells m payload → fault payload ≡ None
 fault-Spells m payload h = shape_fault (shape m) m payload (makes m) h
 
--- a payload without a fault is spelled
+-- a payload without a fault is the payload of a message
 laid_sized : (layout : Layout) (payload : List ℕ) (b : Bool) → (length payload == layout.size) ≡ b → laid_fault layout payload ≡ None
     → (length payload ≡ layout.size) × (first_fault payload layout.columns ≡ None)
 laid_sized layout payload true e h = let size : length payload ≡ layout.size = grind (arith, nat_tests) in (size, rw e at h)
@@ -185,7 +185,7 @@ unfolding message_of
 Spells-message_of [] h = absurd (cc)
 Spells-message_of (kind ∷ rest) h = found_spells kind rest (layout_of kind) refl h
 
--- the fields of a message fit their columns, and the other way round
+-- the fields of a message fit their columns, and conversely
 abbrev ShapeFits : Shape → Type 0
 ShapeFits (Fields layout values) = FitAll layout.columns values
 ShapeFits (Payload bytes) = IsOther bytes
@@ -230,7 +230,7 @@ fitting (is.BrokenTrade m) h = assumption h
 fitting (is.End next) h = assumption h
 fitting (is.Other bytes) h = h
 
--- a message is spelled by its bytes
+-- the bytes of a message encode it
 shape_spelled : (s : Shape) (m : Message) → Makes s m → ShapeFits s → HasShape s (bytes_of_shape s)
 shape_spelled (Fields layout values) m from h = record {
   first = refl;
@@ -243,7 +243,7 @@ pub Spells-spelling : (m : Message) → IsMessage m → Spells m (spelling m)
 unfolding spelling
 Spells-spelling m h = shape_spelled (shape m) m (makes m) (fits m h)
 
--- a spelling is not empty, and where the message is not kept as it is it is short
+-- the bytes of a message are short, unless it is undecoded
 abbrev ShortShape : Shape → Type 0
 ShortShape (Fields layout values) = length (bytes_of_shape (Fields layout values)) < 65535
 ShortShape (Payload bytes) = Unit {0}
@@ -266,12 +266,12 @@ not_kept : (s : Shape) → (IsWhole s → ⊥) → ShortShape s → length (byte
 not_kept (Fields layout values) n h = h
 not_kept (Payload bytes) n h = absurd (n tt)
 
--- a spelling is not empty
+-- the bytes of a message are not empty
 pub spelling_some : (m : Message) → IsMessage m → 0 < length (spelling m)
 unfolding spelling
 spelling_some m h = shape_some (shape m) m (makes m) (fits m h)
 
--- nor is that of a message that is decoded as long as a block can be
+-- the bytes of a decoded message are fewer than a block can hold
 pub spelling_small : (m : Message) → IsMessage m → (IsKeptWhole m → ⊥) → length (spelling m) < 65535
 unfolding spelling
 spelling_small m h n = not_kept (shape m) n (shape_short (shape m) m (makes m) (fits m h))
@@ -279,11 +279,11 @@ spelling_small m h n = not_kept (shape m) n (shape_short (shape m) m (makes m) (
 pub spelling_short : (m : Message) → IsMessage m → (IsKeptWhole m → ⊥) → length (spelling m) < 65536
 spelling_short m h n = let small = spelling_small m h n in omega arith
 
--- the spelling of a message that is decoded fits a block
+-- the bytes of a decoded message fit into a block
 pub spelling_size : (m : Message) → IsMessage m → (IsKeptWhole m → ⊥) → (0 < length (spelling m)) × (length (spelling m) < 65536)
 spelling_size m h n = (spelling_some m h, spelling_short m h n)
 
--- each message but End has one spelling
+-- each message except End of Snapshot has one encoding
 abbrev HasOneSpelling : Shape → Type 0
 HasOneSpelling (Fields layout values) = has_no_digits layout.columns ≡ true
 HasOneSpelling (Payload bytes) = Unit {0}
@@ -321,7 +321,7 @@ pub spelling-Spells : (m : Message) (payload : List ℕ) → (IsEnd m → ⊥) �
 unfolding spelling
 spelling-Spells m payload no_end b h = shape_bytes (shape m) m payload (makes m) (one_spelling m no_end) b h
 
--- the fields of a message that bytes spell fit
+-- the fields of a message in bytes fit
 shape_fits : (s : Shape) (m : Message) (payload : List ℕ) → Makes s m → AreBytes payload → HasShape s payload → ShapeFits s
 shape_fits (Fields layout values) m payload from b h =
     let g = subst (λ end. is_gapless 1 end layout.columns ≡ true) (sym h.size) from.0.gapless in
@@ -354,7 +354,7 @@ pub read_fits : (payload : List ℕ) (found : Result Message CodecFault) → Are
 read_fits payload (Ok m) b h = IsMessage-Spells m payload b h.0
 read_fits payload (Err e) b h = tt
 
--- there and back
+-- encoding and then decoding returns the message
 pub message_of-spelling : (m : Message) → IsMessage m → message_of (spelling m) ≡ m
 message_of-spelling m h = sym (message_of-Spells m (spelling m) (Spells-spelling m h))
 

@@ -1,4 +1,4 @@
--- Over a layout's columns: what fields hold, what their faults are, and how their bytes are joined.
+-- The columns of a layout: the values of their fields, the faults, and the joined bytes.
 use Rattle.std.proofs.Common.{◌≡◌, ℕ, zero, suc, ◌+◌, ◌≤◌, ◌||◌, Bool, true, false, cond, eqb, List, [], ◌∷◌, map, Option, None, Some, refl, sym, ap, ◌∙◌, subst, arith}
 use Rattle.std.specs.Prelude.{unwrap_or, option_map}
 use Rattle.std.proofs.lemmas.Bool.Decides.{nat_tests}
@@ -16,7 +16,7 @@ use Rattle.itch_codec.proofs.Numbers.{read-spells, spells-read}
 abbrev side_fault_of : ℕ → Bool → Bool → Option CodecFault
 side_fault_of offset buy sell = cond (buy || sell) None (Some (BadSide offset))
 
--- a side's byte decides the side, and is no fault
+-- the byte of a side determines the side, and has no fault
 side_there : (byte : ℕ) (side : Side) → byte ≡ side_byte side → side ≡ side_of byte
 side_there byte Buy h = rw h refl
 side_there byte Sell h = rw h refl
@@ -38,7 +38,7 @@ place_none bad (Some k) h = absurd (cc)
 pub text_printable : {F : Type 0} (bad : ℕ → F) (offset : ℕ) (text : List ℕ) → text_fault bad offset text ≡ None → IsPrintable text
 text_printable bad offset text h = none-printable text (place_none _ _ h)
 
--- a number without a fault is there, and is 1 or more
+-- a number without a fault exists, and is at least 1
 pub positive_some : {F : Type 0} (bad : F) (found : Option ℕ) → positive_fault bad found ≡ None → (n : ℕ) × (found ≡ Some n) × (1 ≤ n)
 positive_some bad None h = absurd (cc)
 positive_some bad (Some zero) h = absurd (cc)
@@ -53,7 +53,7 @@ pub positive_none : {F : Type 0} (bad : F) (n : ℕ) → 1 ≤ n → positive_fa
 positive_none bad zero h = absurd (omega arith)
 positive_none bad (suc n) h = let above : eqb (suc n) 0 ≡ false = grind (arith, nat_tests) in rw above refl
 
--- a field holds one value
+-- a field has one value
 has_value : (class : Class) (offset width : ℕ) (payload : List ℕ) (value : Value) → HasAt class offset width payload value
     → value ≡ value_by class offset width payload
 has_value Integer offset width payload (Number n) h = ap Number h
@@ -66,7 +66,7 @@ has_value Digits offset width payload (Number n) h =
     ap Number (sym (ap (λ read. unwrap_or read 0) (spells-read (slice_at offset width payload) n h.0)))
 has_value class offset width payload value h = absurd h
 
--- a field that holds a value has no fault
+-- a field with a value has no fault
 has_no_fault : (class : Class) (offset width : ℕ) (payload : List ℕ) (value : Value) → HasAt class offset width payload value
     → fault_by class offset width payload ≡ None
 has_no_fault Text offset width payload (Bytes bytes) h =
@@ -80,7 +80,7 @@ has_no_fault Code offset width payload value h = refl
 has_no_fault Codes offset width payload value h = refl
 has_no_fault class offset width payload value h = absurd h
 
--- a field without a fault holds a value
+-- a field without a fault has a value
 no_fault_has : (class : Class) (offset width : ℕ) (payload : List ℕ) → fault_by class offset width payload ≡ None
     → HasAt class offset width payload (value_by class offset width payload)
 no_fault_has Integer offset width payload h = refl

@@ -1,4 +1,4 @@
--- Printable bytes, and their first byte that is not.
+-- Printable bytes, and the first byte that is not printable.
 use Rattle.std.proofs.Common.{◌≡◌, ℕ, zero, suc, ◌+◌, ◌-◌, ◌<◌, ◌≤◌, Bool, true, false, not, ltb, List, [], ◌∷◌, ◌++◌, length, take, drop, replicate, get_or, slice_index, None, refl, sym, ap, ◌∙◌, arith}
 use Rattle.std.specs.List.{prefix_len, list_all}
 use Rattle.std.proofs.Math.Numerals.{one-add}
@@ -38,11 +38,11 @@ none_len bytes true e h = absurd (let k = rw e at h in cc)
 none_len bytes false e h =
     let le = prefix_len-le-length (λ byte. not (is_unprintable byte)) bytes in grind (arith, nat_tests)
 
--- where no byte is found that is not printable, all are
+-- if no unprintable byte is found, all bytes are printable
 pub none-printable : (bytes : List ℕ) → first_unprintable bytes ≡ None → IsPrintable bytes
 none-printable bytes h = len-printable bytes (none_len bytes _ refl h)
 
--- in printable bytes none is found that is not
+-- no unprintable byte is found in printable bytes
 pub printable-none : (bytes : List ℕ) → IsPrintable bytes → first_unprintable bytes ≡ None
 unfolding first_unprintable
 printable-none bytes h =
@@ -69,7 +69,7 @@ pub printable-all : (bytes : List ℕ) → IsPrintable bytes → all_printable b
 printable-all [] h = refl
 printable-all (byte ∷ bytes) h = rw (printable_byte byte h.0, printable-all bytes h.1) refl
 
--- what stands after the text is spaces
+-- all bytes after the text are spaces
 pub text-whole : (field : List ℕ) (len : ℕ) → len ≤ length field → ((k : ℕ) → len ≤ k → k < length field → slice_index field k ≡ 32)
     → field ≡ padded_to (length field) (take len field)
 text-whole field len within spaces =

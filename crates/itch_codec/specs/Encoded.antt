@@ -1,4 +1,4 @@
--- The bytes of an encoded message: those that were built, or the payload that was kept.
+-- The bytes of an encoded message: bytes that were built, or the payload of an undecoded message.
 use Rattle.std.specs.Prelude.{ℕ, List}
 use Rattle.itch_codec.specs.declared.encoded.Form.{Form}
 use Rattle.itch_codec.specs.declared.encoded.Form.TheVariants.{Built, Kept}

@@ -1,4 +1,4 @@
--- The fields of a message: what a column of the layout holds, how it is spelled, and its fault.
+-- The fields of a message: the values of a column of the layout, their bytes, and their faults.
 use Rattle.std.specs.Prelude.{◌≡◌, ℕ, ◌+◌, ◌<◌, ◌≤◌, ◌==◌, ◌||◌, List, [], ◌∷◌, ◌++◌, length, Option, Some, None, option_map, unwrap_or, Result, Ok, Err, if◌then◌else◌}
 use Rattle.std.specs.List.{AllByRecursion}
 use Rattle.itch_codec.specs.declared.orders.Side.{Side}
@@ -21,7 +21,7 @@ IsBytes width bytes = (length bytes ≡ width) × AreBytes bytes
 abbrev pub IsAlpha : ℕ → List ℕ → Type 0
 IsAlpha width bytes = (length bytes ≡ width) × IsPrintable bytes
 
--- what a field of a message holds
+-- the value of a field of a message
 pub data Value : Type 0 where
   Number : (number : ℕ) → Value
   Bytes : (bytes : List ℕ) → Value
@@ -61,7 +61,7 @@ bytes_at class width (Number number) = be width number
 bytes_at class width (Bytes bytes) = bytes
 bytes_at class width (TheSide side) = side_byte side ∷ []
 
--- the fields' bytes, one after the other
+-- the bytes of the fields, one field after another
 unfoldable pub joined : List Column → List Value → List ℕ
 joined [] values = []
 joined (column ∷ columns) [] = []
@@ -71,7 +71,7 @@ joined (column ∷ columns) (value ∷ values) = bytes_at column.class column.wi
 abbrev pub side_of : ℕ → Side
 side_of byte = if byte == 66 then Buy else Sell
 
--- the value in a field, if it has no fault
+-- the value of a field, if it has no fault
 abbrev pub value_by : Class → ℕ → ℕ → List ℕ → Value
 value_by Integer offset width payload = Number (number_at offset width payload)
 value_by Price offset width payload = Number (number_at offset width payload)
@@ -81,11 +81,11 @@ value_by Code offset width payload = Number (byte_at offset payload)
 value_by Codes offset width payload = Bytes (slice_at offset width payload)
 value_by Digits offset width payload = Number (unwrap_or (read20 (slice_at offset width payload)) 0)
 
--- the value in a column's field, if it has no fault
+-- the value of a column's field, if it has no fault
 abbrev pub value_at : List ℕ → Column → Value
 value_at payload column = value_by column.class column.offset column.width payload
 
--- a text that is not printable has the fault of its first such byte
+-- the fault of a text that is not printable, at its first unprintable byte
 abbrev pub text_fault : {F : Type 0} → (ℕ → F) → ℕ → List ℕ → Option F
 text_fault bad offset text = option_map (λ place. bad (offset + place)) (first_unprintable text)
 
@@ -93,11 +93,11 @@ text_fault bad offset text = option_map (λ place. bad (offset + place)) (first_
 abbrev pub side_fault : ℕ → List ℕ → Option CodecFault
 side_fault offset payload = if byte_at offset payload == 66 || byte_at offset payload == 83 then None else Some (BadSide offset)
 
--- no number, or the number 0, has this fault
+-- no number, and the number 0, have this fault
 abbrev pub positive_fault : {F : Type 0} → F → Option ℕ → Option F
 positive_fault bad number = if unwrap_or number 0 == 0 then Some bad else None
 
--- the fault of a field: a text that is not printable, no side, or no number from 1 on
+-- the fault of a field: a text that is not printable, a byte that is not a side, or digits that are not a number from 1 on
 abbrev pub fault_by : Class → ℕ → ℕ → List ℕ → Option CodecFault
 fault_by Text offset width payload = text_fault BadText offset (slice_at offset width payload)
 fault_by OneSide offset width payload = side_fault offset payload
@@ -108,7 +108,7 @@ fault_by class offset width payload = None
 abbrev pub field_fault : List ℕ → Column → Option CodecFault
 field_fault payload column = fault_by column.class column.offset column.width payload
 
--- the first fault of two
+-- the first of two faults
 abbrev pub first_of : {F : Type 0} → Option F → Option F → Option F
 first_of (Some fault) later = Some fault
 first_of None later = later
@@ -118,7 +118,7 @@ abbrev pub first_fault : List ℕ → List Column → Option CodecFault
 first_fault payload [] = None
 first_fault payload (column ∷ columns) = first_of (field_fault payload column) (first_fault payload columns)
 
--- what was read meets this condition, and there is no fault; or this is the fault
+-- the result meets this condition, and there is no fault; or the result is this fault
 abbrev pub Reads : {X F : Type 0} → (X → Type 0) → Option F → Result X F → Type 0
 Reads Is fault (Ok x) = Is x × (fault ≡ None)
 Reads Is fault (Err found) = fault ≡ Some found

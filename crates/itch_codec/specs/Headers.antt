@@ -1,4 +1,4 @@
--- What messages have in common: a type, a header with a time, and for some the order that they are about.
+-- The common parts of messages: a type, a header with a time, and for some the order that they are about.
 use Rattle.std.specs.Prelude.{ℕ, nat_lt, List, length, Option, None, Some, option_map, if◌then◌else◌}
 use Rattle.itch_codec.specs.declared.header.Header.{Header}
 use Rattle.itch_codec.specs.declared.message.Message.{Message}
@@ -27,7 +27,7 @@ header (is.BrokenTrade m) = Some m.header
 header (is.End next) = None
 header (is.Other bytes) = None
 
--- when a message was made, in nanoseconds since midnight, if it says so
+-- the timestamp of a message in nanoseconds since midnight, if it has one
 abbrev pub time_of : Message → Option ℕ
 time_of message = option_map (λ (h : Header). h.stamp) (header message)
 
@@ -35,7 +35,7 @@ time_of message = option_map (λ (h : Header). h.stamp) (header message)
 abbrev pub stamp_in : List ℕ → Option ℕ
 stamp_in payload = if nat_lt (length payload) 11 then None else Some (number_at 5 6 payload)
 
--- the live order that a message adds, changes or ends. A replace names its original order so, and a Trade names none
+-- the live order that a message adds, changes or ends. A replace refers to its original order, and a Trade to no order of the book
 abbrev pub reference_of : Message → Option ℕ
 reference_of (is.AddOrder m) = Some m.reference
 reference_of (is.AttributedAddOrder m) = Some m.order.reference
@@ -51,6 +51,6 @@ abbrev pub kind_of_shape : Shape → ℕ
 kind_of_shape (Fields layout values) = layout.kind
 kind_of_shape (Payload bytes) = byte_at 0 bytes
 
--- a message's type: the first byte of what spells it
+-- the message type: the first byte of its payload
 abbrev pub kind_of : Message → ℕ
 kind_of message = kind_of_shape (shape message)

@@ -1,4 +1,4 @@
--- The line of JSON that shows a message: an object with its number, its type and its fields in order (RFC 8259).
+-- The line of JSON for a message: an object with its number, its type and its fields in order (RFC 8259).
 use Rattle.std.specs.Prelude.{ℕ, ◌/◌, ◌%◌, ◌==◌, ◌||◌, List, [], ◌∷◌, ◌++◌, codes, decimal, if◌then◌else◌}
 use Rattle.std.specs.List.{flat_map}
 use Rattle.itch_codec.specs.Text.{before_spaces, is_unprintable}
@@ -13,7 +13,7 @@ use Rattle.itch_codec.specs.declared.names.Key.{Key}
 use Rattle.itch_codec.specs.declared.names.Key.TheVariants as is
 use Rattle.itch_codec.specs.declared.message.Message.{Message}
 
--- a byte in a string: after a reverse solidus if it is a quotation mark or one itself, and by its number if it is not printable
+-- a byte inside a string: with a backslash before it if it is a quotation mark or a backslash, and as its number if it is not printable
 abbrev pub escaped : ℕ → List ℕ
 escaped byte =
     if byte == 34 || byte == 92 then codes "\\" ++ byte ∷ [] else (
@@ -23,8 +23,8 @@ escaped byte =
 unfoldable pub quoted : List ℕ → List ℕ
 quoted bytes = codes "\"" ++ flat_map escaped bytes ++ codes "\""
 
--- the value of a field: numbers in decimal digits, and all else as strings: prices with four decimals, texts without the spaces at
--- their end, sides as they are spelled, and bytes of any kind
+-- the value of a field: numbers in decimal digits, and all other values as strings: prices with four decimals, texts without the spaces at
+-- their end, sides as their letters, and any other bytes
 abbrev pub json_by : Class → Value → List ℕ
 json_by Integer (Number number) = decimal number
 json_by Price (Number number) = codes "\"" ++ price_text number ++ codes "\""
@@ -39,7 +39,7 @@ json_by class value = []
 unfoldable pub member : Key → Class → Value → List ℕ
 member key class value = codes ",\"" ++ key_text key ++ codes "\":" ++ json_by class value
 
--- a timestamp has two members: under its key the time of the day, and the nanoseconds since midnight
+-- the two members of a timestamp: the time of day under its key, and the nanoseconds since midnight
 unfoldable pub times : Key → ℕ → List ℕ
 times key nanoseconds =
     codes ",\"" ++ key_text key ++ codes "\":\"" ++ clock nanoseconds ++ codes "\",\"ns\":" ++ decimal nanoseconds
@@ -48,7 +48,7 @@ times key nanoseconds =
 abbrev pub json_field : Key → Class → ℕ → Value → List ℕ
 json_field key class width value = if is_timestamp class width then times key (number_in value) else member key class value
 
--- an object after its number: the type and the fields are members
+-- the form of an object after its number: the type and the fields are members
 abbrev pub json_form : Form
 json_form = record { kind = λ kind. member is.Kind Code (Number kind); undecoded = []; field = json_field }
 

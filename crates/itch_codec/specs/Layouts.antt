@@ -1,7 +1,7 @@
 -- The layout of each message type, as data (TotalView-ITCH 5.0, "Message Formats").
 use Rattle.std.specs.Prelude.{◌≡◌, ℕ, ◌==◌, List, [], ◌∷◌, Option, None, Some, if◌then◌else◌}
 
--- what a field may hold: a number, a price, a text, a side, one byte or several of any kind, or a number in decimal digits
+-- the class of a field: a number, a price, a text, a side, one byte or several bytes of any value, or a number in decimal digits
 pub data Class : Type 0 where
   Integer : Class
   Price : Class
@@ -11,23 +11,23 @@ pub data Class : Type 0 where
   Codes : Class
   Digits : Class
 
--- a field: where it begins in the message, how many bytes it has, and what it may hold
+-- a field: its offset in the message, its number of bytes, and its class
 pub record Column : Type 0 where
   pub offset : ℕ
   pub width : ℕ
   pub class : Class
 
--- a message type: its first byte, how many bytes it has, and its fields in order
+-- a message type: its first byte, its number of bytes, and its fields in order
 pub record Layout : Type 0 where
   pub kind : ℕ
   pub size : ℕ
   pub columns : List Column
 
--- a column of this many bytes from this place on
+-- a column of this many bytes from this offset on
 abbrev pub column : ℕ → ℕ → Class → Column
 column offset width class = record { offset = offset; width = width; class = class }
 
--- stock locate, tracking number and timestamp come before the fields
+-- stock locate, tracking number and timestamp precede the fields
 abbrev pub with_header : List Column → List Column
 with_header columns = column 1 2 Integer ∷ column 3 2 Integer ∷ column 5 6 Integer ∷ columns
 

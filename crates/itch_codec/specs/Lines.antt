@@ -1,4 +1,4 @@
--- The line that shows a message: its number, the letter of its type, and its fields in order, separated by one space.
+-- The line of text for a message: its number, the letter of its type, and its fields in order, separated by single spaces.
 use Rattle.std.specs.Prelude.{ℕ, ◌+◌, ◌/◌, ◌%◌, nat_lt, List, [], ◌∷◌, ◌++◌, codes, decimal, if◌then◌else◌}
 use Rattle.itch_codec.specs.Text.{before_spaces}
 use Rattle.itch_codec.specs.Layouts.{Class, Integer, Price, Text, OneSide, Code, Codes, Digits}
@@ -18,13 +18,13 @@ price_text price = decimal (price / 10000) ++ 46 ∷ four_digits price
 abbrev pub hex_digit : ℕ → ℕ
 hex_digit n = if nat_lt n 10 then 48 + n else 87 + n
 
--- each byte in two hexadecimal digits
+-- two hexadecimal digits for each byte
 unfoldable pub hex : List ℕ → List ℕ
 hex [] = []
 hex (byte ∷ bytes) = hex_digit (byte / 16) ∷ hex_digit (byte % 16) ∷ hex bytes
 
--- how the value of a field is shown: numbers in decimal digits, prices with four decimals, texts in square brackets without the
--- spaces at their end, sides as they are spelled, and bytes of any kind in hexadecimal digits
+-- the text of a field's value: numbers in decimal digits, prices with four decimals, texts in square brackets without the spaces at their
+-- end, sides as their letters, and any other bytes in hexadecimal digits
 abbrev pub word_by : Class → Value → List ℕ
 word_by Integer (Number number) = decimal number
 word_by Price (Number number) = price_text number
@@ -39,7 +39,7 @@ word_by class value = []
 unfoldable pub word : Class → Value → List ℕ
 word class value = codes " " ++ word_by class value
 
--- a line: the type by its letter, and a space before each field
+-- the form of a line: the type as its letter, and a space before each field
 abbrev pub line_form : Form
 line_form = record { kind = λ kind. kind ∷ []; undecoded = codes "other"; field = λ key class width value. word class value }
 

@@ -1,4 +1,4 @@
--- What spells a message, what a payload's fault is, and which message a payload spells (TotalView-ITCH 5.0, "Message Formats").
+-- The bytes of a message, the fault of a payload, and the message of a payload (TotalView-ITCH 5.0, "Message Formats").
 use Rattle.std.specs.Prelude.{◌≡◌, ℕ, ◌==◌, List, [], ◌∷◌, map, length, Option, Some, None, if◌then◌else◌}
 use Rattle.itch_codec.specs.declared.fault.CodecFault.{CodecFault}
 use Rattle.itch_codec.specs.declared.fault.CodecFault.TheVariants.{Empty, WrongLength}
@@ -9,12 +9,12 @@ use Rattle.itch_codec.specs.Numbers.{byte_at}
 use Rattle.itch_codec.specs.Fields.{Value, Number, HasAll, joined, value_at, first_fault}
 use Rattle.itch_codec.specs.Values.{number, system_event_values, system_event_of, stock_directory_values, stock_directory_of, trading_action_values, trading_action_of, reg_sho_values, reg_sho_of, operational_halt_values, operational_halt_of, participant_position_values, participant_position_of, add_order_values, add_order_of, attributed_add_order_values, attributed_add_order_of, order_executed_values, order_executed_of, order_executed_with_price_values, order_executed_with_price_of, order_cancel_values, order_cancel_of, order_delete_values, order_delete_of, order_replace_values, order_replace_of, trade_values, trade_of, cross_trade_values, cross_trade_of, broken_trade_values, broken_trade_of}
 
--- how a message is spelled: by the fields of its layout, or by the whole payload
+-- the bytes of a message: the fields of its layout, or the complete payload of an undecoded message
 pub data Shape : Type 0 where
   Fields : (layout : Layout) (values : List Value) → Shape
   Payload : (bytes : List ℕ) → Shape
 
--- each message's layout, and the values of its fields
+-- the layout of each message, and the values of its fields
 abbrev pub shape : Message → Shape
 shape (is.SystemEvent m) = Fields system_event (system_event_values m)
 shape (is.StockDirectory m) = Fields stock_directory (stock_directory_values m)
@@ -46,12 +46,12 @@ pub record IsKept (bytes payload : List ℕ) : Type 0 where
   pub whole : payload ≡ bytes
   pub undecoded : IsUndecoded payload
 
--- the payload is spelled so
+-- the payload has this shape
 abbrev pub HasShape : Shape → List ℕ → Type 0
 HasShape (Fields layout values) payload = IsLaid layout values payload
 HasShape (Payload bytes) payload = IsKept bytes payload
 
--- the payload spells the message
+-- the payload encodes the message
 abbrev pub Spells : Message → List ℕ → Type 0
 Spells m payload = HasShape (shape m) payload
 
@@ -60,7 +60,7 @@ abbrev pub bytes_of_shape : Shape → List ℕ
 bytes_of_shape (Fields layout values) = layout.kind ∷ joined layout.columns values
 bytes_of_shape (Payload bytes) = bytes
 
--- the bytes that are written for a message: its first byte, and its fields one after the other
+-- the bytes that are written for a message: its first byte, and its fields one after another
 unfoldable pub spelling : Message → List ℕ
 spelling m = bytes_of_shape (shape m)
 
@@ -69,7 +69,7 @@ abbrev pub IsEnd : Message → Type 0
 IsEnd (is.End next) = Unit {0}
 IsEnd m = ⊥
 
--- the message is a payload that is not decoded
+-- the message is the payload of an undecoded type
 abbrev pub IsWhole : Shape → Type 0
 IsWhole (Payload bytes) = Unit {0}
 IsWhole (Fields layout values) = ⊥
@@ -77,7 +77,7 @@ IsWhole (Fields layout values) = ⊥
 abbrev pub IsKeptWhole : Message → Type 0
 IsKeptWhole m = IsWhole (shape m)
 
--- the fault of a payload of this layout: its length, or that of the first field that has one
+-- the fault of a payload of this layout: its length, or else the fault of the first field that has one
 abbrev pub laid_fault : Layout → List ℕ → Option CodecFault
 laid_fault layout payload =
     if length payload == layout.size
@@ -89,7 +89,7 @@ abbrev pub fault_by_layout : Option Layout → List ℕ → Option CodecFault
 fault_by_layout None payload = None
 fault_by_layout (Some layout) payload = laid_fault layout payload
 
--- why a payload spells no message, if it spells none
+-- the reason why a payload is not a valid message, if it is not one
 abbrev pub fault : List ℕ → Option CodecFault
 fault [] = Some Empty
 fault (kind ∷ rest) = fault_by_layout (layout_of kind) (kind ∷ rest)
@@ -120,6 +120,6 @@ abbrev pub message_by_layout : Option Layout → List ℕ → Message
 message_by_layout None payload = is.Other payload
 message_by_layout (Some layout) payload = made layout.kind (map (value_at payload) layout.columns)
 
--- the message that a payload without a fault spells
+-- the message of a payload without a fault
 unfoldable pub message_of : List ℕ → Message
 message_of payload = message_by_layout (layout_of (byte_at 0 payload)) payload

@@ -1,4 +1,4 @@
--- The line that shows a message with its codes as characters and its time as a time of the day. All else is as in Lines.
+-- The line of text for a message with its codes as characters and its timestamp as a time of day. The rest is as in Lines.
 use Rattle.std.specs.Prelude.{ℕ, ◌/◌, ◌%◌, ◌==◌, ◌||◌, List, [], ◌∷◌, ◌++◌, codes, decimal, if◌then◌else◌}
 use Rattle.std.specs.List.{flat_map}
 use Rattle.itch_codec.specs.Text.{is_unprintable}
@@ -10,7 +10,7 @@ use Rattle.itch_codec.specs.Clock.{clock, is_timestamp}
 use Rattle.itch_codec.specs.Shown.{Form, shown}
 use Rattle.itch_codec.specs.declared.message.Message.{Message}
 
--- a byte as a character: after a reverse solidus if it is a single quote or one itself, and by its number if it is not printable
+-- a byte as a character: with a backslash before it if it is a single quote or a backslash, and as its number if it is not printable
 abbrev pub character : ℕ → List ℕ
 character byte =
     if byte == 39 || byte == 92 then codes "\\" ++ byte ∷ [] else (
@@ -20,7 +20,7 @@ character byte =
 unfoldable pub characters : List ℕ → List ℕ
 characters bytes = codes " '" ++ flat_map character bytes ++ codes "'"
 
--- a space and a time of the day
+-- a space and a time of day
 unfoldable pub clock_word : ℕ → List ℕ
 clock_word nanoseconds = codes " " ++ clock nanoseconds
 
@@ -34,7 +34,7 @@ named_by class value = word class value
 abbrev pub named_field : Class → ℕ → Value → List ℕ
 named_field class width value = if is_timestamp class width then clock_word (number_in value) else named_by class value
 
--- a line with names: the type by its letter, and a space before each field
+-- the form of a line with names: the type as its letter, and a space before each field
 abbrev pub named_form : Form
 named_form = record { kind = λ kind. kind ∷ []; undecoded = codes "other"; field = λ key class width value. named_field class width value }
 

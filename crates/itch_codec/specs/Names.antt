@@ -1,5 +1,5 @@
--- The keys of an object that shows a message, and those of the fields of each message type, in the order of its layout
--- (TotalView-ITCH 5.0, "Message Formats").
+-- The keys of the JSON object for a message, and the keys of the fields of each message type, in the order of its layout (TotalView-ITCH 5.0,
+-- "Message Formats").
 use Rattle.std.specs.Prelude.{ℕ, List, [], ◌∷◌, codes}
 use Rattle.itch_codec.specs.declared.names.Key.{Key}
 use Rattle.itch_codec.specs.declared.names.Key.TheVariants as key
@@ -54,7 +54,7 @@ key_text key.CrossPrice = codes "cross_price"
 key_text key.CrossType = codes "cross_type"
 key_text key.SequenceNumber = codes "sequence_number"
 
--- the keys of a header, and those after it
+-- the keys of a header, followed by these keys
 abbrev pub header_keys : List Key → List Key
 header_keys keys = key.StockLocate ∷ key.TrackingNumber ∷ key.Time ∷ keys
 
@@ -90,7 +90,7 @@ abbrev pub participant_position_keys : List Key
 participant_position_keys =
     header_keys (key.Mpid ∷ key.Stock ∷ key.PrimaryMarketMaker ∷ key.MarketMakerMode ∷ key.MarketParticipantState ∷ [])
 
--- a new order, and the keys after it
+-- a new order, followed by these keys
 abbrev pub order_keys : List Key → List Key
 order_keys keys =
     header_keys (key.OrderReferenceNumber ∷ key.BuySellIndicator ∷ key.Shares ∷ key.Stock ∷ key.Price ∷ keys)
@@ -103,7 +103,7 @@ add_order_keys = order_keys []
 abbrev pub attributed_add_order_keys : List Key
 attributed_add_order_keys = order_keys (key.Attribution ∷ [])
 
--- an execution, and the keys after it
+-- an execution, followed by these keys
 abbrev pub execution_keys : List Key → List Key
 execution_keys keys =
     header_keys (key.OrderReferenceNumber ∷ key.ExecutedShares ∷ key.MatchNumber ∷ keys)

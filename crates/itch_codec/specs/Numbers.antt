@@ -6,19 +6,19 @@ use Rattle.std.specs.Str.{all_ascii_digits}
 use Rattle.std.specs.Str.Parse.{digits_value}
 use Rattle.byteorder.specs.Endian.{big_number, big_bytes}
 
--- the bytes of a message from this place on, n of them
+-- n bytes of a message from this offset on
 unfoldable pub slice_at : ℕ → ℕ → List ℕ → List ℕ
 slice_at offset width payload = slice_range payload offset (offset + width)
 
--- the value to base 256 of these bytes, the highest first
+-- the big-endian number in these bytes
 unfoldable pub number_at : ℕ → ℕ → List ℕ → ℕ
 number_at offset width payload = big_number width (slice_range payload offset (offset + width))
 
--- the byte of a message at this place
+-- the byte of a message at this offset
 abbrev pub byte_at : ℕ → List ℕ → ℕ
 byte_at offset payload = slice_index payload offset
 
--- a number in n bytes, the highest first
+-- a number in n bytes, big-endian
 unfoldable pub be : ℕ → ℕ → List ℕ
 be width number = big_bytes width number
 
@@ -26,7 +26,7 @@ be width number = big_bytes width number
 abbrev pub padded_on_left : ℕ → List ℕ → List ℕ
 padded_on_left width text = replicate (width - length text) 32 ++ text
 
--- a number in twenty bytes: its digits, and spaces before them
+-- a number in twenty bytes: its digits after spaces
 unfoldable pub dec20 : ℕ → List ℕ
 dec20 number = padded_on_left 20 (decimal number)
 
@@ -34,7 +34,7 @@ dec20 number = padded_on_left 20 (decimal number)
 abbrev pub is_space : ℕ → Bool
 is_space byte = byte == 32
 
--- the field is spaces, at least one digit, and spaces, and the digits' value is this number, at most 10^19
+-- the field consists of spaces, at least one digit, and spaces, and the value of the digits is this number, at most 10^19
 pub record IsNumber (field : List ℕ) (number : ℕ) (left digits right : List ℕ) : Type 0 where
   pub whole : field ≡ left ++ (digits ++ right)
   pub spaces_before : IsTrue (list_all is_space left)
@@ -44,7 +44,7 @@ pub record IsNumber (field : List ℕ) (number : ℕ) (left digits right : List 
   pub value : number ≡ digits_value 10 digits
   pub bounded : number ≤ 10 ^ 19
 
--- the field spells the number, with some parts
+-- the field encodes the number, for some division into parts
 abbrev pub SpellsNumber : List ℕ → ℕ → Type 0
 SpellsNumber field number =
     (left : List ℕ) × (digits : List ℕ) × (right : List ℕ) × IsNumber field number left digits right
@@ -53,23 +53,23 @@ SpellsNumber field number =
 unfoldable pub after_spaces : List ℕ → List ℕ
 after_spaces field = drop (prefix_len is_space field) field
 
--- the digits that a text begins with
+-- the digits at the front of a text
 unfoldable pub digits_in_front : List ℕ → List ℕ
 digits_in_front text = take (prefix_len is_ascii_digit text) text
 
--- what follows the digits that a text begins with
+-- the rest of a text after the digits at its front
 unfoldable pub after_digits : List ℕ → List ℕ
 after_digits text = drop (prefix_len is_ascii_digit text) text
 
--- the digits' value, if it is at most 10^19
+-- the value of the digits, if it is at most 10^19
 abbrev pub number_of_digits : List ℕ → Option ℕ
 number_of_digits digits = if nat_le (digits_value 10 digits) (10 ^ 19) then Some (digits_value 10 digits) else None
 
--- the number of these digits, if there are any, and only spaces after them
+-- the number of these digits, if there is at least one, and if only spaces follow them
 abbrev pub number_of_parts : List ℕ → List ℕ → Option ℕ
 number_of_parts [] right = None
 number_of_parts (digit ∷ digits) right = if list_all is_space right then number_of_digits (digit ∷ digits) else None
 
--- the number that a field of digits with spaces on both sides spells, if it spells one
+-- the number in a field of digits with spaces on both sides, if the field is of this form
 unfoldable pub read20 : List ℕ → Option ℕ
 read20 field = number_of_parts (digits_in_front (after_spaces field)) (after_digits (after_spaces field))

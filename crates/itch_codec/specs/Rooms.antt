@@ -1,4 +1,4 @@
--- The most bytes that the parts of a message take, in each form.
+-- The maximum length of the parts of a message, in each form.
 use Rattle.std.specs.Prelude.{ℕ, ◌+◌, ◌*◌, ◌==◌, List, [], ◌∷◌, length, if◌then◌else◌}
 use Rattle.itch_codec.specs.Layouts.{Class, Integer, Price, Text, OneSide, Code, Codes, Digits, Column}
 use Rattle.itch_codec.specs.Messages.{Shape, Fields, Payload, shape}
@@ -7,7 +7,7 @@ use Rattle.itch_codec.specs.declared.names.Key.{Key}
 use Rattle.itch_codec.specs.declared.names.Key.TheVariants as is
 use Rattle.itch_codec.specs.declared.message.Message.{Message}
 
--- the most bytes before the fields, and of a field with this key, class and width
+-- the maximum length before the fields, and of a field with this key, class and width
 pub record Most : Type 0 where
   pub start : ℕ
   pub field : Key → Class → ℕ → ℕ
@@ -41,7 +41,7 @@ word_most Digits width = 21
 abbrev pub line_most : Most
 line_most = record { start = 5; field = λ key class width. word_most class width }
 
--- a word of a line with names. An integer of two bytes has at most five digits, and one of six is a time of the day
+-- a word of a line with names. An integer of two bytes has at most five digits, and an integer of six bytes is a time of day
 abbrev pub named_word_most : Class → ℕ → ℕ
 named_word_most Integer width = if width == 2 then 6 else (if width == 6 then 19 else 21)
 named_word_most Code width = 7
@@ -52,7 +52,7 @@ named_word_most class width = word_most class width
 abbrev pub named_most : Most
 named_most = record { start = 5; field = λ key class width. named_word_most class width }
 
--- the value of a member of an object, with the characters around its key
+-- the value of a member of an object, and the characters around its key
 abbrev pub member_most : Class → ℕ → ℕ
 member_most Integer width = if width == 6 then 50 else 24
 member_most Price width = 31

@@ -15,11 +15,11 @@ IsPrintable bytes = AllByRecursion IsPrintableByte bytes
 abbrev pub is_unprintable : ℕ → Bool
 is_unprintable byte = nat_lt byte 32 || nat_lt 126 byte
 
--- the place of the first byte that is not printable, if there is one
+-- the position of the first byte that is not printable, if there is one
 unfoldable pub first_unprintable : List ℕ → Option ℕ
 first_unprintable bytes = position is_unprintable bytes
 
--- a text with spaces after it, up to the width of its field
+-- a text followed by spaces, up to the width of its field
 abbrev pub padded_to : ℕ → List ℕ → List ℕ
 padded_to width text = text ++ replicate (width - length text) 32
 

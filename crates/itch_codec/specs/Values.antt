@@ -22,7 +22,7 @@ use Rattle.itch_codec.specs.declared.trades.CrossTrade.{CrossTrade}
 use Rattle.itch_codec.specs.declared.trades.BrokenTrade.{BrokenTrade}
 use Rattle.itch_codec.specs.Fields.{Value, Number, Bytes, TheSide}
 
--- the values of a header, and those after it
+-- the values of a header, followed by these values
 abbrev pub header_values : Header → List Value → List Value
 header_values h values = Number h.locate ∷ Number h.tracking ∷ Number h.stamp ∷ values
 
@@ -59,7 +59,7 @@ abbrev pub participant_position_values : ParticipantPosition → List Value
 participant_position_values m =
     header_values m.header (Bytes m.mpid ∷ Bytes m.stock ∷ Number m.primary_market_maker ∷ Number m.mode ∷ Number m.state ∷ [])
 
--- the values of a new order, and those after it
+-- the values of a new order, followed by these values
 abbrev pub order_values : AddOrder → List Value → List Value
 order_values m values =
     header_values m.header (Number m.reference ∷ TheSide m.side ∷ Number m.shares ∷ Bytes m.stock ∷ Number m.price ∷ values)
@@ -72,7 +72,7 @@ add_order_values m = order_values m []
 abbrev pub attributed_add_order_values : AttributedAddOrder → List Value
 attributed_add_order_values m = order_values m.order (Bytes m.attribution ∷ [])
 
--- the values of an execution, and those after it
+-- the values of an execution, followed by these values
 abbrev pub execution_values : OrderExecuted → List Value → List Value
 execution_values m values = header_values m.header (Number m.reference ∷ Number m.shares ∷ Number m.match_number ∷ values)
 
@@ -111,30 +111,30 @@ cross_trade_values m =
 abbrev pub broken_trade_values : BrokenTrade → List Value
 broken_trade_values m = header_values m.header (Number m.match_number ∷ [])
 
--- the number that a value is
+-- the number of a value
 abbrev pub number_in : Value → ℕ
 number_in (Number number) = number
 number_in value = 0
 
--- the bytes that a value is
+-- the bytes of a value
 abbrev pub bytes_in : Value → List ℕ
 bytes_in (Bytes bytes) = bytes
 bytes_in value = []
 
--- the side that a value is
+-- the side of a value
 abbrev pub side_in : Value → Side
 side_in (TheSide side) = side
 side_in value = Buy
 
--- the number at this place of the values, counted from 0
+-- the number at this position in the values, counted from 0
 abbrev pub number : ℕ → List Value → ℕ
 number place values = number_in (get_or values place (Number 0))
 
--- the bytes at this place
+-- the bytes at this position
 abbrev pub bytes : ℕ → List Value → List ℕ
 bytes place values = bytes_in (get_or values place (Number 0))
 
--- the side at this place
+-- the side at this position
 abbrev pub side : ℕ → List Value → Side
 side place values = side_in (get_or values place (Number 0))
 

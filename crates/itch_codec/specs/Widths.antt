@@ -1,4 +1,4 @@
--- What the fields of each message may hold: each fits its width and class. Every side fits.
+-- The range of the fields of each message: each value fits its width and class. Every side fits.
 use Rattle.std.specs.Prelude.{ℕ, ◌<◌, ◌≤◌, ◌^◌, List}
 use Rattle.itch_codec.specs.Fields.{AreBytes, IsBytes, IsAlpha}
 use Rattle.itch_codec.specs.Layouts.{IsUndecoded}
@@ -154,7 +154,7 @@ pub record IsBrokenTrade (m : BrokenTrade) : Type 0 where
   pub header : IsHeader m.header
   pub match_number : m.match_number < 2 ^ 64
 
--- the bytes of a message that is not decoded
+-- the bytes of an undecoded message
 pub record IsOther (bytes : List ℕ) : Type 0 where
   pub undecoded : IsUndecoded bytes
   pub wide : AreBytes bytes

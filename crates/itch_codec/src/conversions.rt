@@ -1,4 +1,4 @@
-//! Conversions from and to plain values, and what `{}` writes.
+//! Conversions from and to plain values, and their text for `{}`.
 ghost use Rattle.std.specs.Prelude.{◌≡◌, ◌≢◌, ◌≤◌, ◌<◌, ◌^◌, ◌↔◌, [], ◌∷◌, Some, length, IfOk, IfErr, IsOk, MatchResult};
 ghost use Rattle.std.specs.Fmt.{padded, decimal, styled_decimal};
 ghost use Rattle.std.specs.Result.{OkIff};
@@ -13,17 +13,17 @@ use crate::text::{Alpha, AlphaFault};
 use std::fmt::{self, Display, Formatter, Write};
 use thiserror::Error;
 
-/// A number that is too small or too large for a [`Seq`] or a [`Stamp`].
+/// The error for a number that is too small or too large for a [`Seq`] or a [`Stamp`].
 #[derive(Clone, Copy, Debug, PartialEq, Eq, Error)]
 #[error("out of range")]
 pub struct OutOfRange;
 
-/// A byte that is neither `B` nor `S`.
+/// The error for a byte that is neither `B` nor `S`.
 #[derive(Clone, Copy, Debug, PartialEq, Eq, Error)]
 #[error("{0:#04x} is no side")]
 pub struct UnknownSide(pub u8);
 
-/// As [`Seq::new`].
+/// Converts as [`Seq::new`] does.
 impl TryFrom<u64> for Seq {
     type Error = OutOfRange;
 
@@ -42,7 +42,7 @@ impl From<Seq> for u64 {
     }
 }
 
-/// The number in decimal digits.
+/// Writes the number in decimal digits.
 impl Display for Seq {
     ghost output = { λ number. Some (decimal number) };
 
@@ -53,7 +53,7 @@ impl Display for Seq {
     }
 }
 
-/// As [`Stamp::new`].
+/// Converts as [`Stamp::new`] does.
 impl TryFrom<u64> for Stamp {
     type Error = OutOfRange;
 
@@ -72,7 +72,7 @@ impl From<Stamp> for u64 {
     }
 }
 
-/// The nanoseconds since midnight in decimal digits, as in the line of a message.
+/// Writes the nanoseconds since midnight in decimal digits, as in the line of a message.
 impl Display for Stamp {
     ghost output = { λ stamp. Some (decimal stamp) };
 
@@ -83,7 +83,7 @@ impl Display for Stamp {
     }
 }
 
-/// The side that a byte of a message spells.
+/// Converts the byte of a message into a side.
 impl TryFrom<u8> for Side {
     type Error = UnknownSide;
 
@@ -99,7 +99,7 @@ impl TryFrom<u8> for Side {
     }
 }
 
-/// The byte that spells the side in a message: `B` or `S`.
+/// Converts a side into its byte in a message: `B` or `S`.
 impl From<Side> for u8 {
     ghost from_gives = { λ side byte. byte ≡ side_byte side };
 
@@ -111,7 +111,7 @@ impl From<Side> for u8 {
     }
 }
 
-/// `B` or `S`, as in a message.
+/// Writes `B` or `S`, as in a message.
 impl Display for Side {
     ghost output = { λ side. Some (side_byte side ∷ []) };
 
@@ -125,7 +125,7 @@ impl Display for Side {
     }
 }
 
-/// As [`Alpha::from_text`].
+/// Converts as [`Alpha::from_text`] does.
 impl<const N: usize> TryFrom<&str> for Alpha<N> {
     type Error = AlphaFault;
 
@@ -138,7 +138,7 @@ impl<const N: usize> TryFrom<&str> for Alpha<N> {
     }
 }
 
-/// As [`Alpha::from_bytes`].
+/// Converts as [`Alpha::from_bytes`] does.
 impl<const N: usize> TryFrom<[u8; N]> for Alpha<N> {
     type Error = AlphaFault;
 
@@ -150,7 +150,7 @@ impl<const N: usize> TryFrom<[u8; N]> for Alpha<N> {
     }
 }
 
-/// The text without the spaces at its end.
+/// Writes the text without the spaces at its end.
 impl<const N: usize> Display for Alpha<N> {
     ghost output = { λ alpha. Some (before_spaces alpha) };
 

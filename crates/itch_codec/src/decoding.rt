@@ -1,4 +1,4 @@
-//! Messages from payloads.
+//! Decodes payloads into messages.
 ghost use Rattle.std.specs.Prelude.{◌≡◌, Some, None, Ok, IfOk, IfErr, OnOk};
 ghost use Rattle.itch_codec.specs.declared.message.Message.{Message as MessageValue};
 ghost use Rattle.itch_codec.specs.Fields.{Reads};
@@ -19,9 +19,9 @@ use crate::stocks::{
 use crate::trades::{BrokenTrade, CrossTrade, Trade};
 use crate::undecoded::Undecoded;
 
-/// The message that a payload spells.
+/// Returns the message of a payload.
 ///
-/// A payload that spells no message has a fault, which is returned: its length, or else that of the first field that has one.
+/// If the payload is not a valid message, it returns the payload's fault: its length, or else the fault of the first faulty field.
 #[inline(always)]
 pub fn decode(payload: &[u8]) -> Result<Message<'_>, CodecFault>
     ensures found { IfOk result (λ m. Spells m payload.entry.now) }
@@ -34,7 +34,7 @@ pub fn decode(payload: &[u8]) -> Result<Message<'_>, CodecFault>
     read(payload)
 }
 
-// The message that the payload spells, or the payload's fault.
+// Returns the message of the payload, or the payload's fault.
 #[inline(always)]
 fn read(payload: &[u8]) -> Result<Message<'_>, CodecFault>
     ensures { Reads (λ m. Spells m payload.entry.now) (fault payload.entry.now) result }

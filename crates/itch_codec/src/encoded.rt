@@ -1,11 +1,10 @@
-//! The bytes of a message.
+//! The bytes of an encoded message.
 ghost use Rattle.std.specs.Prelude.{◌≡◌};
 
 use crate::fields::Buffer;
 use std::marker::Model;
 
-/// The bytes that spell a message. They need no allocation: they are built in place, or are the payload of a message that is not
-/// decoded.
+/// The bytes of an encoded message. They need no allocation: they are built in place, or are the payload of an undecoded message.
 #[derive(Debug, Drop)]
 pub struct Encoded<'a> {
     form: Form<'a>,
@@ -28,7 +27,7 @@ impl<'a> Model for Encoded<'a> {
 }
 
 impl<'a> Encoded<'a> {
-    /// The bytes, from the message's type on.
+    /// Returns the bytes, from the message type on.
     pub fn bytes(&self) -> &[u8]
         ensures { result.now ≡ self.now }
     {

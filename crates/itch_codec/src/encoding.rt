@@ -1,4 +1,4 @@
-//! Payloads from messages.
+//! Encodes messages into payloads.
 ghost use Rattle.std.specs.Prelude.{◌≡◌, MatchOption};
 ghost use Rattle.itch_codec.specs.Fields.{AreBytes};
 ghost use Rattle.itch_codec.specs.Widths.{IsMessage};
@@ -8,7 +8,7 @@ use crate::encoded::Encoded;
 use crate::fields::Buffer;
 use crate::message::Message;
 
-/// The bytes of a message, as it is spelled in the feed.
+/// Returns the bytes of a message, as in the feed.
 ///
 /// The number of an End of Snapshot is right-justified in its twenty bytes, with spaces on the left.
 #[tactic(auto, using(crate::proofs::Spelling::encoding))]
@@ -24,21 +24,21 @@ pub fn encode<'a>(message: &Message<'a>) -> Encoded<'a>
     }
 }
 
-/// Encodes messages one after the other in the same place, so that their bytes are not moved. It takes no memory.
+/// Encodes messages one after another in the same place, so that their bytes are not moved. It allocates no memory.
 #[derive(Drop)]
 pub struct Encoder {
     room: Buffer,
 }
 
 impl Encoder {
-    /// An encoder, with room for any message that is decoded.
+    /// Creates an encoder with room for any decoded message.
     pub fn new() -> Encoder {
         Encoder {
             room: Buffer::new(),
         }
     }
 
-    /// The bytes of a message, as [`encode`] returns them.
+    /// Returns the bytes of a message, as [`encode`] does.
     #[inline(always)]
     pub fn encode<'s, 'a: 's>(&'s mut self, message: &Message<'a>) -> &'s [u8]
         ensures bytes { result.now ≡ spelling message.now }
@@ -51,7 +51,7 @@ impl Encoder {
     }
 }
 
-// Spells a message in this place; or returns its payload, if that is kept whole.
+// Encodes a message in this place, or returns the payload of an undecoded message.
 #[tactic(auto, unfolding(crate::specs::Messages::spelling))]
 fn spell<'a>(message: &Message<'a>, out: &mut Buffer) -> Option<&'a [u8]>
     ensures bytes { MatchOption result (out.new.items ≡ spelling message.now) (λ payload. payload.now ≡ spelling message.now) }
@@ -80,7 +80,7 @@ fn spell<'a>(message: &Message<'a>, out: &mut Buffer) -> Option<&'a [u8]>
     None
 }
 
-// A payload as it is.
+// Returns a payload unchanged.
 fn kept(payload: &[u8]) -> &[u8]
     ensures bytes { result.now ≡ payload.now }
     ensures wide { AreBytes payload.now }

@@ -1,4 +1,4 @@
-//! Fields of a payload: one reader and one writer for each class of field.
+//! Fields of a payload: each class of field has one reader and one writer.
 ghost use Rattle.std.specs.Prelude.{◌≡◌, ◌+◌, ◌<◌, ◌≤◌, ◌^◌, [], ◌∷◌, ◌++◌, length};
 ghost use Rattle.arrayvec.specs.ArrayVec.{array_vec_len};
 ghost use Rattle.itch_codec.specs.Numbers.{slice_at, number_at, be};
@@ -12,7 +12,7 @@ use crate::text::{Alpha, are_printable, unprintable};
 use arrayvec::ArrayVec;
 use byteorder::{BigEndian, ByteOrder};
 
-/// The bytes of a message as it is built. The longest message of the table has 44.
+/// The bytes of a message under construction. The longest message of the table has 44 bytes.
 pub(crate) type Buffer = ArrayVec<u8, 48>;
 
 #[inline(always)]
@@ -72,7 +72,7 @@ pub(crate) fn text_at<const N: usize>(payload: &[u8], offset: usize) -> Result<A
     Ok(known_text(payload, offset))
 }
 
-/// Whether a field is a text, or its fault.
+/// Checks that a field is a text, and otherwise returns its fault.
 #[inline(always)]
 #[tactic(auto, using(crate::proofs::Texts::printing), unfolding(crate::specs::Numbers::slice_at))]
 pub(crate) fn check_text<const N: usize>(payload: &[u8], offset: usize) -> Result<(), CodecFault>
@@ -91,7 +91,7 @@ pub(crate) fn check_text<const N: usize>(payload: &[u8], offset: usize) -> Resul
     }
 }
 
-/// The text of a field that has no fault.
+/// Returns the text of a field without a fault.
 #[inline(always)]
 pub(crate) fn known_text<const N: usize>(payload: &[u8], offset: usize) -> Alpha<N>
     requires within { offset + N ≤ length payload.now }
@@ -113,7 +113,7 @@ pub(crate) fn side_at(payload: &[u8], offset: usize) -> Result<Side, CodecFault>
     Ok(side_of(byte))
 }
 
-// The side of a byte that is `B` or `S`.
+// Returns the side of a byte that is `B` or `S`.
 #[inline(always)]
 fn side_of(byte: u8) -> Side
     ensures { result ≡ side_of byte }

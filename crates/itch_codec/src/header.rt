@@ -1,4 +1,4 @@
-//! The header, which comes before the fields of every message except End of Snapshot.
+//! The header, which precedes the fields of every message except End of Snapshot.
 ghost use Rattle.std.specs.Prelude.{◌≡◌, ℕ, ◌<◌, ◌≤◌, ◌^◌, ◌↔◌, IsSome, IfSome};
 
 use crate::fields::{Buffer, put_u16, put_u48, u16_at, u48_at};
@@ -25,7 +25,7 @@ impl Model for Stamp {
 impl Stamp {
     ghost use Rattle.itch_codec.specs.Headers.{stamp_in};
 
-    /// The number as a timestamp, if it is below 2^48.
+    /// Returns the number as a timestamp, if it is below 2^48.
     pub fn new(value: u64) -> Option<Stamp>
         ensures accepts { IsSome result ↔ (value < 2 ^ 48) }
         ensures stamp { IfSome result (λ stamp. stamp ≡ value) }
@@ -37,7 +37,7 @@ impl Stamp {
         }
     }
 
-    /// The timestamp of a payload, for a caller who needs no other field; none if the payload is too short for a header.
+    /// Returns the timestamp of a payload, for a caller who needs no other field, or `None` if the payload is too short for a header.
     pub fn of_payload(payload: &[u8]) -> Option<Stamp>
         ensures { result ≡ stamp_in payload.now }
     {
@@ -48,7 +48,7 @@ impl Stamp {
         }
     }
 
-    /// The number itself.
+    /// Returns the number.
     pub fn value(self) -> u64
         ensures value { result ≡ self }
         ensures small { self < 2 ^ 48 }
@@ -60,11 +60,11 @@ impl Stamp {
 /// Stock locate, tracking number and timestamp.
 #[derive(Clone, Copy, Debug, PartialEq, Eq)]
 pub struct Header {
-    /// The security's number of the day.
+    /// The stock locate: the security's number for the day.
     pub locate: u16,
-    /// The exchange's own number.
+    /// The exchange's internal tracking number.
     pub tracking: u16,
-    /// When the message was made.
+    /// The timestamp of the message.
     pub stamp: Stamp,
 }
 
@@ -93,7 +93,7 @@ impl Header {
         }
     }
 
-    // The message's first byte and its header.
+    // Appends the message's first byte and its header.
     #[inline(always)]
     #[tactic(auto, using(crate::proofs::Joining::joining), unfolding(crate::specs::Fields::joined))]
     pub(crate) fn begin(&self, kind: u8, out: &mut Buffer)

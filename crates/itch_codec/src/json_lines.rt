@@ -12,7 +12,7 @@ use crate::sink::{Field, FieldSink};
 use std::marker::Model;
 use words::{JsonWords, push_quoted, push_quoted_price, push_side, push_times, put_key};
 
-/// A line of JSON that shows a message, with its line feed. It is stored in the value itself and needs no allocation.
+/// A line of JSON for a message, with its line feed. It is stored in the value itself and needs no allocation.
 #[derive(Drop)]
 pub struct JsonText {
     text: JsonWords,
@@ -27,7 +27,7 @@ impl Model for JsonText {
 }
 
 impl JsonText {
-    /// The text, which is ASCII and has at most 648 bytes.
+    /// Returns the text, which is ASCII and has at most 648 bytes.
     pub fn as_str(&self) -> &str
         ensures text { result.now ≡ self.now }
         ensures short { length result.now ≤ 648 }
@@ -36,11 +36,11 @@ impl JsonText {
     }
 }
 
-/// The line of JSON of a message: an object with its number, its type and its fields in the order of its layout, and a line feed.
+/// Returns the line of JSON of a message: an object with its number, its type and its fields in the order of its layout, and a line feed.
 ///
-/// The keys are the names of the fields in TotalView-ITCH 5.0. Integers are numbers, and all else is a string: prices with their
-/// four decimals, texts without the spaces at their end, sides as `B` or `S`, and codes as characters. A timestamp has two members, the
-/// time of the day and the nanoseconds. A message of a type that is not decoded has its type and the length of its payload.
+/// The keys are the names of the fields in TotalView-ITCH 5.0. Integers are numbers, and all other values are strings: prices with their four
+/// decimals, texts without the spaces at their end, sides as `B` or `S`, and codes as characters. A timestamp has two members, the time of
+/// day and the nanoseconds. For an undecoded message the object has its type and the length of its payload.
 pub fn json(number: u64, message: &Message<'_>) -> JsonText
     ensures { result ≡ json_line number message.now }
 {

@@ -1,6 +1,6 @@
-//! What holds of messages and payloads, whatever they are.
+//! Laws of all messages and payloads.
 //!
-//! Each function does nothing: its clauses are the laws.
+//! Each function has an empty body: its clauses state the laws.
 ghost use Rattle.std.specs.Prelude.{◌≡◌, ℕ, ◌<◌, ◌≤◌, ◌^◌, List, length, None};
 ghost use Rattle.itch_codec.specs.declared.message.Message.{Message};
 ghost use Rattle.itch_codec.specs.Numbers.{dec20, SpellsNumber};
@@ -8,7 +8,7 @@ ghost use Rattle.itch_codec.specs.Fields.{AreBytes};
 ghost use Rattle.itch_codec.specs.Widths.{IsMessage};
 ghost use Rattle.itch_codec.specs.Messages.{Spells, spelling, fault, message_of, IsEnd, IsKeptWhole};
 
-/// A payload spells at most one message: the one that is read from it.
+/// A payload encodes at most one message: the one that decoding returns.
 #[tactic(auto, using(crate::proofs::Spelling::spelling_laws))]
 pub fn one_message()
     ensures one { (m n : Message) → (payload : List ℕ) → Spells m payload → Spells n payload → m ≡ n }
@@ -16,15 +16,15 @@ pub fn one_message()
     ensures fits { (m : Message) → (payload : List ℕ) → AreBytes payload → Spells m payload → IsMessage m }
 {}
 
-/// A payload has a fault if and only if it spells no message.
+/// A payload has a fault if and only if it encodes no message.
 #[tactic(auto, using(crate::proofs::Spelling::spelling_laws))]
 pub fn fault_or_message()
     ensures no_fault { (m : Message) → (payload : List ℕ) → Spells m payload → fault payload ≡ None }
     ensures message { (payload : List ℕ) → fault payload ≡ None → Spells (message_of payload) payload }
 {}
 
-/// The bytes of a message whose fields fit spell it. There is at least one, and there are at most 65,535 unless the message is
-/// kept as it was received.
+/// A message whose fields fit is encoded by its bytes. There is at least one byte, and there are at most 65,535 unless the message is
+/// undecoded.
 #[tactic(auto, using(crate::proofs::Spelling::spelling_laws))]
 pub fn some_spelling()
     ensures spells { (m : Message) → IsMessage m → Spells m (spelling m) }
@@ -32,13 +32,13 @@ pub fn some_spelling()
     ensures short { (m : Message) → IsMessage m → ¬ IsKeptWhole m → length (spelling m) < 65536 }
 {}
 
-/// Each message except End of Snapshot has one spelling in bytes.
+/// Each message except End of Snapshot has exactly one encoding in bytes.
 #[tactic(auto, using(crate::proofs::Spelling::spelling_laws))]
 pub fn one_spelling()
     ensures { (m : Message) → (payload : List ℕ) → ¬ IsEnd m → AreBytes payload → Spells m payload → payload ≡ spelling m }
 {}
 
-/// Decoding undoes encoding, and encoding undoes decoding except for End of Snapshot.
+/// Decoding inverts encoding, and encoding inverts decoding except for End of Snapshot.
 #[tactic(auto, using(crate::proofs::Spelling::spelling_laws))]
 pub fn there_and_back()
     ensures no_fault { (m : Message) → IsMessage m → fault (spelling m) ≡ None }
@@ -46,7 +46,7 @@ pub fn there_and_back()
     ensures bytes { (payload : List ℕ) → AreBytes payload → fault payload ≡ None → ¬ IsEnd (message_of payload) → spelling (message_of payload) ≡ payload }
 {}
 
-/// A field of twenty bytes spells at most one number, and each number up to 10^19 is spelled by the field that is written for it.
+/// A field of twenty bytes encodes at most one number, and the field written for a number up to 10^19 encodes that number.
 #[tactic(auto, using(crate::proofs::Numbers::number_laws))]
 pub fn numbers()
     ensures one { (field : List ℕ) → (m n : ℕ) → SpellsNumber field m → SpellsNumber field n → m ≡ n }

@@ -1,12 +1,13 @@
 //! Messages of TotalView-ITCH 5.0, and the End of Snapshot of GLIMPSE 5.0.
 //!
-//! [`decode`] makes a [`Message`] of a payload, or returns its first fault; [`encode`] spells a message, and an [`Encoder`] spells many
-//! in the same place. A payload that is decoded and encoded again has the same bytes, except for the padding of End of Snapshot. Types
-//! that are not decoded are kept whole, as [`Undecoded`]. [`show`] makes a line of text of a message, [`show_named`] one with its codes
-//! as characters, and [`json`] a line of JSON. Only [`line`], which makes a string, allocates.
+//! [`decode`] converts a payload into a [`Message`], or returns the payload's first fault. [`encode`] returns the bytes of a message, and an
+//! [`Encoder`] encodes many messages in the same place. Decoding a payload and encoding the message again gives the same bytes, except for
+//! the padding of End of Snapshot. A message of a type that is not decoded keeps its complete payload, as [`Undecoded`]. [`show`] converts a
+//! message into a line of text, [`show_named`] into a line with codes as characters, and [`json`] into a line of JSON. Only [`line`], which
+//! returns a string, allocates.
 //!
-//! Every value is valid: an [`Alpha`] is printable, a [`Seq`] is from 1 to 10^19, a [`Stamp`] fits its six bytes.
-//! `laws` states what holds of every payload and every message.
+//! Every value is valid: an [`Alpha`] is printable, a [`Seq`] is from 1 to 10^19, a [`Stamp`] fits into its six bytes.
+//! `laws` states the properties of all payloads and messages.
 //!
 //! ```
 //! let message = decode(b"A\0\x01\0\0\0\0\0\0\0\0\0\0\0\0\0\0\0\x01B\0\0\0dAAPL    \0\x16\xe3\x60")?;

@@ -18,7 +18,7 @@ use crate::stocks::{
 use crate::trades::{BrokenTrade, CrossTrade, Trade};
 use crate::undecoded::Undecoded;
 
-/// A message of the feed or of a snapshot, one variant for each type.
+/// A message of the feed or of a snapshot. Each type has one variant.
 #[derive(Debug, Drop, PartialEq, Eq)]
 pub enum Message<'a> {
     SystemEvent(SystemEvent),
@@ -43,7 +43,7 @@ pub enum Message<'a> {
 }
 
 impl Message<'_> {
-    /// The message's type: the first byte of its payload.
+    /// Returns the message type: the first byte of its payload.
     pub fn kind(&self) -> u8
         ensures { result ≡ kind_of self.now }
     {
@@ -69,7 +69,7 @@ impl Message<'_> {
         }
     }
 
-    /// The header. An End of Snapshot has none, nor does a message that is not decoded.
+    /// Returns the header. An End of Snapshot and an undecoded message have none.
     pub fn header(&self) -> Option<Header>
         ensures { result ≡ header self.now }
     {
@@ -94,7 +94,7 @@ impl Message<'_> {
         }
     }
 
-    /// When the message was made, in nanoseconds since midnight, if it has a header.
+    /// Returns the timestamp in nanoseconds since midnight, if the message has a header.
     pub fn time(&self) -> Option<u64>
         ensures { result ≡ time_of self.now }
     {
@@ -104,9 +104,9 @@ impl Message<'_> {
         }
     }
 
-    /// The order reference number of the live order that the message adds, changes or ends: of a replace the original one.
+    /// Returns the order reference number of the live order that the message adds, changes or ends; of a replace it is the original number.
     ///
-    /// A Trade has a number too, but names no order of the book by it.
+    /// A Trade has an order reference number too, but it does not identify an order of the book.
     pub fn reference(&self) -> Option<u64>
         ensures { result ≡ reference_of self.now }
     {
@@ -122,7 +122,7 @@ impl Message<'_> {
         }
     }
 
-    /// Writes the type and the fields to a sink, in the order of the layout; the type and the length if the message is not decoded.
+    /// Writes the type and the fields to a sink, in the order of the layout; for an undecoded message, the type and the length.
     #[tactic(auto, using(crate::proofs::Joining::joining), unfolding(crate::specs::Shown::fields, crate::specs::Rooms::most_fields))]
     pub(crate) fn write<S: FieldSink>(&self, sink: &mut S)
         requires room { S.len sink.old + most_shown S.most self.now ≤ S.capacity }

@@ -1,4 +1,4 @@
-//! Messages as lines of text with their codes as characters.
+//! Shows messages as lines of text with their codes as characters.
 ghost use Rattle.std.specs.Prelude.{◌≡◌};
 ghost use Rattle.arrayvec.specs.ArrayString.{array_string_len};
 ghost use Rattle.itch_codec.specs.Named.{named_form, named_line};
@@ -14,10 +14,10 @@ use crate::sink::{Field, FieldSink};
 use crate::words::{Words, show_number, show_price, show_side, show_text};
 use words::{show_character, show_characters, show_clock, show_short};
 
-/// The line of a message as [`show`](crate::show) makes it, but with codes as characters in single quotes, and with the timestamp as a
-/// time of the day, such as `09:30:00.000000001`.
+/// Returns the line of a message, as [`show`](crate::show) does, but with codes as characters in single quotes, and with the timestamp as a
+/// time of day, such as `09:30:00.000000001`.
 ///
-/// In single quotes a quote or a reverse solidus has a reverse solidus before it, and a byte that is not printable is `\x` and its two
+/// Inside the single quotes, a single quote or a backslash is preceded by a backslash, and an unprintable byte is written as `\x` and its two
 /// hexadecimal digits.
 pub fn show_named(number: u64, message: &Message<'_>) -> LineText
     ensures { result ≡ named_line number message.now }
@@ -32,7 +32,7 @@ pub fn show_named(number: u64, message: &Message<'_>) -> LineText
     LineText::of(line.words)
 }
 
-// A line as it is built.
+// A line under construction.
 #[derive(Drop)]
 struct NamedLine {
     words: Words,

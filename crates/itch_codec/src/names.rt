@@ -1,4 +1,4 @@
-//! The keys of an object that shows a message.
+//! The keys of the JSON object of a message.
 ghost use Rattle.std.specs.Prelude.{◌≡◌};
 ghost use Rattle.itch_codec.specs.Names.{key_text};
 
@@ -53,7 +53,7 @@ pub(crate) enum Key {
 }
 
 impl Key {
-    /// The key as it is written: in lower case, with an underscore between words.
+    /// Returns the text of the key: lower case, with underscores between words.
     pub(crate) fn text(self) -> &'static str
         ensures { result.now ≡ key_text self }
     {

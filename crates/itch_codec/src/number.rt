@@ -11,10 +11,10 @@ use crate::spaces::{after_spaces, is_blank};
 use itoa::write_digits;
 use std::marker::Model;
 
-/// The greatest sequence number: 10^19.
+/// The largest sequence number: 10^19.
 pub const GREATEST_SEQ: u64 = 10_000_000_000_000_000_000;
 
-/// The most messages of a feed, a day file or a snapshot: 10^19 - 1, so that the number after the last is a [`Seq`].
+/// The maximum number of messages of a feed, a day file or a snapshot: 10^19 - 1, so that the number after the last message is a [`Seq`].
 pub const MOST_MESSAGES: u64 = GREATEST_SEQ - 1;
 
 /// A sequence number: 1 to 10^19.
@@ -39,7 +39,7 @@ impl Seq {
     ghost use Rattle.itch_codec.specs.Fields.{Number, HasAll, joined, first_fault, Reads};
     ghost use Rattle.itch_codec.specs.Widths.{IsSequence};
 
-    /// The number as a sequence number, if it is from 1 to 10^19.
+    /// Returns the number as a sequence number, if it is from 1 to 10^19.
     pub fn new(value: u64) -> Option<Seq>
         ensures accepts { IsSome result ↔ ((1 ≤ value) × (value ≤ 10 ^ 19)) }
         ensures number { IfSome result (λ number. number ≡ value) }
@@ -51,7 +51,7 @@ impl Seq {
         }
     }
 
-    // The number in the twenty digits of an End of Snapshot.
+    // Returns the number in the twenty digits of an End of Snapshot.
     pub(crate) fn decode(payload: &[u8]) -> Result<Seq, CodecFault>
         requires { length payload.now ≡ 21 }
         ensures { Reads (λ next. HasAll payload.now end_of_snapshot.columns (Number next ∷ [])) (first_fault payload.now end_of_snapshot.columns) result }
@@ -62,7 +62,7 @@ impl Seq {
         Seq::new(value).ok_or(CodecFault::BadNumber)
     }
 
-    // The End of Snapshot with this number.
+    // Encodes the End of Snapshot with this number.
     #[inline(always)]
     #[tactic(auto, using(crate::proofs::Joining::joining), unfolding(crate::specs::Fields::joined))]
     pub(crate) fn spell(self, out: &mut Buffer)
@@ -74,7 +74,7 @@ impl Seq {
         put_codes(out, number20(self.value()));
     }
 
-    /// The number itself.
+    /// Returns the number.
     pub fn value(self) -> u64
         ensures value { result ≡ self }
         ensures low { 1 ≤ self }
@@ -84,7 +84,7 @@ impl Seq {
     }
 }
 
-/// The decimal digits of a number, right-justified in twenty bytes with spaces on the left.
+/// Returns the decimal digits of a number, right-justified in twenty bytes with spaces on the left.
 #[tactic(auto, using(crate::proofs::Numbers::writing), unfolding(crate::specs::Numbers::dec20))]
 pub fn number20(number: u64) -> [u8; 20]
     ensures { result ≡ dec20 number }
@@ -94,9 +94,9 @@ pub fn number20(number: u64) -> [u8; 20]
     field
 }
 
-/// Reads spaces, at least one digit, and spaces; leading zeros are allowed.
+/// Reads spaces, at least one digit, and spaces. Leading zeros are allowed.
 ///
-/// The number is 0 to 10^19; for any other field `None` is returned.
+/// Returns the number, which is from 0 to 10^19, or `None` for any other field.
 pub fn read_number20(field: &[u8; 20]) -> Option<u64>
     ensures value { result ≡ read20 field.now }
     ensures spelled { IfSome result (λ number. SpellsNumber field.now number) }
@@ -126,7 +126,7 @@ fn read_parts(field: &[u8; 20]) -> Option<u64>
     value_of(digits)
 }
 
-// The digits that the text begins with, and what follows them.
+// Returns the digits at the front of the text, and the rest of the text.
 #[tactic(auto, using(crate::proofs::Numbers::fronts), unfolding(crate::specs::Numbers::digits_in_front, crate::specs::Numbers::after_digits))]
 fn split_digits(text: &[u8]) -> (&[u8], &[u8])
     ensures digits { result.0.now ≡ digits_in_front text.entry.now }
@@ -144,7 +144,7 @@ fn count_digits(text: &[u8]) -> usize
     text.iter().take_while(|byte| byte.is_ascii_digit()).count()
 }
 
-// The value of at most twenty digits, if it is at most 10^19.
+// Returns the value of at most twenty digits, if it is at most 10^19.
 #[tactic(auto, using(crate::proofs::Numbers::counting))]
 fn value_of(digits: &[u8]) -> Option<u64>
     requires digits { IsTrue (all_ascii_digits digits.now) }

@@ -1,4 +1,4 @@
-//! The messages that make, change and end live orders.
+//! The messages that add, change and end live orders.
 ghost use Rattle.std.specs.Prelude.{◌≡◌, ◌+◌, ◌<◌, ◌≤◌, [], ◌∷◌, ◌++◌, length};
 ghost use Rattle.arrayvec.specs.ArrayVec.{array_vec_len};
 ghost use Rattle.itch_codec.specs.Layouts.{with_header, execution_columns, order_columns, add_order, attributed_add_order, order_executed, order_executed_with_price, order_cancel, order_delete, order_replace};
@@ -23,9 +23,9 @@ use crate::text::Alpha;
 /// The side of an order.
 #[derive(Clone, Copy, Debug, PartialEq, Eq)]
 pub enum Side {
-    /// A bid, spelled `B`.
+    /// A bid, `B` in a message.
     Buy,
-    /// An offer, spelled `S`.
+    /// An offer, `S` in a message.
     Sell,
 }
 
@@ -60,7 +60,7 @@ impl AddOrder {
         })
     }
 
-    // The fields of a new order, after this first byte.
+    // Appends this first byte and the fields of a new order.
     #[inline(always)]
     #[tactic(auto, using(crate::proofs::Joining::joining), unfolding(crate::specs::Fields::joined))]
     fn begin(&self, kind: u8, out: &mut Buffer)
@@ -85,7 +85,7 @@ impl AddOrder {
         self.begin(b'A', out);
     }
 
-    // The type and the fields of a new order.
+    // Writes the type and the fields of a new order to a sink.
     #[tactic(auto, using(crate::proofs::Joining::joining), unfolding(crate::specs::Shown::fields, crate::specs::Rooms::most_fields))]
     fn write_as<S: FieldSink>(&self, kind: u8, sink: &mut S)
         requires ascii { kind < 128 }
@@ -116,7 +116,7 @@ impl AddOrder {
 #[derive(Clone, Copy, Debug, PartialEq, Eq)]
 pub struct AttributedAddOrder {
     pub order: AddOrder,
-    /// The market participant that the order is attributed to.
+    /// The market participant to whom the order is attributed.
     pub attribution: Alpha<4>,
 }
 
@@ -178,7 +178,7 @@ impl OrderExecuted {
         }
     }
 
-    // The fields of an execution, after this first byte.
+    // Appends this first byte and the fields of an execution.
     #[inline(always)]
     #[tactic(auto, using(crate::proofs::Joining::joining), unfolding(crate::specs::Fields::joined))]
     fn begin(&self, kind: u8, out: &mut Buffer)
@@ -201,7 +201,7 @@ impl OrderExecuted {
         self.begin(b'E', out);
     }
 
-    // The type and the fields of an execution.
+    // Writes the type and the fields of an execution to a sink.
     #[tactic(auto, using(crate::proofs::Joining::joining), unfolding(crate::specs::Shown::fields, crate::specs::Rooms::most_fields))]
     fn write_as<S: FieldSink>(&self, kind: u8, sink: &mut S)
         requires ascii { kind < 128 }
@@ -230,9 +230,9 @@ impl OrderExecuted {
 #[derive(Clone, Copy, Debug, PartialEq, Eq)]
 pub struct OrderExecutedWithPrice {
     pub execution: OrderExecuted,
-    /// Whether the execution goes into time and sales. Any byte.
+    /// Whether the execution is included in time and sales. It may be any byte.
     pub printable: u8,
-    /// The price of the execution, which changes nothing in the book.
+    /// The price of the execution with four implied decimals. It changes nothing in the book.
     pub price: u32,
 }
 
@@ -364,7 +364,7 @@ impl OrderDelete {
 #[derive(Clone, Copy, Debug, PartialEq, Eq)]
 pub struct OrderReplace {
     pub header: Header,
-    /// The order that is replaced.
+    /// The order reference number of the replaced order.
     pub original: u64,
     /// The order reference number of the new order.
     pub reference: u64,

@@ -1,4 +1,4 @@
-//! Pieces of a line, for texts of any capacity: numbers, prices, times of the day and hexadecimal digits.
+//! Pieces of a line, for texts of any capacity: numbers, prices, times of day and hexadecimal digits.
 ghost use Rattle.std.specs.Prelude.{◌≡◌, ◌+◌, ◌/◌, ◌%◌, ◌<◌, ◌≤◌, [], ◌∷◌, ◌++◌, length, drop, decimal};
 ghost use Rattle.arrayvec.specs.ArrayString.{array_string_len};
 ghost use Rattle.itch_codec.specs.Clock.{clock, two_digits, nine_digits};
@@ -28,7 +28,7 @@ pub(crate) fn push_price<const CAP: usize>(line: &mut ArrayString<CAP>, price: u
     push_later_digits(line, u64::from(10_000 + price % 10_000));
 }
 
-/// Appends nanoseconds since midnight as a time of the day.
+/// Appends nanoseconds since midnight as a time of day.
 #[tactic(auto, using(crate::proofs::Joining::joining), unfolding(crate::specs::Clock::clock))]
 pub(crate) fn push_clock<const CAP: usize>(line: &mut ArrayString<CAP>, nanoseconds: u64)
     requires { array_string_len line.old + 18 ≤ CAP }
@@ -62,7 +62,7 @@ fn push_nine_digits<const CAP: usize>(line: &mut ArrayString<CAP>, number: u64)
     push_later_digits(line, 1_000_000_000 + number % 1_000_000_000);
 }
 
-// Appends the decimal digits of a number but the first: with a 1 before them, the others keep their zeros.
+// Appends the decimal digits of a number except the first. If the first digit is 1, the others keep their leading zeros.
 fn push_later_digits<const CAP: usize>(line: &mut ArrayString<CAP>, number: u64)
     requires { array_string_len line.old + length (decimal number) ≤ CAP + 1 }
     ensures bytes { line.new.bytes ≡ line.old.bytes ++ drop 1 (decimal number) }
@@ -82,7 +82,7 @@ pub(crate) fn push_ascii<const CAP: usize>(line: &mut ArrayString<CAP>, byte: u8
     line.push(char::from(byte));
 }
 
-/// Appends a byte in hexadecimal digits.
+/// Appends a byte as two hexadecimal digits.
 pub(crate) fn push_hex<const CAP: usize>(line: &mut ArrayString<CAP>, byte: u8)
     requires { array_string_len line.old + 2 ≤ CAP }
     ensures bytes { line.new.bytes ≡ line.old.bytes ++ hex_digit (byte / 16) ∷ hex_digit (byte % 16) ∷ [] }

@@ -1,4 +1,4 @@
-//! Messages as lines of text.
+//! Shows messages as lines of text.
 ghost use Rattle.std.specs.Prelude.{◌≡◌, ◌≤◌, length, IfOk};
 ghost use Rattle.std.specs.String.{string_bytes};
 ghost use Rattle.arrayvec.specs.ArrayString.{array_string_len};
@@ -13,7 +13,7 @@ use crate::words::{Words, show_code, show_codes, show_number, show_price, show_s
 use std::alloc::{AllocError, Allocator};
 use std::marker::Model;
 
-/// A line that shows a message, with its line feed. It is stored in the value itself and needs no allocation.
+/// A line of text for a message, with its line feed. It is stored in the value itself and needs no allocation.
 #[derive(Drop)]
 pub struct LineText {
     text: Words,
@@ -34,7 +34,7 @@ impl LineText {
         LineText { text }
     }
 
-    /// The text, which is ASCII and has at most 192 bytes.
+    /// Returns the text, which is ASCII and has at most 192 bytes.
     pub fn as_str(&self) -> &str
         ensures text { result.now ≡ self.now }
         ensures short { length result.now ≤ 192 }
@@ -43,11 +43,11 @@ impl LineText {
     }
 }
 
-/// The line of a message: its number, the letter of its type, and its fields in the order of its layout, separated by one space.
+/// Returns the line of a message: its number, the letter of its type, and its fields in the order of its layout, separated by single spaces.
 ///
-/// Integers are decimal, prices have their four decimals, texts are in square brackets without the spaces at their end,
-/// sides are `B` or `S`, and codes are lower-case hexadecimal, two digits a byte. A message of a type that is not decoded is
-/// `other`, its type in hexadecimal, and the length of its payload.
+/// Integers are decimal, prices have their four decimals, texts are in square brackets without the spaces at their end, sides are `B` or `S`,
+/// and codes are lower-case hexadecimal, two digits per byte. The line of an undecoded message has `other`, its type in hexadecimal, and the
+/// length of its payload.
 pub fn show(number: u64, message: &Message<'_>) -> LineText
     ensures { result ≡ line_of number message.now }
 {
@@ -61,7 +61,11 @@ pub fn show(number: u64, message: &Message<'_>) -> LineText
     LineText { text: line.words }
 }
 
-/// The same line as a string. The error is that memory ran out.
+/// Returns the same line as a string.
+///
+/// # Errors
+///
+/// `AllocError` if memory runs out.
 pub fn line<A: Allocator>(
     alloc: A,
     number: u64,
@@ -72,7 +76,7 @@ pub fn line<A: Allocator>(
     String::from_str(alloc, show(number, message).as_str())
 }
 
-// A line as it is built.
+// A line under construction.
 #[derive(Drop)]
 struct PlainLine {
     words: Words,

@@ -2,7 +2,7 @@
 ghost use Rattle.std.specs.Prelude.{◌≡◌, option_map};
 ghost use Rattle.itch_codec.specs.Layouts.{layout_of};
 
-/// How many bytes a message with this first byte has, if that is a type of the table.
+/// Returns the length in bytes of a message with this first byte, if it is a type of the table.
 pub(crate) fn size_of_type(kind: u8) -> Option<usize>
     ensures { result ≡ option_map (λ layout. layout.size) (layout_of kind) }
 {

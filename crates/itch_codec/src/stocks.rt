@@ -1,4 +1,4 @@
-//! System events and the securities' own messages.
+//! System events, and the messages about one security.
 ghost use Rattle.std.specs.Prelude.{◌≡◌, ◌+◌, ◌≤◌, ◌∷◌, ◌++◌, length};
 ghost use Rattle.arrayvec.specs.ArrayVec.{array_vec_len};
 ghost use Rattle.itch_codec.specs.Layouts.{system_event, directory_columns, stock_directory, trading_action, reg_sho, operational_halt, participant_position};
@@ -21,7 +21,7 @@ use crate::text::Alpha;
 #[derive(Clone, Copy, Debug, PartialEq, Eq)]
 pub struct SystemEvent {
     pub header: Header,
-    /// The event of the day, such as `O` for the start of messages. Any byte.
+    /// The event of the day, such as `O` for the start of messages. It may be any byte.
     pub code: u8,
 }
 
@@ -58,7 +58,7 @@ impl SystemEvent {
     }
 }
 
-/// What the directory says about a security: the fields of a Stock Directory message after its header.
+/// The directory entry of a security: the fields of a Stock Directory message after its header.
 ///
 /// The code fields may hold any byte.
 #[derive(Clone, Copy, Debug, PartialEq, Eq)]
@@ -126,7 +126,7 @@ impl Directory {
         put_code(out, self.inverse_indicator);
     }
 
-    // The fields of an entry.
+    // Writes the fields of an entry to a sink.
     #[tactic(auto, using(crate::proofs::Joining::joining), unfolding(crate::specs::Shown::fields, crate::specs::Rooms::most_fields))]
     fn write<S: FieldSink>(&self, sink: &mut S)
         requires room { S.len sink.old + most_fields S.most directory_keys directory_columns ≤ S.capacity }
@@ -207,11 +207,11 @@ impl StockDirectory {
 pub struct TradingAction {
     pub header: Header,
     pub stock: Alpha<8>,
-    /// The trading state, such as `T` for trading. Any byte.
+    /// The trading state, such as `T` for trading. It may be any byte.
     pub state: u8,
-    /// The reserved byte. Any byte.
+    /// The reserved byte. It may be any byte.
     pub reserved: u8,
-    /// The reason for the state. Any bytes.
+    /// The reason for the state. It may be any four bytes.
     pub reason: [u8; 4],
 }
 
@@ -262,7 +262,7 @@ impl TradingAction {
 pub struct RegSho {
     pub header: Header,
     pub stock: Alpha<8>,
-    /// The restriction in force, such as `0` for none. Any byte.
+    /// The restriction in force, such as `0` for none. It may be any byte.
     pub action: u8,
 }
 
@@ -307,9 +307,9 @@ impl RegSho {
 pub struct OperationalHalt {
     pub header: Header,
     pub stock: Alpha<8>,
-    /// The market that is halted or trades again, such as `Q` for Nasdaq. Any byte.
+    /// The market center that is halted or trades again, such as `Q` for Nasdaq. It may be any byte.
     pub market_code: u8,
-    /// `H` for halted, `T` for trading again. Any byte.
+    /// `H` for halted, `T` for trading again. It may be any byte.
     pub action: u8,
 }
 
@@ -360,9 +360,9 @@ pub struct ParticipantPosition {
     pub stock: Alpha<8>,
     /// Whether the participant is a primary market maker: `Y`, `N` or any other byte.
     pub primary_market_maker: u8,
-    /// The market maker's mode, such as `N` for normal. Any byte.
+    /// The market maker's mode, such as `N` for normal. It may be any byte.
     pub mode: u8,
-    /// The participant's state, such as `A` for active. Any byte.
+    /// The participant's state, such as `A` for active. It may be any byte.
     pub state: u8,
 }
 

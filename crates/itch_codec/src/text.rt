@@ -9,7 +9,7 @@ use thiserror::Error;
 
 /// A text of `N` printable characters, left-justified and padded on the right with spaces.
 ///
-/// Equality, order and hash are those of the bytes.
+/// Equality, order and hash are those of its bytes.
 #[derive(Clone, Copy, Debug, PartialEq, Eq, PartialOrd, Ord, Hash)]
 pub struct Alpha<const N: usize> {
     bytes: [u8; N],
@@ -25,13 +25,13 @@ impl<const N: usize> Model for Alpha<N> {
     ghost inverse = { λ bytes. record { bytes = bytes } };
 }
 
-/// Why a text was not accepted.
+/// The reason why a text was not accepted.
 #[derive(Clone, Copy, Debug, PartialEq, Eq, Error)]
 pub enum AlphaFault {
     /// The text has more bytes than the field.
     #[error("the text is too long")]
     TooLong,
-    /// The byte at this place, counted from 0, is not printable.
+    /// The byte at this position, counted from 0, is not printable.
     #[error("byte {at} is not printable")]
     NotPrintable { at: usize },
 }
@@ -41,7 +41,9 @@ impl<const N: usize> Alpha<N> {
 
     /// Pads `text` on the right with spaces.
     ///
-    /// A text that is too long is refused for that, whatever its bytes are.
+    /// # Errors
+    ///
+    /// `TooLong` if the text has more than `N` bytes, and otherwise `NotPrintable` if one of its bytes is not printable.
     pub fn from_text(text: &str) -> Result<Alpha<N>, AlphaFault>
         ensures taken { IfOk result (λ alpha. alpha ≡ padded_to N text.now) }
         ensures accepts { IsOk result ↔ ((length text.now ≤ N) × IsPrintable text.now) }
@@ -59,7 +61,11 @@ impl<const N: usize> Alpha<N> {
         })
     }
 
-    /// Takes bytes that are all printable. Otherwise the first that is not is the fault.
+    /// Creates a text from its bytes, with its padding.
+    ///
+    /// # Errors
+    ///
+    /// `NotPrintable` with the position of the first byte that is not printable.
     pub fn from_bytes(bytes: &[u8; N]) -> Result<Alpha<N>, AlphaFault>
         ensures taken { IfOk result (λ alpha. alpha ≡ bytes.now) }
         ensures accepts { IsOk result ↔ IsPrintable bytes.now }
@@ -71,7 +77,7 @@ impl<const N: usize> Alpha<N> {
         }
     }
 
-    /// The text of printable bytes.
+    /// Creates a text from printable bytes.
     #[inline(always)]
     pub(crate) fn known(bytes: [u8; N]) -> Alpha<N>
         requires { IsPrintable bytes }
@@ -80,7 +86,7 @@ impl<const N: usize> Alpha<N> {
         Alpha { bytes }
     }
 
-    // The text of these bytes, or the place of the first that is not printable.
+    // Returns the text of these bytes, or the position of the first byte that is not printable.
     pub(crate) fn checked(bytes: [u8; N]) -> Result<Alpha<N>, usize>
         ensures taken { IfOk result (λ alpha. alpha ≡ bytes.entry) }
         ensures accepts { IsOk result ↔ IsPrintable bytes.entry }
@@ -94,7 +100,7 @@ impl<const N: usize> Alpha<N> {
         }
     }
 
-    /// The characters without the spaces at the end.
+    /// Returns the characters without the spaces at the end.
     #[tactic(auto, using(crate::proofs::Trimming::texts))]
     pub fn text(&self) -> &str
         ensures text { IsTextOf self.now result.now }
@@ -105,7 +111,7 @@ impl<const N: usize> Alpha<N> {
         str::from_utf8(trimmed(&self.bytes)).unwrap()
     }
 
-    /// The characters with the spaces after them.
+    /// Returns the characters and the spaces after them.
     pub fn bytes(&self) -> &[u8; N]
         ensures bytes { result.now ≡ self.now }
         ensures printable { IsPrintable self.now }
@@ -114,7 +120,7 @@ impl<const N: usize> Alpha<N> {
         &self.bytes
     }
 
-    /// Does nothing at run time. It tells a proof that there are `N` characters, and that all are printable.
+    /// Does nothing at run time. It states for a proof that there are `N` characters, and that all are printable.
     pub fn recall_invariant(&self)
         ensures printable { IsPrintable self.now }
         ensures width { length self.now ≡ N }
@@ -123,7 +129,7 @@ impl<const N: usize> Alpha<N> {
     }
 }
 
-/// Whether all bytes are printable. It looks at each, so that a processor compares several at once.
+/// Returns whether all bytes are printable. It looks at every byte, so that the processor compares several at once.
 #[inline(always)]
 pub(crate) fn are_printable(bytes: &[u8]) -> bool
     ensures { (result ≡ true) ↔ IsPrintable bytes.now }
@@ -142,7 +148,7 @@ fn is_printable(byte: u8) -> bool
     byte >= b' ' && byte <= b'~'
 }
 
-/// The place of the first byte that is not printable.
+/// Returns the position of the first byte that is not printable.
 #[tactic(auto, using(crate::proofs::Texts::printing), unfolding(crate::specs::Text::first_unprintable))]
 pub(crate) fn unprintable(bytes: &[u8]) -> Option<usize>
     ensures place { result ≡ first_unprintable bytes.now }
@@ -152,7 +158,7 @@ pub(crate) fn unprintable(bytes: &[u8]) -> Option<usize>
     bytes.iter().position(|byte| *byte < b' ' || *byte > b'~')
 }
 
-// The text, with spaces after it.
+// Returns the text with spaces after it.
 fn padded<const N: usize>(text: &[u8]) -> [u8; N]
     requires { length text.now ≤ N }
     ensures { result ≡ padded_to N text.now }
@@ -162,7 +168,7 @@ fn padded<const N: usize>(text: &[u8]) -> [u8; N]
     bytes
 }
 
-// The bytes without the spaces at the end.
+// Returns the bytes without the spaces at the end.
 #[tactic(auto, using(crate::proofs::Texts::trimming))]
 fn trimmed(bytes: &[u8]) -> &[u8]
     requires { IsPrintable bytes.now }
@@ -173,7 +179,7 @@ fn trimmed(bytes: &[u8]) -> &[u8]
     &bytes[..text_len(bytes)]
 }
 
-// How many bytes come before the spaces at the end.
+// Returns the number of bytes before the spaces at the end.
 fn text_len(bytes: &[u8]) -> usize
     ensures within { result ≤ length bytes.now }
     ensures spaces { (k : ℕ) → result ≤ k → k < length bytes.now → slice_index bytes.now k ≡ 32 }

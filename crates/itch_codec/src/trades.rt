@@ -1,4 +1,4 @@
-//! The messages about trades, which change no order.
+//! The messages about trades, which do not change orders.
 ghost use Rattle.std.specs.Prelude.{◌≡◌, ◌+◌, ◌≤◌, ◌∷◌, ◌++◌, length};
 ghost use Rattle.itch_codec.specs.Layouts.{trade, cross_trade, broken_trade};
 ghost use Rattle.itch_codec.specs.Fields.{HasAll, joined, first_fault, Reads};
@@ -89,7 +89,7 @@ pub struct CrossTrade {
     /// The price of the cross with four implied decimals.
     pub price: u32,
     pub match_number: u64,
-    /// The kind of cross. Any byte.
+    /// The kind of cross. It may be any byte.
     pub cross_type: u8,
 }
 

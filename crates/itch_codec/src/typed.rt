@@ -1,4 +1,4 @@
-//! Messages of one type from payloads, for a caller who knows which type it wants.
+//! Decodes a payload as a message of one type, for a caller who knows the type.
 ghost use Rattle.std.specs.Prelude.{◌≡◌, ◌<◌, ◌↔◌, IsTrue, length};
 ghost use Rattle.itch_codec.specs.declared.message.Message.TheVariants as is;
 ghost use Rattle.itch_codec.specs.Numbers.{byte_at};
@@ -9,7 +9,7 @@ use crate::orders::{
     OrderReplace,
 };
 
-// Whether a payload has this first byte and this length.
+// Returns whether a payload has this first byte and this length.
 #[inline(always)]
 fn has_type(payload: &[u8], kind: u8, size: usize) -> bool
     requires { 0 < size }
@@ -19,7 +19,7 @@ fn has_type(payload: &[u8], kind: u8, size: usize) -> bool
 }
 
 impl AddOrder {
-    /// The message that a payload spells, if that is an Add Order without attribution.
+    /// Returns the message of a payload, if it is a valid Add Order without attribution.
     #[inline(always)]
     pub fn from_payload(payload: &[u8]) -> Option<AddOrder>
         ensures { IsTyped is.AddOrder payload.now result }
@@ -35,7 +35,7 @@ impl AddOrder {
 }
 
 impl AttributedAddOrder {
-    /// The message that a payload spells, if that is an Add Order with attribution.
+    /// Returns the message of a payload, if it is a valid Add Order with attribution.
     #[inline(always)]
     pub fn from_payload(payload: &[u8]) -> Option<AttributedAddOrder>
         ensures { IsTyped is.AttributedAddOrder payload.now result }
@@ -51,7 +51,7 @@ impl AttributedAddOrder {
 }
 
 impl OrderExecuted {
-    /// The message that a payload spells, if that is an Order Executed.
+    /// Returns the message of a payload, if it is a valid Order Executed.
     #[inline(always)]
     pub fn from_payload(payload: &[u8]) -> Option<OrderExecuted>
         ensures { IsTyped is.OrderExecuted payload.now result }
@@ -64,7 +64,7 @@ impl OrderExecuted {
 }
 
 impl OrderExecutedWithPrice {
-    /// The message that a payload spells, if that is an Order Executed With Price.
+    /// Returns the message of a payload, if it is a valid Order Executed With Price.
     #[inline(always)]
     pub fn from_payload(payload: &[u8]) -> Option<OrderExecutedWithPrice>
         ensures { IsTyped is.OrderExecutedWithPrice payload.now result }
@@ -77,7 +77,7 @@ impl OrderExecutedWithPrice {
 }
 
 impl OrderCancel {
-    /// The message that a payload spells, if that is an Order Cancel.
+    /// Returns the message of a payload, if it is a valid Order Cancel.
     #[inline(always)]
     pub fn from_payload(payload: &[u8]) -> Option<OrderCancel>
         ensures { IsTyped is.OrderCancel payload.now result }
@@ -90,7 +90,7 @@ impl OrderCancel {
 }
 
 impl OrderDelete {
-    /// The message that a payload spells, if that is an Order Delete.
+    /// Returns the message of a payload, if it is a valid Order Delete.
     #[inline(always)]
     pub fn from_payload(payload: &[u8]) -> Option<OrderDelete>
         ensures { IsTyped is.OrderDelete payload.now result }
@@ -103,7 +103,7 @@ impl OrderDelete {
 }
 
 impl OrderReplace {
-    /// The message that a payload spells, if that is an Order Replace.
+    /// Returns the message of a payload, if it is a valid Order Replace.
     #[inline(always)]
     pub fn from_payload(payload: &[u8]) -> Option<OrderReplace>
         ensures { IsTyped is.OrderReplace payload.now result }

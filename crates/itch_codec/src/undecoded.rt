@@ -11,7 +11,7 @@ use crate::sink::{Field, FieldSink};
 use crate::sizes::size_of_type;
 use std::marker::Model;
 
-/// A message of a type that is not decoded: a payload that is not empty, and whose first byte is not a type of the table.
+/// A message of a type that is not decoded: a non-empty payload whose first byte is not a type of the table.
 #[derive(Debug, Drop)]
 pub struct Undecoded<'a> {
     payload: &'a [u8],
@@ -31,7 +31,7 @@ impl<'a> Undecoded<'a> {
     ghost use Rattle.itch_codec.specs.Rooms.{most_as};
     ghost use Rattle.itch_codec.specs.Shown.{shown_as};
 
-    /// The payload as a message that is not decoded, if it is not empty and its first byte is not a type of the table.
+    /// Returns the payload as an undecoded message, if it is not empty and its first byte is not a type of the table.
     pub fn new(payload: &'a [u8]) -> Option<Undecoded<'a>>
         ensures accepts { IsSome result ↔ IsUndecoded payload.entry.now }
         ensures payload { IfSome result (λ message. message ≡ payload.entry.now) }
@@ -49,14 +49,14 @@ impl<'a> Undecoded<'a> {
         Undecoded { payload }
     }
 
-    /// The first byte of the payload, which is the message's type.
+    /// Returns the first byte of the payload, which is the message type.
     pub fn kind(&self) -> u8
         ensures { result ≡ byte_at 0 self.now }
     {
         self.payload[0]
     }
 
-    /// The whole message.
+    /// Returns the complete payload.
     pub fn payload(&self) -> &'a [u8]
         ensures payload { result.now ≡ self.now }
         ensures undecoded { IsUndecoded self.now }

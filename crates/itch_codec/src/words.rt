@@ -1,4 +1,4 @@
-//! Words of a line that shows a message: one writer for each class of field, which puts a space before it.
+//! Writes the words of a line for a message. Each class of field has one writer, which puts a space before the word.
 ghost use Rattle.std.specs.Prelude.{◌≡◌, ◌+◌, ◌*◌, ◌≤◌, [], ◌∷◌, ◌++◌, length};
 ghost use Rattle.arrayvec.specs.ArrayString.{array_string_len};
 ghost use Rattle.itch_codec.specs.Fields.{Number, Bytes, TheSide};
@@ -10,7 +10,7 @@ use crate::pieces::{push_hex, push_number, push_price};
 use crate::text::Alpha;
 use arrayvec::ArrayString;
 
-/// The text of a line as it is built. The longest has 168 bytes: that of a stock directory message with names.
+/// The text of a line under construction. The longest line, for a Stock Directory message with names, has 168 bytes.
 pub(crate) type Words = ArrayString<192>;
 
 /// Appends a space and a number in decimal digits.
@@ -35,7 +35,7 @@ pub(crate) fn show_price(line: &mut Words, price: u32)
     push_price(line, price);
 }
 
-/// Appends a space, and a text in square brackets without the spaces at its end.
+/// Appends a space and a text in square brackets, without the spaces at its end.
 #[tactic(auto, unfolding(crate::specs::Lines::word))]
 pub(crate) fn show_text<const N: usize>(line: &mut Words, text: &Alpha<N>)
     requires { array_string_len line.old + N ≤ 189 }
@@ -60,7 +60,7 @@ pub(crate) fn show_side(line: &mut Words, side: Side)
     });
 }
 
-/// Appends a space and a byte in hexadecimal digits.
+/// Appends a space and a byte as two hexadecimal digits.
 #[tactic(auto, unfolding(crate::specs::Lines::word, crate::specs::Lines::hex))]
 pub(crate) fn show_code(line: &mut Words, byte: u8)
     requires { array_string_len line.old ≤ 189 }
@@ -71,7 +71,7 @@ pub(crate) fn show_code(line: &mut Words, byte: u8)
     push_hex(line, byte);
 }
 
-/// Appends a space and bytes in hexadecimal digits.
+/// Appends a space and bytes as hexadecimal digits.
 #[tactic(auto, unfolding(crate::specs::Lines::word))]
 pub(crate) fn show_codes(line: &mut Words, bytes: &[u8])
     requires { array_string_len line.old + 2 * length bytes.now ≤ 191 }

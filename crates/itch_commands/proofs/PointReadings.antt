@@ -46,7 +46,7 @@ use Rattle.itch_snapshot.proofs.Sizes.{snap_step}
 use Rattle.itch_join.proofs.Premises.{laid_empty}
 use Rattle.itch_commands.specs.Commands.{Snaps}
 use Rattle.itch_commands.specs.Outputs.{WritesOutput, snapshot_in}
-use Rattle.itch_commands.specs.Points.{IsRead, ReadsMore, ReadsOn, Stands, begun}
+use Rattle.itch_commands.specs.Points.{IsRead, ReadsMore, ReadsOn, ReadsUntil, Stands, begun, up_to}
 use Rattle.itch_commands.specs.Readings.{CountsRead, FromBlocks, LeavesDay, ReadsDay, ReadsMarket, stopped}
 use Rattle.itch_commands.specs.declared.fault.Source.{Source}
 use Rattle.itch_commands.specs.declared.fault.Source.TheVariants.{Only}
@@ -261,6 +261,31 @@ module _ {R : Type 0} (remaining : R → Option (List ℕ)) (failures : R → Fa
       let limit : Limit = record { after = Some 0; until = until } in
       subst (λ (x : Content). Stands remaining failures limit r r (record { sink = x; mark = mark }) part.Full) (sym none)
       (subst (λ (k : Mark). Stands remaining failures limit r r (record { sink = empty; mark = k }) part.Full) (sym beginning) (none_stands until r))
+
+  module _ (time : ℕ) (first now : Reading R) (marked : Marked Content) (few : marked.mark.count ≤ 10 ^ 19 - 1) where
+    -- a message at the time or later follows
+    pub late_there : (stop : Part Refused) → Stands remaining failures (up_to time) first now marked stop → reason_of stop ≡ None
+        → ReadsUntil remaining failures time first now (Ok true) marked
+    late_there part.Late stands none = (stands, (all_on (up_to time) first now marked few part.Late stands none).1)
+    late_there part.Full stands none = absurd (cc stands.stops.1.1)
+    late_there part.End stands is = absurd (cc)
+    late_there (part.Frame f) stands is = absurd (cc)
+    late_there part.TooMany stands is = absurd (cc)
+    late_there (part.Refused (refused.Codec f)) stands same = absurd (cc)
+    late_there (part.Refused (refused.Rule why)) stands same = absurd (cc)
+
+    module _ (stop : Part Refused) (stands : Stands remaining failures (up_to time) first now marked stop) (why : Stop) (is : reason_of stop ≡ Some why) (count : ℕ) (same : count ≡ marked.mark.count) where
+      -- or the file ended
+      pub ended_there : (k : ℕ) → stopped why None Only count ≡ Ok k → ReadsUntil remaining failures time first now (Ok false) marked
+      ended_there k returns =
+          let (at, whole) = stopped_end why None Only count k returns in
+          let ended = subst (λ s. Stands remaining failures (up_to time) first now marked s) (at_end stop (is ∙ ap Some at)) stands in
+          (ended, whole_on (up_to time) first now marked few ended refl)
+
+      -- or a message was refused
+      pub refused_there : (fault : ToolFault) → stopped why None Only count ≡ Err fault → ReadsUntil remaining failures time first now (Err fault) marked
+      refused_there fault returns =
+          (stop, refused_on (up_to time) first now marked few stop stands why fault is (subst (λ k. stopped why None Only k ≡ Err fault) same returns))
 
   module _ (most : ℕ) (first now : Reading R) (marked : Marked Content) (few : marked.mark.count ≤ 10 ^ 19 - 1) where
     -- as many more as requested were read

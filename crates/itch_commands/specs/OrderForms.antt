@@ -1,5 +1,5 @@
 -- The line of a message with the order behind it, in each form.
-use Rattle.std.specs.Prelude.{ℕ, ◌-◌, ◌/◌, ◌%◌, ◌||◌, List, [], ◌∷◌, ◌++◌, length, take, codes, decimal, Option, None, Some, if◌then◌else◌}
+use Rattle.std.specs.Prelude.{ℕ, ◌-◌, ◌/◌, ◌%◌, List, [], ◌∷◌, ◌++◌, length, take, codes, decimal, Option, None, Some, if◌then◌else◌}
 use Rattle.itch_codec.specs.Clock.{clock}
 use Rattle.itch_codec.specs.Fields.{side_byte}
 use Rattle.itch_codec.specs.Headers.{header, kind_of}

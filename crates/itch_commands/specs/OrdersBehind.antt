@@ -6,7 +6,7 @@ use Rattle.itch_book.specs.Orders as book
 use Rattle.itch_codec.specs.Messages.{message_of}
 use Rattle.itch_codec.specs.declared.message.Message.{Message}
 use Rattle.itch_codec.specs.declared.message.Message.TheVariants as is
-use Rattle.itch_market.specs.Content.{Content, Listing, empty, laid}
+use Rattle.itch_market.specs.Content.{Content, Listing, empty}
 use Rattle.itch_market.specs.Effects.{effect}
 use Rattle.itch_market.specs.Runs.{run}
 use Rattle.itch_commands.specs.Choices.{Chosen, chosen_after, chosen_past, is_chosen}

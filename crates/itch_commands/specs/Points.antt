@@ -11,7 +11,7 @@ use Rattle.itch_day.specs.declared.limit.Limit.{Limit}
 use Rattle.itch_day.specs.declared.mark.Mark.{Mark}
 use Rattle.itch_day.specs.declared.marked.Marked.{Marked}
 use Rattle.itch_day.specs.declared.stop.Stop.{Stop}
-use Rattle.itch_day.specs.declared.stop.Stop.TheVariants.{End}
+use Rattle.itch_day.specs.declared.stop.Stop.TheVariants.{End, Late}
 use Rattle.itch_market.specs.Content.{Content, empty, laid}
 use Rattle.itch_market.specs.Replays.{Fits}
 use Rattle.itch_market.specs.Runs.{run}
@@ -23,6 +23,10 @@ use Rattle.itch_commands.specs.declared.fault.Source.{Source}
 use Rattle.itch_commands.specs.declared.fault.Source.TheVariants.{Only}
 use Rattle.itch_commands.specs.declared.fault.ToolFault.{ToolFault}
 use Rattle.itch_commands.specs.declared.fault.ToolFault.TheVariants as tool
+
+-- the messages before the first at a time or later
+abbrev pub up_to : ℕ → Limit
+up_to time = record { after = None; until = Some time }
 
 -- the market and the mark at the beginning of a day
 abbrev pub begun : Marked Content
@@ -62,3 +66,13 @@ module _ {R : Type 0} (remaining : R → Option (List ℕ)) (failures : R → Fa
       (marked.mark.count < most) × Stands (counted None) first now marked End × IsRead (counted None) first (left_by {F = Refused} End now) marked.sink marked.mark
   ReadsMore most first now (Err fault) marked =
       (stop : Stop Refused) × ReadsDay remaining failures Only (counted (Some most)) first (left_by stop now) (Err fault)
+
+  -- The outcome of reading on up to a time: that of one reading of that part. A message at this time or later follows (true), or the whole
+  -- file was read (false).
+  abbrev pub ReadsUntil : ℕ → Reading R → Reading R → Result Bool ToolFault → Marked Content → Type 0
+  ReadsUntil time first now (Ok true) marked =
+      Stands (up_to time) first now marked Late × IsRead (up_to time) first (left_by {F = Refused} Late now) marked.sink marked.mark
+  ReadsUntil time first now (Ok false) marked =
+      Stands (up_to time) first now marked End × IsRead (up_to time) first (left_by {F = Refused} End now) marked.sink marked.mark
+  ReadsUntil time first now (Err fault) marked =
+      (stop : Stop Refused) × ReadsDay remaining failures Only (up_to time) first (left_by stop now) (Err fault)

@@ -1,5 +1,5 @@
 -- The comma-separated values of messages of one type: a line with the names of the columns, and a row for each message (RFC 4180).
-use Rattle.std.specs.Prelude.{ℕ, ◌/◌, ◌%◌, ◌==◌, ◌||◌, List, [], ◌∷◌, ◌++◌, codes, decimal, length, Option, None, Some, if◌then◌else◌}
+use Rattle.std.specs.Prelude.{ℕ, ◌/◌, ◌%◌, ◌==◌, List, [], ◌∷◌, ◌++◌, codes, decimal, length, Option, None, Some, if◌then◌else◌}
 use Rattle.std.specs.List.{flat_map}
 use Rattle.itch_codec.specs.Clock.{clock, is_timestamp}
 use Rattle.itch_codec.specs.Fields.{Value, Number, Bytes, TheSide, side_byte}

@@ -13,8 +13,7 @@ mod one;
 mod rows;
 mod stocks;
 
-use crate::book::listed::{all_listed, write_books};
-use crate::book::rows::Rows;
+use crate::book::listed::write_books;
 use crate::fault::{Source, ToolFault};
 use crate::form::BookForm;
 use crate::kind::{FileKind, file_market};
@@ -23,7 +22,9 @@ use itch_book::OrderBook;
 use itch_codec::{Seq, Side};
 use itch_frame::{BlockReader, CountedRead, CountedWrite};
 use itch_market::{LocateSet, Market};
+pub use listed::{all_listed, is_wanted};
 pub use one::book;
+pub use rows::Rows;
 use std::alloc::Allocator;
 pub use stocks::book_stocks;
 
@@ -86,8 +87,8 @@ fn write_side<B: OrderBook, W: CountedWrite>(
     Ok(())
 }
 
-// Returns the price after this one, unless no more are requested.
-fn next_wanted<B: OrderBook>(
+/// Returns the price after this one, unless no more are requested.
+pub fn next_wanted<B: OrderBook>(
     book: &B,
     locate: u16,
     left: Option<u64>,
@@ -102,7 +103,8 @@ fn next_wanted<B: OrderBook>(
     }
 }
 
-fn one_fewer(left: Option<u64>) -> Option<u64>
+/// Returns the number of prices that are still requested after one more.
+pub fn one_fewer(left: Option<u64>) -> Option<u64>
     ensures { result ≡ option_map (λ more. more - 1) left }
 {
     match left {

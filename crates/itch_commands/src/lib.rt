@@ -53,6 +53,7 @@ pub use filters::Filters;
 pub use form::{BookForm, Form, OrderForm, ShowForm};
 pub use itch_day::Limit;
 pub use kind::{FileKind, file_market};
+pub use line::Line;
 pub use locates::{insert_locates, list_file, read_locates};
 pub use order_book::Book;
 pub use performing::{perform, perform_pair};

@@ -1,4 +1,4 @@
--- Messages that are taken together from the bytes at hand.
+-- Messages taken together from the bytes in memory.
 use Rattle.std.proofs.Common.{◌≡◌, ℕ, ◌+◌, ◌<◌, ◌≤◌, ◌⊎◌, inl, inr, List, [], ◌∷◌, ◌++◌, length, Option, None, Some, refl, sym, ap, subst, ◌∙◌, arith, append_assoc, length-append, min, ◌-◌, ◌^◌, IfSome}
 use Rattle.std.specs.List.{AllByRecursion}
 use Rattle.std.specs.Io.KnownBytes.{Consumes}
@@ -14,19 +14,19 @@ use Rattle.itch_day.specs.Parts.{TakesSome}
 use Rattle.itch_frame.proofs.BlockLemmas.{blocks-push, each-push}
 use Rattle.itch_day.proofs.Progress.{takes_push}
 
--- where the part ends at no time, nothing is late
+-- without a time where the part ends, no message is late
 never_late : (limit : Limit) (ps : List (List ℕ)) → limit.until ≡ None → AllByRecursion (IsNotLate limit) ps
 never_late limit [] never = tt
 never_late limit (p ∷ ps) never = (λ late. absurd (let is = rw never at late.1 in cc), never_late limit ps never)
 
--- no more than may come are no more than are wanted
+-- no more messages than possible are no more than requested
 within_most : (limit : Limit) (count : ℕ) → count ≤ most_of limit.after → IsWithin limit count
 within_most limit count few = by_after limit.after few where
   by_after : (after : Option ℕ) → count ≤ most_of after → IsWithin (record { after = after; until = limit.until }) count
   by_after None few = tt
   by_after (Some most) few = few
 
--- blocks have bytes
+-- blocks contain bytes
 some_bytes : (ps : List (List ℕ)) (bytes : List ℕ) → bytes ≡ blocks ps → 0 < length ps → 0 < length bytes
 some_bytes [] bytes whole some = absurd (omega (arith, some))
 some_bytes (p ∷ ps) bytes whole some = omega (arith, ap length whole)
@@ -58,16 +58,16 @@ module _ {R T : Type 0} (remaining : R → Option (List ℕ)) (failures : R → 
         uncounted = uncounted;
       }
 
--- bytes of no length
+-- bytes of length 0
 no_length : (bytes : List ℕ) → length bytes ≡ 0 → bytes ≡ []
 no_length [] none = refl
 no_length (b ∷ bytes) none = absurd (omega (arith, none))
 
--- no block more
+-- no more blocks
 pub no_more_blocks : {T : Type 0} (takes : T → ℕ → List ℕ → T → Type 0) (before : ℕ) (t : T) → TakesBlocks takes before before t t []
 no_more_blocks takes before t = record { payloads = []; whole = refl; full = tt; taken = refl; counted = omega arith }
 
--- one block more
+-- one more block
 pub block_more : {T : Type 0} (takes : T → ℕ → List ℕ → T → Type 0) (before count : ℕ) (t u v : T) (bytes rest after : List ℕ)
     → (front : List ℕ) × ((bytes ≡ front ++ rest) × TakesBlocks takes before count t u front)
     → (payload : List ℕ) × (IsFull payload × (rest ≡ block payload ++ after) × takes u (count + 1) payload v)
@@ -87,18 +87,18 @@ block_more takes before count t u v bytes rest after (front, (whole, batch)) (p,
       ),
     )
 
--- fewer messages than are wanted are no more than may come
+-- fewer messages than requested are no more than possible
 pub below_bound : (after : Option ℕ) (count bound : ℕ) → IfSome after (λ most. count < most) → count ≤ 10 ^ 19 - 1 → bound ≡ min (most_of after) (10 ^ 19 - 1) → count ≤ bound
 below_bound None count bound before few is = omega (arith, few, is)
 below_bound (Some most) count bound before few is = omega (arith, before, few, is)
 
 module _ {R T B : Type 0} (remaining : R → Option (List ℕ)) (failures : R → Failures) (takes : T → ℕ → List ℕ → T → Type 0) (is_ready : T → ℕ → Type 0) (limit : Limit)
     (sink : B → T) (name count bound : B → ℕ) where
-  -- what such a batch does with bytes
+  -- the effect of a batch on bytes
   abbrev Uses : B → List ℕ → B → Type 0
   Uses b bytes c = (name c ≡ name b) × TakesBlocks takes (count b) (count c) (sink b) (sink c) bytes × is_ready (sink c) (count c + 1) × (count c ≤ bound b)
 
-  -- what comes of the bytes at hand that are offered to a batch
+  -- the effect of offering the bytes in memory to a batch
   pub offered : (old new : Reading R) (n : ℕ) (b c : B) → Offers (bytes_left remaining) Uses old n new b c → limit.until ≡ None → (0 < n → (old.stage ≡ Given) × (new.stage ≡ Given) × (new.held ≡ []))
       → failures new.reader ≡ failures old.reader → is_ready (sink b) (count b + 1) → count b ≤ bound b → bound b ≤ most_of limit.after
       → (name c ≡ name b) × TakesSome remaining failures takes limit old new (count b) (count c) (sink b) (sink c) × is_ready (sink c) (count c + 1) × (count c ≤ bound b)

@@ -1,4 +1,4 @@
--- Two parts of a day that are read one after the other are one part.
+-- Two parts of a day, read one after another, are one part.
 use Rattle.std.proofs.Common.{◌≡◌, ◌≢◌, ℕ, ◌+◌, ◌<◌, ◌≤◌, nat_le, true, List, [], ◌∷◌, ◌++◌, length, zero, suc, ◌⊎◌, inl, inr, Option, None, Some, refl, sym, ap, subst, ◌∙◌, arith, length-append}
 use Rattle.std.specs.List.{AllByRecursion}
 use Rattle.std.specs.Io.KnownBytes.{Consumes}
@@ -27,20 +27,20 @@ from_earlier : (before until : ℕ) (time : Option ℕ) → before ≤ until →
 from_earlier before until None later late = cc
 from_earlier before until (Some time) later late = le_earlier before until time later late
 
--- a payload that is late at a later time is late at an earlier one
+-- a payload that is late for a later time is late for an earlier one
 later_late : (before until : Option ℕ) (payload : List ℕ) → IsNoEarlier before until → is_late until (message_of payload) ≡ true → is_late before (message_of payload) ≡ true
 later_late before None payload later late = cc
 later_late None (Some until) payload later late = absurd later
 later_late (Some before) (Some until) payload later late = from_earlier before until (time_of (message_of payload)) later late
 
--- payloads that are not late are not late at a later time
+-- payloads that are not late are not late for a later time
 pub still_early : (one other : Limit) (ps : List (List ℕ)) → IsNoEarlier one.until other.until → AllByRecursion (IsNotLate one) ps → AllByRecursion (IsNotLate other) ps
 still_early one other [] later early = tt
 still_early one other (p ∷ ps) later early = (λ late. early.0 (late.0, later_late one.until other.until p later late.1), still_early one other ps later early.1)
 
--- how two parts leave the reader of blocks: the second one did not stop at once where it wants no more than the first one took
+-- the reader of blocks after two parts: the second part did not stop at once if it requests no more than the first one took
 module _ {R F : Type 0} (old mid new : Reading R) (first : Stop F) (n k : ℕ) (goes_on : GoesOn first) (left : Leaves old n first mid) where
-  -- where no message comes any more, none was taken
+  -- after the end of the messages, none was taken
   first_stage : (stage : Stage) → (n ≡ 0 → mid ≡ old) → (0 < n → old.stage ≢ stage) → old.stage ≡ stage → (n ≡ 0) × (mid ≡ old)
   first_stage stage unread given is = by_count n refl where
     by_count : (count : ℕ) → count ≡ n → (n ≡ 0) × (mid ≡ old)
@@ -57,7 +57,7 @@ module _ {R F : Type 0} (old mid new : Reading R) (first : Stop F) (n k : ℕ) (
     by_stop TooMany on stays = absurd on
     by_stop (Refused why) on stays = absurd on
 
-  -- so none in the second part either
+  -- so none was taken in the second part either
   both_stage : (stage : Stage) → (old.stage ≡ stage → (n ≡ 0) × (mid ≡ old)) → (mid.stage ≡ stage → (k ≡ 0) × (new ≡ mid)) → old.stage ≡ stage → (n + k ≡ 0) × (new ≡ old)
   both_stage stage one other is =
       let (none, same) = one is in
@@ -75,7 +75,7 @@ module _ {R F : Type 0} (old mid new : Reading R) (first : Stop F) (n k : ℕ) (
       let (held, given, unended, uncut) = passes.given more in
       record { unread = λ none. absurd (omega (arith, none, more)); given = λ some. (held, given, still_not Ended first_left.0 unended, still_not Cut first_left.1 uncut) }
 
-  -- as many as are wanted were passed: the first part did not stop before, or there are more
+  -- the requested number was passed: the first part did not stop earlier, or there are more
   both_passed : (0 < k) ⊎ (first ≡ Full) → Passes mid k new → Passes old (n + k) new
   both_passed (inl more) passes = more_passed more passes
   both_passed (inr full) passes = by_count k refl where
@@ -95,7 +95,7 @@ module _ {R F : Type 0} (old mid new : Reading R) (first : Stop F) (n k : ℕ) (
   leaves_both TooMany more stays = both_left stays
   leaves_both (Refused why) more stays = both_left stays
 
--- a part after which the next one goes on failed no read
+-- no read failed in a part that another one may follow
 pub none_failed : {F : Type 0} (stop : Stop F) (old new : Failures) → GoesOn stop → Counts stop old new → new ≡ old
 none_failed Full old new on same = same
 none_failed Late old new on same = same
@@ -105,7 +105,7 @@ none_failed TooMany old new on same = absurd on
 none_failed (Refused why) old new on same = absurd on
 
 module _ {R T F : Type 0} (remaining : R → Option (List ℕ)) (failures : R → Failures) (takes : T → ℕ → List ℕ → T → Type 0) (refuses : T → ℕ → List ℕ → F → T → Type 0) (one other : Limit) where
-  -- why the first part stops, where the next one may go on, leaves the sink as it was
+  -- the stop of the first part leaves the sink unchanged, if another part may follow
   last_sink : (count : ℕ) (r : Reading R) (t u : T) (stop : Stop F) → GoesOn stop → StopsAt remaining refuses one count r t stop u → u ≡ t
   last_sink count r t u Full on stops = stops.0
   last_sink count r t u Late on stops = stops.0
@@ -114,7 +114,7 @@ module _ {R T F : Type 0} (remaining : R → Option (List ℕ)) (failures : R �
   last_sink count r t u TooMany on stops = absurd on
   last_sink count r t u (Refused why) on stops = absurd on
 
-  -- as many are wanted as were taken, so none more were, unless the first part stopped for the same reason
+  -- no more messages are requested than were taken, so none more were taken, unless the first part stopped for the same reason
   more_or_full : (count after : ℕ) (n : ℕ) (r : Reading R) (t u : T) (first second : Stop F) → (first ≡ Full) ⊎ IsBefore other count → after ≡ count + n → StopsAt remaining refuses other after r t second u
       → second ≡ Full → (0 < n) ⊎ (first ≡ Full)
   more_or_full count after n r t u first second (inl full) is stops last = inr full
@@ -124,7 +124,7 @@ module _ {R T F : Type 0} (remaining : R → Option (List ℕ)) (failures : R �
         let P : Option ℕ → Type 0 = λ a. IsBefore (record { after = a; until = other.until }) count in
         let below : count < most = subst P wanted before in omega (arith, below, within, is)
 
-  -- the two parts are what one reading of the second part does, from where the first one began
+  -- the two parts have the effect of one reading of the second part, from where the first one began
   pub joined : (old mid new : Reading R) (before mark marked : ℕ) (t u v : T) (first second : Stop F) → GoesOn first → IsNoEarlier one.until other.until → IsWithin other mark
       → (first ≡ Full) ⊎ IsBefore other mark
       → ReadsPart remaining failures takes refuses one old mid before mark t first u → ReadsPart remaining failures takes refuses other mid new mark marked u second v
@@ -156,7 +156,7 @@ module _ {R T F : Type 0} (remaining : R → Option (List ℕ)) (failures : R �
         within_both [] wanted is = subst (λ c. IsWithin other c) (let same : mark ≡ marked = omega (arith, is) in same) within
         within_both (q ∷ qs) wanted is = wanted (omega arith)
 
-  -- the same, as a caller says it
+  -- the same in the form for callers
   pub joined_to : (old mid new : Reading R) (before mark marked : ℕ) (t u v : T) (first second : Stop F) → GoesOnTo one first mark other
       → ReadsPart remaining failures takes refuses one old mid before mark t first u → ReadsPart remaining failures takes refuses other mid new mark marked u second v
       → ReadsPart remaining failures takes refuses other old new before marked t second v

@@ -1,4 +1,4 @@
--- What a mark says of the messages before it.
+-- A mark and the messages before it.
 use Rattle.std.proofs.Common.{◌≡◌, ℕ, ◌+◌, ◌-◌, ◌^◌, ◌≤◌, min, true, false, List, [], ◌∷◌, map, length, Option, None, Some, IfSome, refl, subst, ap, ◌∙◌, arith, length-append}
 use Rattle.std.specs.List.{AllByRecursion}
 use Rattle.std.proofs.lemmas.Bool.Decides.{nat_tests}
@@ -18,14 +18,14 @@ use Rattle.itch_day.specs.Marks.{IsMark, RefusesMarked, TakesMarked, first_mark,
 use Rattle.itch_day.specs.Parts.{ReadsPart, StopsAt}
 use Rattle.itch_day.specs.Sinks.{TakesAll}
 
--- if the later one of two times is before another time, both are
+-- if the later of two times is before another time, both are
 both_before : (until : ℕ) (before time : Option ℕ) → is_before (Some until) (later before time) ≡ true → (is_before (Some until) before ≡ true) × (is_from until time ≡ false)
 both_before until None None is = (refl, refl)
 both_before until None (Some time) is = (refl, grind (arith, nat_tests))
 both_before until (Some before) None is = (is, refl)
 both_before until (Some before) (Some time) is = (grind (arith, nat_tests), grind (arith, nat_tests))
 
--- so is each message, if the latest time is
+-- if the latest time is before it, so is each message
 each_early : (until : Option ℕ) (before : Option ℕ) (ps : List (List ℕ)) → is_before until (latest before (map message_of ps)) ≡ true
     → (is_before until before ≡ true) × AllByRecursion (λ p. is_late until (message_of p) ≡ false) ps
 each_early None before [] is = (refl, tt)
@@ -40,7 +40,7 @@ few_enough : (wanted : Option ℕ) (count : ℕ) → is_within wanted count ≡ 
 few_enough None count is = tt
 few_enough (Some wanted) count is = grind (arith, nat_tests)
 
--- the messages of a mark that is in a part are all of that part
+-- the messages of a mark that is in a part all belong to that part
 pub in_part : (limit : Limit) (mark : Mark) (ps : List (List ℕ)) → IsMark mark ps → is_within limit.after mark.count ≡ true → is_before limit.until mark.latest ≡ true
     → IfSome limit.after (λ most. length ps ≤ most) × AllByRecursion (IsEarly limit) ps
 in_part limit mark ps is within before = (
@@ -48,12 +48,12 @@ in_part limit mark ps is within before = (
   (each_early limit.until None ps (subst (λ t. is_before limit.until t ≡ true) is.latest before)).1,
 )
 
--- how many messages there are then
+-- the number of messages after these payloads
 pub count-mark_after : (mark : Mark) (ps : List (List ℕ)) → Mark.count (mark_after mark ps) ≡ mark.count + length ps
 count-mark_after mark [] = omega arith
 count-mark_after mark (p ∷ ps) = omega (arith, count-mark_after (mark_past mark p) ps)
 
--- how a mark goes on over payloads that spell messages
+-- a mark advances over payloads that are valid messages
 record GoesOver (mark : Mark) (ps : List (List ℕ)) (new : Mark) : Type 0 where
   pub count : new.count ≡ mark.count + length ps
   pub offset : new.offset ≡ min (mark.offset + length (blocks ps)) (2 ^ 64 - 1)
@@ -102,7 +102,7 @@ module _ {R S F : Type 0} (remaining : R → Option (List ℕ)) (failures : R �
   unmarked_stop limit count r s TooMany t (same, before, many) = ((sink_same s t same, before, many), mark_same s t same)
   unmarked_stop limit count r s (Refused why) t (before, (p, next, full, room, early, (refused, marked))) = ((before, (p, next, full, room, early, refused)), marked)
 
-  -- what reading a part does to a sink with a mark is what it does to the sink
+  -- reading a part into a sink with a mark has the effect on the sink of reading it into the sink alone
   pub unmarked : (limit : Limit) (old new : Reading R) (before count : ℕ) (s : Marked S) (stop : Stop F) (t : Marked S)
       → ReadsPart remaining failures (TakesMarked takes) (RefusesMarked refuses) limit old new before count s stop t
       → ReadsPart remaining failures takes refuses limit old new before count s.sink stop t.sink
@@ -124,7 +124,7 @@ module _ {R S F : Type 0} (remaining : R → Option (List ℕ)) (failures : R �
         counts = reads.counts;
       }
 
-  -- and the mark goes on over its payloads
+  -- and the mark advances over the payloads of the part
   pub marked_after : (limit : Limit) (old new : Reading R) (before count : ℕ) (s : Marked S) (stop : Stop F) (t : Marked S)
       → (reads : ReadsPart remaining failures (TakesMarked takes) (RefusesMarked refuses) limit old new before count s stop t) → t.mark ≡ mark_after s.mark reads.payloads
   marked_after limit old new before count s stop t reads =

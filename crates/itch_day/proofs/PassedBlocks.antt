@@ -1,4 +1,4 @@
--- What passing a block leaves of a reader of blocks, and that the block that was not taken may be passed.
+-- The reader of blocks after a block is passed. The block that was not taken may be passed.
 use Rattle.std.proofs.Common.{◌≡◌, ℕ, List, [], ◌++◌, Option, None, Some, ◌⊎◌, inl, inr, refl, sym, ap, subst, ◌∙◌}
 use Rattle.std.specs.Io.KnownBytes.{Consumes, IsAtEnd, prepend_known}
 use Rattle.itch_frame.specs.Blocks.{block}
@@ -26,7 +26,7 @@ module _ {R : Type 0} (r : Reading R) where
     by_stage Ended = refl
     by_stage Cut = refl
 
-  -- the block that is held comes off the front
+  -- the loaded block comes off the front
   pub passed_off : (remaining : R → Option (List ℕ)) (p : List ℕ) → IsNext r p → Consumes (bytes_left remaining r) (bytes_left remaining (passed r)) (block p)
   passed_off remaining p ((fits, same), going) =
       subst (λ (x : Reading R). Consumes (bytes_left remaining r) (bytes_left remaining x) (block p)) (sym (passed_going going)) (came_off (remaining r.reader)) where
@@ -40,7 +40,7 @@ module _ {R : Type 0} (r : Reading R) where
   ends_here remaining (inl (ended, none, at_end)) = inl at_end
   ends_here remaining (inr next) = inr (passed_off remaining [] next)
 
--- where no message comes any more there is no next one
+-- after the end of the messages there is no next one
 pub never_next : {R : Type 0} (old new : Reading R) (count : ℕ) (stage : Stage) → (stage ≡ Going → ⊥) → new.stage ≡ Going → (old.stage ≡ stage → (count ≡ 0) × (new ≡ old)) → old.stage ≡ stage → ⊥
 never_next old new count stage other going stays at = other (sym at ∙ sym (ap (λ (r : Reading _). r.stage) (stays at).1) ∙ going)
 
@@ -53,7 +53,7 @@ cut_not_going same = cc
 pub cut_not_ended : Cut ≡ Ended → ⊥
 cut_not_ended same = cc
 
--- what is held where a part stops is the block that was not taken
+-- the block that is loaded when a part stops is the one that was not taken
 pub stop_held : {R T F : Type 0} (remaining : R → Option (List ℕ)) (refuses : T → ℕ → List ℕ → F → T → Type 0) (limit : Limit) (new : Reading R) (count : ℕ) (last u : T) (why : Stop F)
     → StopsAt remaining refuses limit count new last why u → IsLeft why new
 stop_held remaining refuses limit new count last u part.Full stops = tt

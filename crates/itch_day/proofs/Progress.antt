@@ -1,4 +1,4 @@
--- What a reading of a part has done so far, and one block more.
+-- The effect of reading a part so far, and one more block.
 use Rattle.std.proofs.Common.{◌≡◌, ◌≢◌, ℕ, ◌+◌, ◌-◌, ◌^◌, ◌<◌, ◌≤◌, List, [], ◌∷◌, ◌++◌, length, zero, suc, Option, None, Some, Ok, Err, refl, sym, ap, subst, ◌∙◌, arith, length-append}
 use Rattle.std.proofs.KnownBytes.{Consumes-nil, Consumes-kept, Consumes-trans}
 use Rattle.std.specs.Io.KnownBytes.{Consumes}
@@ -15,26 +15,26 @@ use Rattle.itch_day.specs.Limits.{IsBefore, IsNotLate, IsWithin, most_of}
 use Rattle.itch_day.specs.Sinks.{TakesAll}
 use Rattle.itch_day.specs.Parts.{Counts, Leaves, Passes, ReadsPart, Steps, StopsAt, TakesSome}
 
--- fewer messages than may come are fewer than are wanted
+-- fewer messages than possible are fewer than requested
 pub before_most : (limit : Limit) (count : ℕ) → count < most_of limit.after → IsBefore limit count
 before_most limit count within = by_after limit.after within where
   by_after : (after : Option ℕ) → count < most_of after → IsBefore (record { after = after; until = limit.until }) count
   by_after None within = tt
   by_after (Some most) within = within
 
--- as many as may come are as many as are wanted, since no day has more
+-- the maximum number of messages is the requested number, since no day has more
 pub full_at : (wanted : Option ℕ) (count : ℕ) → most_of wanted ≤ count → count ≤ 10 ^ 19 - 1 → (most : ℕ) × (wanted ≡ Some most) × (most ≤ count)
 full_at None count all few = absurd (omega (arith, all, few))
 full_at (Some most) count all few = (most, refl, all)
 
--- one more than are fewer than are wanted
+-- one more than a number below the requested one
 pub within_more : (limit : Limit) (count more : ℕ) → IsBefore limit count → more ≡ count + 1 → IsWithin limit more
 within_more limit count more before is = by_after limit.after before where
   by_after : (after : Option ℕ) → IsBefore (record { after = after; until = limit.until }) count → IsWithin (record { after = after; until = limit.until }) more
   by_after None before = tt
   by_after (Some most) before = omega (arith, before, is)
 
--- one payload more is taken
+-- one more payload is taken
 pub takes_push : {T : Type 0} (takes : T → ℕ → List ℕ → T → Type 0) (t : T) (count : ℕ) (ps : List (List ℕ)) (u : T) (p : List ℕ) (v : T) (number : ℕ)
     → TakesAll takes t count ps u → number ≡ count + length ps + 1 → takes u number p v → TakesAll takes t count (ps ++ p ∷ []) v
 takes_push takes t count [] u p v number same is next =
@@ -43,7 +43,7 @@ takes_push takes t count [] u p v number same is next =
 takes_push takes t count (q ∷ ps) u p v number (mid, first, rest) is next =
     (mid, first, takes_push takes mid (count + 1) ps u p v number rest (omega (arith, is)) next)
 
--- what is taken in two parts is taken in one
+-- payloads taken in two parts are taken in one
 pub takes_both : {T : Type 0} (takes : T → ℕ → List ℕ → T → Type 0) (t u v : T) (count more : ℕ) (ps qs : List (List ℕ)) → TakesAll takes t count ps u → more ≡ count + length ps → TakesAll takes u more qs v
     → TakesAll takes t count (ps ++ qs) v
 takes_both takes t u v count more [] qs same is next =
@@ -52,7 +52,7 @@ takes_both takes t u v count more [] qs same is next =
 takes_both takes t u v count more (p ∷ ps) qs (mid, first, rest) is next =
     (mid, first, takes_both takes mid u v (count + 1) more ps qs rest (omega (arith, is)) next)
 
--- no more were taken than are wanted: in the last part that took some
+-- no more were taken than requested, by the last part that took some
 within_both : (limit : Limit) (mark marked : ℕ) (ps qs : List (List ℕ)) → (0 < length ps → IsWithin limit mark) → (0 < length qs → IsWithin limit marked) → marked ≡ mark + length qs
     → 0 < length (ps ++ qs) → IsWithin limit marked
 within_both limit mark marked ps [] first second is some =
@@ -61,12 +61,12 @@ within_both limit mark marked ps [] first second is some =
 within_both limit mark marked ps (q ∷ qs) first second is some = second (omega arith)
 
 module _ {R : Type 0} (old mid new : Reading R) where
-  -- a stage in which no message is given was not the first one
+  -- a stage in which no message is returned was not the first one
   not_first : (stage : Stage) (count : ℕ) → (count ≡ 0 → mid ≡ old) → (0 < count → old.stage ≢ stage) → mid.stage ≢ stage → old.stage ≢ stage
   not_first stage zero unread given is first = is (ap (λ (r : Reading R). r.stage) (unread refl) ∙ first)
   not_first stage (suc count) unread given is first = given (omega arith) first
 
-  -- one message more
+  -- one more message
   pub passes_on : (count more : ℕ) → Passes old count mid → (new.held ≡ []) × (new.stage ≡ Stage.Given) × (mid.stage ≢ Ended) × (mid.stage ≢ Cut) → more ≡ count + 1 → Passes old more new
   passes_on count more passes leaves is = record {
     unread = λ none. absurd (omega (arith, none, is));
@@ -78,7 +78,7 @@ module _ {R : Type 0} (old mid new : Reading R) where
     );
   }
 
-  -- some messages more, which may be none
+  -- some more messages, possibly none
   pub passes_both : (count more : ℕ) → Passes old count mid → Passes mid more new → Passes old (count + more) new
   passes_both count zero first second =
       let P : Reading R → Type 0 = Passes old (count + 0) in
@@ -94,7 +94,7 @@ module _ {R : Type 0} (old mid new : Reading R) where
     );
   }
 
-  -- in a stage in which no message is given, there was none before
+  -- in a stage in which no message is returned, there was none before
   still_first : (stage : Stage) (count : ℕ) → (count ≡ 0 → mid ≡ old) → (0 < count → old.stage ≢ stage) → (mid.stage ≡ stage → new ≡ mid) → old.stage ≡ stage → (count ≡ 0) × (new ≡ old)
   still_first stage zero unread given stays is = (refl, stays (ap (λ (r : Reading R). r.stage) (unread refl) ∙ is) ∙ unread refl)
   still_first stage (suc count) unread given stays is = absurd (given (omega arith) is)
@@ -105,7 +105,7 @@ module _ {R : Type 0} (old mid new : Reading R) where
     still_first Cut count passes.unread (λ some. (passes.given some).3) stays.1,
   )
 
--- a stop other than `Full` leaves the reader so
+-- the reader after a stop other than `Full`
 pub leaves_at : {R T F : Type 0} (remaining : R → Option (List ℕ)) (refuses : T → ℕ → List ℕ → F → T → Type 0) (limit : Limit) (old new : Reading R) (count : ℕ) (k : ℕ) (t u : T) (stop : Stop F)
     → IsBefore limit k → StopsAt remaining refuses limit k new t stop u
     → (old.stage ≡ Ended → (count ≡ 0) × (new ≡ old)) × (old.stage ≡ Cut → (count ≡ 0) × (new ≡ old)) → Leaves old count stop new
@@ -120,12 +120,12 @@ leaves_at remaining refuses limit old new count k t u (Frame fault) before stops
 leaves_at remaining refuses limit old new count k t u TooMany before stops stays = stays
 leaves_at remaining refuses limit old new count k t u (Refused why) before stops stays = stays
 
--- a failure that is counted after none was
+-- a counted failure after a reading without failures
 pub counts_on : {F : Type 0} (stop : Stop F) (old mid new : Failures) → mid ≡ old → Counts stop mid new → Counts stop old new
 counts_on stop old mid new same counts = subst (λ f. Counts stop f new) same counts
 
 module _ {R T F : Type 0} (remaining : R → Option (List ℕ)) (failures : R → Failures) (takes : T → ℕ → List ℕ → T → Type 0) (refuses : T → ℕ → List ℕ → F → T → Type 0) (limit : Limit) where
-  -- at first none was
+  -- no message is taken at first
   pub going_first : (r : Reading R) (mark : ℕ) (t : T) → TakesSome remaining failures takes limit r r mark mark t t
   going_first r mark t = record {
     payloads = [];
@@ -134,7 +134,7 @@ module _ {R T F : Type 0} (remaining : R → Option (List ℕ)) (failures : R �
     uncounted = refl;
   }
 
-  -- then one more
+  -- then one more is taken
   pub going_on : (old mid new : Reading R) (before mark marked : ℕ) (t u v : T) → TakesSome remaining failures takes limit old mid before mark t u → IsBefore limit mark → Steps remaining failures takes refuses limit mid new mark marked u (Ok tt) v
       → TakesSome remaining failures takes limit old new before marked t v
   going_on old mid new before mark marked t u v going few (p, off, full, (room, early, next, past), held, given, unended, uncut, uncounted) =
@@ -154,7 +154,7 @@ module _ {R T F : Type 0} (remaining : R → Option (List ℕ)) (failures : R �
         uncounted = uncounted ∙ going.uncounted;
       }
 
-  -- then some more, which may be none
+  -- then some more are taken, possibly none
   pub going_both : (old mid new : Reading R) (before mark marked : ℕ) (t u v : T) → TakesSome remaining failures takes limit old mid before mark t u
       → TakesSome remaining failures takes limit mid new mark marked u v → TakesSome remaining failures takes limit old new before marked t v
   going_both old mid new before mark marked t u v first second =
@@ -175,7 +175,7 @@ module _ {R T F : Type 0} (remaining : R → Option (List ℕ)) (failures : R �
         uncounted = second.uncounted ∙ first.uncounted;
       }
 
-  -- and there it stops
+  -- and there the part stops
   pub going_stops : (old mid new : Reading R) (before mark marked : ℕ) (t u v : T) (stop : Stop F) → TakesSome remaining failures takes limit old mid before mark t u → IsBefore limit mark
       → Steps remaining failures takes refuses limit mid new mark marked u (Err stop) v → ReadsPart remaining failures takes refuses limit old new before marked t stop v
   going_stops old mid new before mark marked t u v stop going few (same, keeps, stops, stays, counts) =
@@ -196,7 +196,7 @@ module _ {R T F : Type 0} (remaining : R → Option (List ℕ)) (failures : R �
         counts = counts_on stop (failures old.reader) (failures mid.reader) (failures new.reader) going.uncounted counts;
       }
 
-  -- or as many were taken as are wanted
+  -- or the requested number was taken
   pub going_full : (old now : Reading R) (before mark : ℕ) (t u : T) → TakesSome remaining failures takes limit old now before mark t u → most_of limit.after ≤ mark → mark ≤ 10 ^ 19 - 1
       → ReadsPart remaining failures takes refuses limit old now before mark t Full u
   going_full old now before mark t u going all few = record {

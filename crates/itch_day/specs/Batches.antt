@@ -1,4 +1,4 @@
--- Messages whose blocks lie at hand: one, and many that are taken together.
+-- Messages whose blocks are in memory: one, and many that are taken together.
 use Rattle.std.specs.Prelude.{◌≡◌, ℕ, ◌+◌, List, length, Bool, true, false, Option, Result, Ok, Err}
 use Rattle.std.specs.List.{AllByRecursion}
 use Rattle.itch_frame.specs.Blocks.{blocks, IsFull}
@@ -9,7 +9,7 @@ use Rattle.itch_day.specs.declared.not_taken.NotTaken.{NotTaken}
 use Rattle.itch_day.specs.Parts.{Steps, stop_of}
 use Rattle.itch_day.specs.Sinks.{TakesAll}
 
--- these bytes are the blocks of payloads, none of them empty, and those were taken in order, after so many others
+-- these bytes are the blocks of non-empty payloads, which were taken in order, after `before` others
 pub record TakesBlocks {T : Type 0} (takes : T → ℕ → List ℕ → T → Type 0) (before count : ℕ) (t u : T) (bytes : List ℕ) : Type 0 where
   pub payloads : List (List ℕ)
   pub whole : bytes ≡ blocks payloads
@@ -18,7 +18,7 @@ pub record TakesBlocks {T : Type 0} (takes : T → ℕ → List ℕ → T → Ty
   pub counted : count ≡ before + length payloads
 
 module _ {R T F : Type 0} (remaining : R → Option (List ℕ)) (failures : R → Failures) (takes : T → ℕ → List ℕ → T → Type 0) (refuses : T → ℕ → List ℕ → F → T → Type 0) (limit : Limit) where
-  -- what one block does that lies at hand: its payload is taken, or it stops there; where none lies at hand, nothing changes
+  -- the effect of one block in memory: its payload is taken, or the part stops there; if none is in memory, nothing changes
   abbrev pub StepsAtHand : Reading R → Reading R → ℕ → ℕ → T → Result Bool (NotTaken F) → T → Type 0
   StepsAtHand old new before count t (Ok true) u = Steps remaining failures takes refuses limit old new before count t (Ok tt) u
   StepsAtHand old new before count t (Ok false) u = (new ≡ old) × (count ≡ before) × (u ≡ t)

@@ -1,4 +1,4 @@
--- What one reading of a part of a day does.
+-- The effect of reading a part of a day.
 use Rattle.std.specs.Prelude.{◌≡◌, ◌≢◌, ℕ, ◌+◌, ◌-◌, ◌<◌, ◌≤◌, ◌^◌, ◌⊎◌, List, [], length, ⊤, Option, Some, IfSome, Result, Ok, Err}
 use Rattle.std.specs.List.{AllByRecursion}
 use Rattle.std.specs.Io.KnownBytes.{Keeps, Consumes, IsAtEnd}
@@ -20,22 +20,22 @@ use Rattle.itch_day.specs.Sinks.{TakesAll}
 abbrev pub IsNext : {R : Type 0} → Reading R → List ℕ → Type 0
 IsNext r payload = IsBlockOf payload r.held × (r.stage ≡ Going)
 
--- a failed read is counted with its error, and nothing else is
+-- a failed read is counted with its error, and nothing else is counted
 abbrev pub Counts : {F : Type 0} → Stop F → Failures → Failures → Type 0
 Counts (Frame (Read error)) old new = new ≡ failed error old
 Counts stop old new = new ≡ old
 
--- How the messages that were taken leave a reader of blocks: unread, or after the last one. Once the input has ended, there are none.
+-- The reader of blocks after the messages that were taken: unread, or after the last one. After the end of the input no messages are taken.
 pub record Passes {R : Type 0} (old : Reading R) (count : ℕ) (new : Reading R) : Type 0 where
   pub unread : count ≡ 0 → new ≡ old
   pub given : 0 < count → (new.held ≡ []) × (new.stage ≡ Given) × (old.stage ≢ Ended) × (old.stage ≢ Cut)
 
--- how a stop after so many messages leaves a reader of blocks
+-- the reader of blocks when the reading stops after this number of messages
 abbrev pub Leaves : {R F : Type 0} → Reading R → ℕ → Stop F → Reading R → Type 0
 Leaves old count Full new = Passes old count new
 Leaves old count stop new = (old.stage ≡ Ended → (count ≡ 0) × (new ≡ old)) × (old.stage ≡ Cut → (count ≡ 0) × (new ≡ old))
 
--- a part after which the next one may go on
+-- another part may follow after a part that stopped like this
 abbrev pub GoesOn : {F : Type 0} → Stop F → Type 0
 GoesOn Full = ⊤
 GoesOn Late = ⊤
@@ -44,21 +44,21 @@ GoesOn (Frame fault) = ⊥
 GoesOn TooMany = ⊥
 GoesOn (Refused why) = ⊥
 
--- A part that stopped so, after this many messages, may go on to this limit: it ends no smaller part, and wants more than were taken
--- where the message after them was looked at.
+-- After a part that stopped like this, after this number of messages, another part with this limit may follow: it ends no smaller part, and
+-- if the message after those taken was examined, it requests more messages than were taken.
 pub record GoesOnTo {F : Type 0} (before : Limit) (stop : Stop F) (count : ℕ) (limit : Limit) : Type 0 where
   pub goes_on : GoesOn stop
   pub later : IsNoEarlier before.until limit.until
   pub within : IsWithin limit count
   pub more : (stop ≡ Full) ⊎ IsBefore limit count
 
--- so it is unless a message was refused
+-- this holds unless a message was refused
 abbrev pub UnlessRefused : {F : Type 0} → Stop F → Type 0 → Type 0
 UnlessRefused (Refused why) p = ⊤
 UnlessRefused stop p = p
 
 module _ {R T F : Type 0} (remaining : R → Option (List ℕ)) (refuses : T → ℕ → List ℕ → F → T → Type 0) (limit : Limit) where
-  -- why the message after `count` others is not taken from this reader, and what that leaves of the sink
+  -- the reason why the message after `count` others is not taken from this reader, and the sink afterwards
   abbrev pub StopsAt : ℕ → Reading R → T → Stop F → T → Type 0
   StopsAt count r old Full new = (new ≡ old) × ((most : ℕ) × (limit.after ≡ Some most) × (most ≤ count))
   StopsAt count r old Late new = (new ≡ old) × IsBefore limit count × ((payload : List ℕ) × IsNext r payload × IsFull payload × (count < 10 ^ 19 - 1) × IsLate limit payload)
@@ -74,7 +74,7 @@ module _ {R T F : Type 0} (remaining : R → Option (List ℕ)) (refuses : T →
       IsBefore limit count
       × ((payload : List ℕ) × IsNext r payload × IsFull payload × (count < 10 ^ 19 - 1) × IsNotLate limit payload × refuses old (count + 1) payload why new)
 
--- why a part goes no further where a message is not taken
+-- the stop of a part for a reason why a message is not taken
 abbrev pub stop_of : {F : Type 0} → NotTaken F → Stop F
 stop_of untaken.Ended = End
 stop_of untaken.Late = Late
@@ -82,7 +82,7 @@ stop_of untaken.TooMany = TooMany
 stop_of (untaken.Refused why) = Refused why
 
 module _ {T F : Type 0} (takes : T → ℕ → List ℕ → T → Type 0) (refuses : T → ℕ → List ℕ → F → T → Type 0) (limit : Limit) where
-  -- what one payload does that is not empty: it is taken, or it is late, or it is refused
+  -- the effect of a payload that is not empty: it is taken, or it is late, or it is refused
   abbrev pub TakesPayload : List ℕ → ℕ → ℕ → T → Result (Unit {0}) (NotTaken F) → T → Type 0
   TakesPayload payload before count t (Ok done) u =
       (before < 10 ^ 19 - 1) × IsNotLate limit payload × takes t (before + 1) payload u × (count ≡ before + 1)
@@ -92,7 +92,7 @@ module _ {T F : Type 0} (takes : T → ℕ → List ℕ → T → Type 0) (refus
       (count ≡ before) × (before < 10 ^ 19 - 1) × IsNotLate limit payload × refuses t (before + 1) payload why u
   TakesPayload payload before count t (Err untaken.Ended) u = ⊥
 
-  -- what the block that is held does: its payload is taken, and the block passed; or it stays the next one
+  -- the effect of the loaded block: its payload is taken, and the block passed; or it remains the next one
   abbrev pub TakesHeld : {R : Type 0} → Reading R → Reading R → ℕ → ℕ → T → Result (Unit {0}) (NotTaken F) → T → Type 0
   TakesHeld old new before count t (Ok done) u =
       (new ≡ record { reader = old.reader; held = []; stage = Given })
@@ -102,7 +102,7 @@ module _ {T F : Type 0} (takes : T → ℕ → List ℕ → T → Type 0) (refus
       (new ≡ old) × ((payload : List ℕ) × IsBlockOf payload old.held × IsFull payload × TakesPayload payload before count t (Err why) u)
 
 module _ {R T : Type 0} (remaining : R → Option (List ℕ)) (takes : T → ℕ → List ℕ → T → Type 0) (limit : Limit) where
-  -- these payloads came off the front and were taken in order: none is empty or late, and no more are than are wanted
+  -- these payloads came off the front and were taken in order: none is empty or late, and they are no more than requested
   pub record Takes (old now : Reading R) (before count : ℕ) (t u : T) (payloads : List (List ℕ)) : Type 0 where
     pub bytes : Consumes (bytes_left remaining old) (bytes_left remaining now) (blocks payloads)
     pub full : AllByRecursion IsFull payloads
@@ -112,7 +112,7 @@ module _ {R T : Type 0} (remaining : R → Option (List ℕ)) (takes : T → ℕ
     pub counted : count ≡ before + length payloads
 
 module _ {R T : Type 0} (remaining : R → Option (List ℕ)) (failures : R → Failures) (takes : T → ℕ → List ℕ → T → Type 0) (limit : Limit) where
-  -- some payloads came off the front and were taken, maybe none, and no read failed
+  -- some payloads came off the front and were taken, possibly none, and no read failed
   pub record TakesSome (old now : Reading R) (before count : ℕ) (t u : T) : Type 0 where
     pub payloads : List (List ℕ)
     pub taken : Takes remaining takes limit old now before count t u payloads
@@ -120,7 +120,7 @@ module _ {R T : Type 0} (remaining : R → Option (List ℕ)) (failures : R → 
     pub uncounted : failures now.reader ≡ failures old.reader
 
 module _ {R T F : Type 0} (remaining : R → Option (List ℕ)) (failures : R → Failures) (takes : T → ℕ → List ℕ → T → Type 0) (refuses : T → ℕ → List ℕ → F → T → Type 0) (limit : Limit) where
-  -- what one block does: its payload is taken, or it stops there
+  -- the effect of one block: its payload is taken, or the part stops there
   abbrev pub Steps : Reading R → Reading R → ℕ → ℕ → T → Result (Unit {0}) (Stop F) → T → Type 0
   Steps old new before count t (Ok done) u =
       (payload : List ℕ) × Consumes (bytes_left remaining old) (bytes_left remaining new) (block payload) × IsFull payload
@@ -130,7 +130,7 @@ module _ {R T F : Type 0} (remaining : R → Option (List ℕ)) (failures : R �
       (count ≡ before) × Keeps (bytes_left remaining old) (bytes_left remaining new) × StopsAt remaining refuses limit before new t stop u
       × StaysAsEnded old new × Counts stop (failures old.reader) (failures new.reader)
 
-  -- The longest beginning of the messages is taken, and then this stops it: the next message, where there is one, is left.
+  -- As many of the messages as possible are taken, and then the reading stops for this reason: the next message, if there is one, is left.
   pub record ReadsPart (old new : Reading R) (before count : ℕ) (t : T) (stop : Stop F) (u : T) : Type 0 where
     pub payloads : List (List ℕ)
     pub last : T

@@ -1,4 +1,4 @@
--- What is left of a day once the message that was not taken is passed.
+-- The rest of a day after the message that was not taken.
 use Rattle.std.specs.Prelude.{◌≡◌}
 use Rattle.itch_frame.specs.Blocks.{IsBlock}
 use Rattle.itch_frame.specs.Reading.{Reading, passed}
@@ -15,7 +15,7 @@ left_by End r = passed r
 left_by TooMany r = passed r
 left_by (Refused why) r = passed r
 
--- what is held then is that block
+-- the loaded block is the one that was not taken
 abbrev pub IsLeft : {R F : Type 0} → Stop F → Reading R → Type 0
 IsLeft Full r = Unit {0}
 IsLeft (Frame fault) r = Unit {0}

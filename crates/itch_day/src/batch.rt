@@ -1,19 +1,19 @@
-//! Messages that are taken together from the bytes at hand.
+//! Takes several messages at once from the bytes in memory.
 ghost use Rattle.std.specs.Prelude.{◌≡◌, ℕ, ◌+◌, ◌-◌, ◌^◌, ◌<◌, ◌≤◌, ◌++◌, List, IfSome, MatchOption};
 ghost use Rattle.itch_frame.specs.Blocks.{block, IsFull};
 
 use crate::sink::Sink;
 use itch_frame::{Consumer, split_first_block};
 
-/// A sink that takes messages from the bytes at hand, as long as it takes their payloads as they are.
+/// A consumer that gives its sink the messages of the bytes in memory, as long as the sink accepts their payloads undecoded.
 #[derive(Drop)]
 pub(crate) struct Batch<'s, T> {
     pub(crate) sink: &'s mut T,
-    // How many messages were taken.
+    // The number of messages taken.
     pub(crate) count: u64,
-    // No more than this many are to be taken.
+    // The maximum of `count`.
     pub(crate) most: u64,
-    // The sink has looked at so many.
+    // The number of messages that the sink has looked at.
     pub(crate) seen: u64,
 }
 
@@ -43,8 +43,8 @@ impl<'s, T: Sink> Consumer for Batch<'s, T> {
     }
 }
 
-// Takes the message of the first block, if the sink takes its payload as it is, and returns the bytes after the block. Otherwise
-// nothing changes.
+// Takes the message of the first block, if the sink accepts its payload undecoded, and returns the bytes after the block. Otherwise nothing
+// changes.
 #[inline(always)]
 fn take_first<'a, T: Sink>(sink: &mut T, number: u64, blocks: &'a [u8]) -> Option<&'a [u8]>
     requires ready { T.is_ready sink.old number }
@@ -61,14 +61,14 @@ fn take_first<'a, T: Sink>(sink: &mut T, number: u64, blocks: &'a [u8]) -> Optio
     Some(after)
 }
 
-// After how many messages a sink is first told what comes next, of a part that begins after so many. Parts of one message tell it only
-// now and then.
+// Returns the number of messages after which a sink first sees the bytes ahead, for a part that begins after `count` messages. With parts of
+// a single message it sees them only every sixteen messages.
 #[inline(always)]
 pub(crate) fn first_look(count: u64) -> u64 {
     count.saturating_add(15) / 16 * 16
 }
 
-// Tells a sink what comes next, where it has looked at no more messages than were taken. Nothing changes.
+// Shows a sink the bytes ahead, if it has looked at no more messages than were taken. Nothing changes.
 #[inline(always)]
 pub(crate) fn look_ahead<T: Sink>(sink: &mut T, count: u64, seen: &mut u64, blocks: &[u8])
     ensures { sink.new ≡ sink.old }

@@ -1,8 +1,8 @@
-//! One reading of a day: the only place where the messages of a day file are gone through.
+//! The reading of a day: the only place that iterates over the messages of a day file.
 //!
-//! [`read_part`] hands the messages to a [`Sink`], up to the first that is not taken, and returns why it is not ([`Stop`]); that message
-//! is left for the next call. A [`Mark`] says how far the day was read. What ends the part that is wanted is a [`Limit`], so several points
-//! of a day are one pass: a call for each.
+//! [`read_part`] passes the messages to a [`Sink`], up to the first one that is not taken, and returns the reason ([`Stop`]); that message is
+//! left for the next call. A [`Mark`] records how far the day was read. A [`Limit`] ends the requested part, so several points of a day need
+//! one pass, with one call for each point.
 #![tactic(auto)]
 
 mod batch;

@@ -1,4 +1,4 @@
-//! How far a day was read, and which of two such places is nearer to a point of the day.
+//! Marks how far a day was read, and compares two marks for a point of the day.
 ghost use Rattle.std.specs.Prelude.{◌≡◌, ℕ, ◌<◌, ◌≤◌, ◌-◌, ◌^◌, List, length, IfSome, true};
 ghost use Rattle.std.specs.List.{AllByRecursion};
 ghost use Rattle.itch_day.specs.Limits.{IsEarly};
@@ -6,19 +6,19 @@ ghost use Rattle.itch_day.specs.Marks.{IsMark, first_mark, is_before, is_in, is_
 
 use crate::limit::Limit;
 
-/// What the first messages of a day file are, as far as it was read.
+/// Describes the first messages of a day file, as far as it was read.
 #[derive(Clone, Copy, Debug, PartialEq, Eq)]
 pub struct Mark {
-    /// How many they are.
+    /// The number of these messages.
     pub count: u64,
-    /// Where in the file the first message begins that is not one of them. The number stops at 2^64 - 1.
+    /// The offset in the file of the first message after them. The number remains at its maximum, 2^64 - 1.
     pub offset: u64,
-    /// The latest timestamp of theirs, in nanoseconds since midnight, if one has a timestamp.
+    /// Their latest timestamp, in nanoseconds since midnight, if one of them has a timestamp.
     pub latest: Option<u64>,
 }
 
 impl Mark {
-    /// The mark at the beginning of a file.
+    /// Returns the mark at the beginning of a file.
     pub fn new() -> Mark
         ensures { result ≡ first_mark }
     {
@@ -29,7 +29,7 @@ impl Mark {
         }
     }
 
-    // The mark after this message, which has this time.
+    // Returns the mark after this message, which has this time.
     #[inline(always)]
     pub(crate) fn past(self, payload: &[u8], time: Option<u64>) -> Mark
         requires few { self.count < 2 ^ 64 - 1 }
@@ -45,7 +45,7 @@ impl Mark {
         }
     }
 
-    /// Whether its messages all belong to the part of the day that ends so: they are no more than are wanted, and none is at the time
+    /// Returns whether all of its messages belong to the part with this limit: their number is not above the limit, and none is at the time
     /// where the part ends, or later.
     pub fn is_in(&self, limit: Limit) -> bool
         ensures exact { result ≡ is_in limit self.now }
@@ -55,7 +55,7 @@ impl Mark {
         is_within(limit.after, self.count) && is_before(limit.until, self.latest)
     }
 
-    /// Whether it is nearer to the end of a part than another one: it is in the part, and has more messages.
+    /// Returns whether the mark is nearer to the end of a part than another one: it is in the part, and has more messages.
     pub fn is_nearer(&self, other: &Mark, limit: Limit) -> bool
         ensures { result ≡ is_nearer limit self.now other.now }
     {
@@ -63,7 +63,7 @@ impl Mark {
     }
 }
 
-// The later one of two times, of which there may be none.
+// Returns the later of two times, each of which may be missing.
 #[inline(always)]
 fn later(before: Option<u64>, time: Option<u64>) -> Option<u64>
     ensures { result ≡ later before time }

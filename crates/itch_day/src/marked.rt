@@ -1,4 +1,4 @@
-//! A sink that notes how far the day was read.
+//! A sink that records how far the day was read.
 ghost use Rattle.std.specs.Prelude.{◌≡◌, ℕ, List};
 ghost use Rattle.itch_day.specs.Marks.{time_at};
 ghost use Rattle.itch_day.specs.Sinks.{Decodes};
@@ -10,9 +10,9 @@ use itch_codec::{CodecFault, Message};
 /// A sink, and the mark after the messages that it took.
 #[derive(Drop)]
 pub struct Marked<S> {
-    /// What takes the messages.
+    /// The sink that takes the messages.
     pub sink: S,
-    /// How far the day was read.
+    /// The mark after the messages taken so far.
     pub mark: Mark,
 }
 
@@ -50,7 +50,7 @@ impl<S: Sink> Sink for Marked<S> {
     }
 }
 
-// The time of what was decoded, if it is a message that has one.
+// Returns the time of a decoded message, if it has one.
 #[inline(always)]
 fn time_of(message: &Result<Message<'_>, CodecFault>) -> Option<u64>
     ensures { (payload : List ℕ) → Decodes payload message.now → result ≡ time_at payload }

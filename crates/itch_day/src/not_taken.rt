@@ -1,10 +1,10 @@
-//! Why the message of a block is not taken.
+//! The reasons why the message of a block is not taken.
 ghost use Rattle.std.specs.Prelude.{◌≡◌};
 ghost use Rattle.itch_day.specs.Parts.{stop_of};
 
 use crate::stop::Stop;
 
-/// Why the message of a block that is held is not taken. It is small, unlike a [`Stop`], which has room for the fault of a read.
+/// The reason why the message of a loaded block is not taken. It is small, unlike a [`Stop`], which has room for the fault of a read.
 pub(crate) enum NotTaken<F> {
     Ended,
     Late,
@@ -12,7 +12,7 @@ pub(crate) enum NotTaken<F> {
     Refused(F),
 }
 
-// Why a part goes no further there.
+// Converts the reason into the stop of a part.
 #[inline(always)]
 pub(crate) fn stop_of<F>(why: NotTaken<F>) -> Stop<F>
     ensures { result ≡ stop_of why }

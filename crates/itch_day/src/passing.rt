@@ -1,4 +1,4 @@
-//! The message that is not taken, passed.
+//! Passes the message that was not taken.
 ghost use Rattle.std.specs.Prelude.{◌≡◌};
 ghost use Rattle.itch_day.specs.Passing.{IsLeft, left_by};
 
@@ -6,7 +6,7 @@ use crate::stop::Stop;
 use itch_frame::{BlockReader, CountedRead};
 use std::alloc::Allocator;
 
-/// Passes the block that a part of a day stopped at, if it stopped at one: the block after it is the next.
+/// Passes the block at which a part of a day stopped, if there is one: the block after it becomes the next.
 pub fn pass_stop<R: CountedRead, A: Allocator, F>(reader: &mut BlockReader<R, A>, stop: &Stop<F>)
     requires { IsLeft stop.now reader.old }
     ensures { reader.new ≡ left_by stop.now reader.old }

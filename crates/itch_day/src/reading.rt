@@ -1,4 +1,4 @@
-//! One reading of a part of a day.
+//! Reads a part of a day.
 ghost use Rattle.std.specs.Prelude.{◌≡◌, ℕ, ◌+◌, ◌<◌, ◌≤◌, ◌-◌, ◌^◌, List, true, false, OnOk};
 ghost use Rattle.itch_frame.specs.Blocks.{IsBlock};
 ghost use Rattle.itch_frame.specs.Reading.{Reading};
@@ -18,10 +18,11 @@ use itch_codec::{CodecFault, MOST_MESSAGES, Message, decode};
 use itch_frame::{BlockReader, CountedRead};
 use std::alloc::Allocator;
 
-/// Hands the next messages of a day to a sink, up to the first that is not taken, and returns why it is not.
+/// Passes the next messages of a day to a sink, up to the first one that is not taken, and returns the reason.
 ///
-/// The reader stands after so many messages, which goes on with it. The message that is not taken, and all that follow, are left
-/// for the next call: several points of a day are a call for each, over one reader. Nothing after that message was read.
+/// `count` is the number of messages before the reader's position, and is updated. The message that is not taken, and all messages after it,
+/// are left for the next call: to stop at several points of a day, call this once per point with the same reader. Nothing after that message
+/// was read.
 #[inline(always)]
 pub fn read_part<R: CountedRead, A: Allocator, T: Sink>(
     reader: &mut BlockReader<R, A>,
@@ -52,9 +53,10 @@ pub fn read_part<R: CountedRead, A: Allocator, T: Sink>(
     Stop::Full
 }
 
-/// Reads on after a part that went before, up to the end of one that is no smaller.
+/// Continues after an earlier part, up to the end of a part that is no smaller.
 ///
-/// What is read then is what one reading of this part, from where the first one began, reads: so several points of a day are one pass.
+/// Together, the two readings do the same as one reading of this part from where the earlier one began. So several points of a day need only
+/// one pass.
 pub fn read_further<R: CountedRead, A: Allocator, T: Sink>(
     reader: &mut BlockReader<R, A>,
     count: &mut u64,
@@ -73,8 +75,8 @@ pub fn read_further<R: CountedRead, A: Allocator, T: Sink>(
     read_part(reader, count, sink, limit)
 }
 
-// Takes as many of the next messages as lie at hand and as the sink takes without their being decoded, which may be none. The sink has
-// looked at as many messages as `seen` counts.
+// Takes those of the next messages that are in memory and that the sink accepts undecoded, which may be none. The sink has looked at `seen`
+// messages.
 #[inline(always)]
 fn take_at_hand<R: CountedRead, A: Allocator, T: Sink>(
     reader: &mut BlockReader<R, A>,
@@ -90,7 +92,7 @@ fn take_at_hand<R: CountedRead, A: Allocator, T: Sink>(
     ensures ready { T.is_ready sink.new (count.new + 1) }
     ensures few { count.new ≤ 10 ^ 19 - 1 }
 {
-    // (whether a message is late is known once it is decoded)
+    // (only a decoded message shows whether it is late)
     if limit.until.is_some() {
         look_ahead(sink, *count, seen, reader.at_hand());
         return;
@@ -107,7 +109,8 @@ fn take_at_hand<R: CountedRead, A: Allocator, T: Sink>(
     *seen = batch.seen;
 }
 
-// Takes the next message if its block lies at hand (true), or returns why it is not taken. Where none lies at hand, nothing changes.
+// Takes the next message if its block is in memory (true), or returns the reason why it is not taken. If no block is in memory, nothing
+// changes.
 #[inline(always)]
 fn take_loaded<R: CountedRead, A: Allocator, T: Sink>(
     reader: &mut BlockReader<R, A>,
@@ -130,8 +133,8 @@ fn take_loaded<R: CountedRead, A: Allocator, T: Sink>(
     }
 }
 
-// Takes the next message, whose block may have to be read, or returns why it is not taken. A function of its own keeps what few
-// messages need out of the loop.
+// Takes the next message, whose block may have to be read, or returns the reason why it is not taken. This is a separate function, so that
+// the loop contains no code that only a few messages need.
 #[cold]
 #[inline(never)]
 fn take_from_input<R: CountedRead, A: Allocator, T: Sink>(
@@ -157,7 +160,7 @@ fn take_from_input<R: CountedRead, A: Allocator, T: Sink>(
     }
 }
 
-// Takes the message of the block that is held, and passes the block; or returns why the message is not taken.
+// Takes the message of the loaded block and passes the block, or returns the reason why the message is not taken.
 #[inline(always)]
 fn take_held<R: CountedRead, A: Allocator, T: Sink>(
     reader: &mut BlockReader<R, A>,
@@ -184,7 +187,7 @@ fn take_held<R: CountedRead, A: Allocator, T: Sink>(
     }
 }
 
-// Takes the message of a payload, or returns why it is not taken.
+// Takes the message of a payload, or returns the reason why it is not taken.
 #[inline(always)]
 fn take<T: Sink>(
     count: &mut u64,
@@ -213,7 +216,7 @@ fn take<T: Sink>(
     }
 }
 
-// Whether a payload that was decoded spells a message that is late.
+// Returns whether a decoded payload is a late message.
 #[inline(always)]
 fn is_late(limit: Limit, message: &Result<Message<'_>, CodecFault>) -> bool
     ensures late { result ≡ true → (payload : List ℕ) → Decodes payload message.now → IsLate limit payload }

@@ -1,4 +1,4 @@
-//! What the messages of a day are handed to.
+//! The sinks that take the messages of a day.
 ghost use Rattle.std.specs.Prelude.{◌≡◌, ℕ, ◌+◌, ◌-◌, ◌^◌, ◌<◌, ◌≤◌, List, true, OnOk, MatchResult};
 ghost use Rattle.itch_day.specs.Sinks.{Decodes, OffersPayload};
 
@@ -6,22 +6,22 @@ use itch_codec::{CodecFault, Message};
 
 /// Takes the messages of a day, one after another, or refuses one.
 pub trait Sink {
-    /// Why a message is refused.
+    /// The reason why a message is refused.
     type Fault;
 
-    // What holds of a sink that is to be handed the message with this number.
+    // States when a sink may be given the message with this number.
     ghost is_ready: { Self → ℕ → Type 0 };
 
-    // The payload with this number is taken, and leaves this.
+    // States that the sink took the payload with this number, and is in this state afterwards.
     ghost takes: { Self → ℕ → List ℕ → Self → Type 0 };
 
-    // It is refused for this reason, and leaves this.
+    // States that the sink refused it for this reason, and is in this state afterwards.
     ghost refuses: { Self → ℕ → List ℕ → Self.Fault → Self → Type 0 };
 
-    /// Takes the message with this number, the first one being 1, or returns why it is refused.
+    /// Takes the message with this number, counted from 1, or returns the reason why it is refused.
     ///
-    /// It comes as the payload of its block, and decoded. A payload that spells no message comes with its fault, which most sinks
-    /// return.
+    /// The message is given as the payload of its block and in decoded form. For a payload that is not a valid message, the decoded form is
+    /// its fault, which most sinks return.
     fn take(
         &mut self,
         number: u64,
@@ -35,8 +35,8 @@ pub trait Sink {
         ensures takes { MatchResult result (λ _. takes self.old number payload.now self.new) (λ why. refuses self.old number payload.now why self.new) }
         ensures ready { OnOk result (is_ready self.new (number + 1)) };
 
-    /// Takes the message with this number from its payload alone and returns true; or returns false, and changes nothing: then the
-    /// payload is decoded for [`Sink::take`]. A sink that can tell at a glance what to do saves that.
+    /// Takes the message with this number from its payload alone and returns true; or returns false and changes nothing, and then the payload
+    /// is decoded for [`Sink::take`]. A sink that can decide from a few bytes of the payload saves the decoding.
     #[inline(always)]
     fn take_payload(&mut self, number: u64, payload: &[u8]) -> bool
         requires ready { is_ready self.old number }
@@ -50,8 +50,8 @@ pub trait Sink {
         false
     }
 
-    /// Is told which bytes come next, as far as they lie at hand, and returns how many of their messages it has looked at: after those
-    /// it is told again. Nothing changes.
+    /// Looks at the next bytes, as far as they are in memory, and returns how many of their messages it has looked at: after these it is
+    /// called again. Nothing changes.
     fn look_ahead(&mut self, blocks: &[u8]) -> u64
         ensures { self.new ≡ self.old }
     {

@@ -1,20 +1,20 @@
-//! Why a part of a day goes no further.
+//! The reasons why a part of a day stops.
 
 use itch_frame::FrameFault;
 
-/// Why the next message of a day is not taken. It is left where it is.
+/// The reason why the next message of a day is not taken. That message is left in the reader.
 #[derive(Drop)]
 pub enum Stop<F> {
-    /// As many messages were taken as are wanted. Nothing after them was read.
+    /// The requested number of messages was taken. Nothing after them was read.
     Full,
     /// The next message is at the time where the part ends, or later.
     Late,
-    /// The messages end: the input does, or the next block is empty.
+    /// The messages end: the input ends, or the next block is empty.
     End,
-    /// A read failed, or the input ends in an unfinished block.
+    /// A read failed, or the input ends inside a block.
     Frame(FrameFault),
     /// There is a message after 10^19 - 1 others.
     TooMany,
-    /// The sink refuses the next message, or the next block spells none.
+    /// The sink refused the next message, or the next block is not a valid message.
     Refused(F),
 }

@@ -1,4 +1,4 @@
--- What the bytes of blocks say of their payloads.
+-- The payloads of the bytes of blocks.
 use Rattle.std.proofs.Common.{◌≡◌, ℕ, ◌%◌, ◌/◌, List, [], ◌∷◌, ◌++◌, length, take, drop, Option, refl, sym, ap, subst, ◌∙◌, append_assoc, arith}
 use Rattle.std.specs.List.{AllByRecursion}
 use Rattle.std.proofs.lemmas.List.{take_at, drop_at, append-nil}
@@ -7,7 +7,7 @@ use Rattle.std.specs.Io.KnownBytes.{Consumes}
 use Rattle.std.proofs.KnownBytes.{Consumes-trans}
 use Rattle.itch_frame.specs.Blocks.{IsPayload, block, blocks, Blocks}
 
--- where two streams begin with a block and are the same, the payloads are the same, and what follows them
+-- if two equal streams begin with a block, the payloads are equal, and so are the bytes after them
 pub same_block : (p q r s : List ℕ) → IsPayload p → IsPayload q → block p ++ r ≡ block q ++ s → (p ≡ q) × (r ≡ s)
 same_block p q r s p_fits q_fits same =
     let high : length p / 256 % 256 ≡ length q / 256 % 256 = cc in
@@ -18,7 +18,7 @@ same_block p q r s p_fits q_fits same =
       sym (drop_at p r (length p) refl) ∙ ap (drop (length p)) following ∙ drop_at q s (length p) (sym lengths),
     )
 
--- a payload has one block
+-- a block determines its payload
 pub block_one : (p q : List ℕ) → IsPayload p → IsPayload q → block p ≡ block q → p ≡ q
 block_one p q p_fits q_fits same = (same_block p q [] [] p_fits q_fits (ap (λ bytes. bytes ++ []) same)).0
 
@@ -26,11 +26,11 @@ block_one p q p_fits q_fits same = (same_block p q [] [] p_fits q_fits (ap (λ b
 pub blocks-append : (ps qs : List (List ℕ)) → blocks (ps ++ qs) ≡ blocks ps ++ blocks qs
 blocks-append ps qs = flat_map-append block ps qs
 
--- the blocks of one payload more
+-- the blocks of one more payload
 pub blocks-push : (ps : List (List ℕ)) (p : List ℕ) → blocks (ps ++ p ∷ []) ≡ blocks ps ++ block p
 blocks-push ps p = blocks-append ps (p ∷ []) ∙ ap (λ bytes. blocks ps ++ bytes) (append-nil (block p))
 
--- a block more came off the front
+-- one more block came off the front
 pub consumed_more : (old mid new : Option (List ℕ)) (ps : List (List ℕ)) (p : List ℕ) → Consumes old mid (blocks ps) → Consumes mid new (block p) → Consumes old new (blocks (ps ++ p ∷ []))
 consumed_more old mid new ps p first second = subst (Consumes old new) (sym (blocks-push ps p)) (Consumes-trans old mid new (blocks ps) (block p) first second)
 
@@ -38,11 +38,11 @@ consumed_more old mid new ps p first second = subst (Consumes old new) (sym (blo
 abbrev pub HasNone : (List ℕ → Type 0) → List ℕ → Type 0
 HasNone P bytes = (payload more : List ℕ) → P payload → bytes ≡ block payload ++ more → ⊥
 
--- no bytes, no block
+-- no bytes contain no block
 pub nothing_left : (P : List ℕ → Type 0) → HasNone P []
 nothing_left P payload more holds same = cc
 
--- a stream of blocks has one reading, whatever is asked of its payloads
+-- a stream of blocks has one reading, for any condition on its payloads
 pub one_way : (P : List ℕ → Type 0) → ((p : List ℕ) → P p → IsPayload p) → (ps qs : List (List ℕ)) (r s : List ℕ)
     → AllByRecursion P ps → AllByRecursion P qs → HasNone P r → HasNone P s → blocks ps ++ r ≡ blocks qs ++ s → (ps ≡ qs) × (r ≡ s)
 one_way P fits [] [] r s each_p each_q none_r none_s same = (refl, same)
@@ -55,7 +55,7 @@ one_way P fits (p ∷ ps) (q ∷ qs) r s each_p each_q none_r none_s same =
     let others : (ps ≡ qs) × (r ≡ s) = one_way P fits ps qs r s each_p.1 each_q.1 none_r none_s first.1 in
     (λ i. first.0 i ∷ others.0 i, others.1)
 
--- joined blocks have one list of payloads
+-- joined blocks determine the list of their payloads
 pub blocks_one : (ps qs : List (List ℕ)) → AllByRecursion IsPayload ps → AllByRecursion IsPayload qs → blocks ps ≡ blocks qs → ps ≡ qs
 blocks_one ps qs each_p each_q same =
     (one_way IsPayload (λ p fits. fits) ps qs [] [] each_p each_q (nothing_left IsPayload) (nothing_left IsPayload) (ap (λ bytes. bytes ++ []) same)).0
@@ -65,11 +65,11 @@ pub reading_one : (bytes : List ℕ) (ps qs : List (List ℕ)) (r s : List ℕ) 
 reading_one bytes ps qs r s p q =
     one_way IsPayload (λ p fits. fits) ps qs r s p.each q.each p.no_more q.no_more (sym p.whole ∙ q.whole)
 
--- such things hold of each payload of two lists, one after another
+-- a condition holds for all payloads of two lists, one after another
 pub each-append : (P : List ℕ → Type 0) (ps qs : List (List ℕ)) → AllByRecursion P ps → AllByRecursion P qs → AllByRecursion P (ps ++ qs)
 each-append P [] qs each_p each_q = each_q
 each-append P (p ∷ ps) qs each_p each_q = (each_p.0, each-append P ps qs each_p.1 each_q)
 
--- and of one payload more
+-- and for one more payload
 pub each-push : (P : List ℕ → Type 0) (ps : List (List ℕ)) (p : List ℕ) → AllByRecursion P ps → P p → AllByRecursion P (ps ++ p ∷ [])
 each-push P ps p each_p holds = each-append P ps (p ∷ []) each_p (holds, tt)

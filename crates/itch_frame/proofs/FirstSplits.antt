@@ -1,9 +1,9 @@
--- The block that bytes begin with, and what follows it.
+-- The block at the front of some bytes, and the bytes after it.
 use Rattle.std.proofs.Common.{◌≡◌, ℕ, ◌-◌, ◌≤◌, List, ◌++◌, length, take, drop, sym, ap, subst, ◌∙◌, arith}
 use Rattle.std.proofs.lemmas.List.{take-append-drop, take_at, take_rest, length-take-le}
 use Rattle.itch_frame.specs.Blocks.{IsPayload, IsBlock, block}
 
--- so many bytes are a block: the payload is after its length, and the rest after that
+-- if the first `size` bytes are a block, they are its length and its payload, and the rest follows
 pub split_is : (bytes : List ℕ) (size : ℕ) → size ≤ length bytes → IsBlock (take size bytes)
     → IsPayload (take (size - 2) (drop 2 bytes)) × (bytes ≡ block (take (size - 2) (drop 2 bytes)) ++ take (length bytes - size) (drop size bytes))
 split_is bytes size within (p, (fits, is)) =

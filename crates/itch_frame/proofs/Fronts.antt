@@ -1,11 +1,11 @@
--- A stream begins with a block or does not, and so it has a reading as blocks.
+-- A stream either begins with a block or does not, so it has a reading as blocks.
 use Rattle.std.proofs.Common.{◌≡◌, ℕ, ◌+◌, ◌*◌, ◌/◌, ◌%◌, ◌<◌, ◌≤◌, ◌⊎◌, zero, suc, List, [], ◌∷◌, ◌++◌, length, take, drop, refl, sym, ap, ◌∙◌, inl, inr, append_assoc, arith, length-append}
 use Rattle.std.proofs.lemmas.List.{take-append-drop, length-take-le}
 use Rattle.std.proofs.lemmas.Bool.{cases_lt}
 use Rattle.itch_frame.specs.Blocks.{IsPayload, block, blocks, HasNoBlock, Blocks}
 use Rattle.itch_frame.proofs.BlockLemmas.{nothing_left}
 
--- no block begins where fewer bytes follow than the length bytes say
+-- no block begins here if fewer bytes follow than the length bytes require
 too_short : (x y : ℕ) (rest : List ℕ) → length rest < x * 256 + y → HasNoBlock (x ∷ y ∷ rest)
 too_short x y rest short payload more fits same =
     let high : x ≡ length payload / 256 % 256 = cc in
@@ -13,16 +13,16 @@ too_short x y rest short payload more fits same =
     let following : rest ≡ payload ++ more = cc in
     absurd (omega (arith, ap length following, length-append payload more))
 
--- no block begins with a number that is no byte
+-- no block begins with a number that is not a byte
 no_byte : (x y : ℕ) (rest : List ℕ) → (256 ≤ x) ⊎ (256 ≤ y) → HasNoBlock (x ∷ y ∷ rest)
 no_byte x y rest (inl wide) payload more fits same = let high : x ≡ length payload / 256 % 256 = cc in absurd (omega arith)
 no_byte x y rest (inr wide) payload more fits same = let low : y ≡ length payload % 256 = cc in absurd (omega arith)
 
--- no block has one byte
+-- one byte is not a block
 one_byte : (x : ℕ) → HasNoBlock (x ∷ [])
 one_byte x payload more fits same = cc
 
--- the bytes after two length bytes, where enough follow, are a payload and what follows it
+-- if enough bytes follow two length bytes, they are a payload and the bytes after it
 front_block : (x y : ℕ) (rest : List ℕ) → x < 256 → y < 256 → x * 256 + y ≤ length rest → x ∷ y ∷ rest ≡ block (take (x * 256 + y) rest) ++ drop (x * 256 + y) rest
 front_block x y rest x_fits y_fits enough =
     let n : length (take (x * 256 + y) rest) ≡ x * 256 + y = length-take-le (x * 256 + y) rest enough in
@@ -31,7 +31,7 @@ front_block x y rest x_fits y_fits enough =
     let following : rest ≡ take (x * 256 + y) rest ++ drop (x * 256 + y) rest = sym (take-append-drop (x * 256 + y) rest) in
     λ i. high i ∷ low i ∷ following i
 
--- no block stands in front, or one does
+-- no block is at the front, or one is
 abbrev pub Front : List ℕ → Type 0
 Front bytes = HasNoBlock bytes ⊎ ((payload : List ℕ) × (more : List ℕ) × IsPayload payload × (bytes ≡ block payload ++ more))
 
@@ -48,7 +48,7 @@ front [] = inl (nothing_left IsPayload)
 front (x ∷ []) = inl (one_byte x)
 front (x ∷ y ∷ rest) = front_from x y rest (cases_lt x 256) (cases_lt y 256) (cases_lt (length rest) (x * 256 + y))
 
--- what holds where no block stands in front, and of a stream with one block more, holds of every stream
+-- a property of streams without a block at the front that also holds for one more block in front holds for every stream
 module _ (P : List ℕ → Type 0) (none : (bytes : List ℕ) → HasNoBlock bytes → P bytes)
     (more : (payload rest bytes : List ℕ) → IsPayload payload → bytes ≡ block payload ++ rest → P rest → P bytes) where
   within : (n : ℕ) (bytes : List ℕ) → length bytes ≤ n → Front bytes → P bytes
@@ -78,6 +78,6 @@ longer_blocks payload more bytes fits front (ps, rest, later) = (
   },
 )
 
--- every list of numbers is some blocks and a rest
+-- every list of numbers has a reading as blocks and a rest
 pub reading_some : (bytes : List ℕ) → (ps : List (List ℕ)) × (rest : List ℕ) × Blocks bytes ps rest
 reading_some = by_blocks SomeBlocks no_blocks longer_blocks

@@ -1,4 +1,4 @@
--- One message more is passed over.
+-- One more message is passed over.
 use Rattle.std.proofs.Common.{ℕ, ◌+◌, true, List, [], ◌∷◌, ◌++◌, Option, Ok, ap, ◌∙◌, length-append}
 use Rattle.itch_frame.specs.Blocks.{IsFull}
 use Rattle.itch_frame.specs.Passing.{PassedOver, PassesMessage}

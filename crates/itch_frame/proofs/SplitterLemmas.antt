@@ -1,4 +1,4 @@
--- How far the current block is, and the law on cut streams.
+-- The length of the current block, and the law on cut streams.
 use Rattle.std.proofs.Common.{◌≡◌, ℕ, ◌+◌, ◌-◌, ◌/◌, ◌%◌, ◌<◌, ◌≤◌, ◌⊎◌, min, List, [], ◌∷◌, ◌++◌, length, take, drop, get_or, refl, sym, ap, subst, ◌∙◌, inl, inr, append_assoc, arith, length-append}
 use Rattle.std.proofs.lemmas.List.{take_all, take_at, take-append-le, take-take, length-take-le, length-drop, append-nil, nil_from_length, get_or_append_left, get_or-take, take-append-drop, drop-take}
 use Rattle.std.proofs.Math.Seq.{take-append-add, take-add}
@@ -9,13 +9,13 @@ use Rattle.itch_frame.specs.Cuts.CutStep.{Takes, Clears}
 use Rattle.itch_frame.specs.Needs.{need}
 use Rattle.itch_frame.proofs.BlockLemmas.{nothing_left}
 
--- a block is as long as its length bytes say
+-- a block has the length that its length bytes state
 block_need : (bytes : List ℕ) → IsBlock bytes → (2 ≤ length bytes) × (need bytes ≡ length bytes)
 block_need bytes (payload, of) =
     let long : (2 ≤ length (block payload)) × (need (block payload) ≡ length (block payload)) = (omega arith, omega arith) in
     subst (λ (b : List ℕ). (2 ≤ length b) × (need b ≡ length b)) (sym of.1) long
 
--- bytes as long as their length bytes say are a block
+-- bytes are a block if their number is the one that their length bytes state
 pub whole_block : (held : List ℕ) → 2 ≤ length held → need held ≡ length held → length held ≤ 65537 → get_or held 0 0 < 256 → get_or held 1 0 < 256
     → IsBlockOf (take (length held - 2) (drop 2 held)) held
 whole_block [] long is bound x_fits y_fits = absurd (omega arith)
@@ -28,7 +28,7 @@ whole_block (x ∷ y ∷ payload) long is bound x_fits y_fits =
     let whole : IsBlockOf payload (x ∷ y ∷ payload) = (fits, λ i. high i ∷ low i ∷ payload) in
     subst (λ (p : List ℕ). IsBlockOf p (x ∷ y ∷ payload)) (sym all) whole
 
--- both length bytes are needed
+-- a block needs both length bytes
 need_two : (held : List ℕ) → 2 ≤ need held
 need_two [] = omega arith
 need_two (x ∷ []) = omega arith
@@ -40,7 +40,7 @@ front_payload buffer len two =
     let parts : len ≡ 2 + (len - 2) = omega arith in
     ap (λ n. drop 2 (take n buffer)) parts ∙ drop-take 2 (len - 2) buffer
 
--- the same of the first bytes of a buffer
+-- the same for the first bytes of a buffer
 pub front_whole : (buffer : List ℕ) (len : ℕ) → len ≤ length buffer → len ≤ 65537 → need (take len buffer) ≡ len
     → get_or (take len buffer) 0 0 < 256 → get_or (take len buffer) 1 0 < 256 → IsBlockOf (take (len - 2) (drop 2 buffer)) (take len buffer)
 front_whole buffer len within bound is x_fits y_fits =
@@ -50,7 +50,7 @@ front_whole buffer len within bound is x_fits y_fits =
     ap (λ n. take (n - 2) (drop 2 (take len buffer))) all ∙ ap (take (len - 2)) (front_payload buffer len two) ∙ take-take (len - 2) (len - 2) (drop 2 buffer) (omega arith) in
     subst (λ (p : List ℕ). IsBlockOf p (take len buffer)) same (whole_block (take len buffer) (omega (arith, all)) (is ∙ sym all) (omega (arith, all)) x_fits y_fits)
 
--- where the first bytes of a buffer are a block, they are as many as they need, and the payload follows the length bytes
+-- if the first bytes of a buffer are a block, their number is the needed one, and the payload follows the length bytes
 pub front_block : (buffer : List ℕ) (len : ℕ) → len ≤ length buffer → IsBlock (take len buffer)
     → (len ≤ need (take len buffer)) × IsBlockOf (take (len - 2) (drop 2 buffer)) (take len buffer)
 front_block buffer len within (payload, of) =
@@ -66,13 +66,13 @@ need_start [] short = refl
 need_start (x ∷ []) short = refl
 need_start (x ∷ y ∷ payload) short = absurd (omega arith)
 
--- once both are there, what follows gives no other length
+-- after both length bytes are known, more bytes do not change the length
 need-append : (held more : List ℕ) → 2 ≤ length held → need (held ++ more) ≡ need held
 need-append [] more long = absurd (omega arith)
 need-append (x ∷ []) more long = absurd (omega arith)
 need-append (x ∷ y ∷ payload) more long = refl
 
--- as many bytes as are needed, if they are there, are a block
+-- the first bytes, up to the needed number, are a block if there are enough
 pub first_needed : (bytes : List ℕ) → 2 ≤ length bytes → need bytes ≤ length bytes → need bytes ≤ 65537 → ((k : ℕ) → get_or bytes k 0 < 256)
     → IsBlock (take (need bytes) bytes)
 first_needed bytes long within bound fits =
@@ -85,14 +85,14 @@ first_needed bytes long within bound fits =
           (omega (arith, fits 0, get_or-take (need bytes) bytes 0 0 (omega arith))) (omega (arith, fits 1, get_or-take (need bytes) bytes 1 0 (omega arith))),
     )
 
--- as many bytes as are needed, or fewer, are no more than are needed then
+-- after more bytes, up to the needed number, there are still no more than the needed number
 pub still_begun : (held more : List ℕ) → length held + length more ≤ need held → length (held ++ more) ≤ need (held ++ more)
 still_begun held more within = by_length (cases_lt (length held) 2) where
   by_length : (length held < 2) ⊎ (2 ≤ length held) → length (held ++ more) ≤ need (held ++ more)
   by_length (inl short) = omega (arith, length-append held more, need_start held short, need_two (held ++ more))
   by_length (inr long) = omega (arith, length-append held more, need-append held more long)
 
--- with fewer bytes than are needed no block comes about
+-- fewer bytes than needed do not complete a block
 lacks_some : (held piece : List ℕ) (k n : ℕ) → k < n → n ≤ length piece → length held + n ≤ need held → IsBlock (held ++ take k piece) → ⊥
 lacks_some held piece k n below within lacks is = by_length (cases_lt (length held) 2) where
   needs : (2 ≤ length (held ++ take k piece)) × (need (held ++ take k piece) ≡ length (held ++ take k piece))
@@ -105,7 +105,7 @@ lacks_some held piece k n below within lacks is = by_length (cases_lt (length he
   by_length (inl short) = let two : need held ≡ 2 = need_start held short in omega (arith, needs.0, total)
   by_length (inr long) = let same : need (held ++ take k piece) ≡ need held = need-append held (take k piece) long in omega (arith, needs.1, total)
 
--- two moves, each of as many bytes as the current block needs, are one take
+-- two moves, each of as many bytes as the current block needs, make one take
 pub two_moves : (held piece mid rest new : List ℕ) (first second : ℕ)
     → length held ≤ need held → first ≡ min (need held - length held) (length piece) → mid ≡ held ++ take first piece
     → rest ≡ drop first piece → second ≡ min (need mid - length mid) (length rest) → new ≡ mid ++ take second rest
@@ -135,7 +135,7 @@ two_moves held piece mid rest new first second begun first_is mid_is rest_is sec
   mid_begun : length mid ≤ need mid
   mid_begun = subst (λ (m : List ℕ). length m ≤ need m) (sym mid_is) (still_begun held (take first piece) (omega (arith, first_length)))
 
-  -- what is held after the first move, and some of the second
+  -- the bytes held after the first move and a part of the second
   reach : (k : ℕ) → first ≤ k → held ++ take k piece ≡ mid ++ take (k - first) rest
   reach k far =
       let parts : k ≡ first + (k - first) = omega arith in
@@ -166,7 +166,7 @@ two_moves held piece mid rest new first second begun first_is mid_is rest_is sec
 abbrev IsBegun : List ℕ → Type 0
 IsBegun bytes = (k : ℕ) → k < length bytes → IsBlock (take k bytes) → ⊥
 
--- if neither a shorter prefix of these bytes nor they themselves are a block, they begin with none
+-- if neither these bytes nor a shorter prefix are a block, they do not begin with a block
 begun_open : (held : List ℕ) → IsBegun held → (IsBlock held → ⊥) → HasNoBlock held
 begun_open held begun none payload more fits is = by_length (cases_lt 0 (length more)) where
   front : take (length (block payload)) held ≡ block payload
@@ -181,11 +181,11 @@ begun_open held begun none payload more fits is = by_length (cases_lt 0 (length 
       let empty : more ≡ [] = nil_from_length more (omega arith) in
       none (payload, (fits, is ∙ ap (λ m. block payload ++ m) empty ∙ append-nil (block payload)))
 
--- nothing is held: no prefix of it is a block
+-- if nothing is held, no prefix is a block
 none_begun : IsBegun []
 none_begun k below is = absurd (omega arith)
 
--- a take keeps that no shorter prefix is a block
+-- after a take, still no shorter prefix is a block
 take_begun : (held piece new : List ℕ) (n : ℕ) → IsBegun held → IsTake held piece n new → IsBegun new
 take_begun held piece new n begun took k below is = by_length (cases_lt k (length held)) where
   total : length new ≡ length held + n
@@ -200,16 +200,16 @@ take_begun held piece new n begun took k below is = by_length (cases_lt k (lengt
       (subst IsBlock (ap (take k) took.joined ∙ ap (λ m. take m (held ++ take n piece)) parts ∙ take-append-add held (take n piece) (k - length held)
       ∙ ap (λ t. held ++ t) (take-take (k - length held) n piece (omega (arith, total)))) is)
 
--- the law from bytes that are held when the steps begin
+-- the law for a splitter that already holds bytes before the steps
 record CutFrom (before : List ℕ) (steps : List CutStep) (held : List ℕ) : Type 0 where
   unfinished : (IsBlock held → ⊥) → Blocks (before ++ stream_of steps) (payloads_of steps) held
   ready : (payload : List ℕ) → IsBlockOf payload held → Blocks (before ++ stream_of steps) (payloads_of steps ++ payload ∷ []) []
 
--- the bytes of a stream, by another name
+-- the same stream, in another form
 same_stream : (bytes other : List ℕ) (ps : List (List ℕ)) (rest : List ℕ) → bytes ≡ other → Blocks other ps rest → Blocks bytes ps rest
 same_stream bytes other ps rest same reading = record { whole = same ∙ reading.whole; each = reading.each; no_more = reading.no_more }
 
--- one block more in front of a stream
+-- one more block in front of a stream
 block_on : (p bytes : List ℕ) (ps : List (List ℕ)) (rest : List ℕ) → IsPayload p → Blocks bytes ps rest → Blocks (block p ++ bytes) (p ∷ ps) rest
 block_on p bytes ps rest fits reading = record {
   whole = ap (λ following. block p ++ following) reading.whole ∙ sym (append_assoc (block p) (blocks ps) rest);
@@ -246,7 +246,7 @@ cut_from before (Clears payload ∷ steps) held begun (dropped, later) =
       ready = λ last is. same_stream _ _ _ _ same (block_on payload (stream_of steps) (payloads_of steps ++ last ∷ []) [] dropped.0 (rest.ready last is));
     }
 
--- however a stream is cut, the payloads are those of its blocks
+-- for every way to cut a stream, the payloads are those of its blocks
 pub any_cut_lem : (steps : List CutStep) → (held : List ℕ) → Run [] steps held → AnyCut steps held
 any_cut_lem steps held run =
     let all : CutFrom [] steps held = cut_from [] steps held none_begun run in

@@ -1,4 +1,4 @@
--- What several writes, one after another, leave.
+-- Several writes, one after another.
 use Rattle.std.proofs.Common.{◌≡◌, ℕ, ◌+◌, ◌-◌, ◌<◌, ◌≤◌, List, [], ◌∷◌, ◌++◌, length, take, drop, sym, ap, subst, ◌∙◌, append_assoc, arith, Option, Some, None, Err}
 use Rattle.std.proofs.lemmas.List.{take-take}
 use Rattle.std.proofs.Math.Seq.{take-add}
@@ -11,18 +11,18 @@ use Rattle.itch_frame.specs.declared.fault.FrameFault.{FrameFault}
 use Rattle.itch_frame.specs.declared.fault.FrameFault.TheVariants.{Read, Truncated, Write, TooLong}
 use Rattle.itch_frame.proofs.BlockLemmas.{blocks-push}
 
--- bytes and then other bytes
+-- some bytes, and then others
 pub Appends-more : (old mid new : Option (List ℕ)) (xs ys : List ℕ) → Appends old mid xs → Appends mid new ys → Appends old new (xs ++ ys)
 Appends-more None mid new xs ys first second = tt
 Appends-more (Some a) None new xs ys first second = absurd first
 Appends-more (Some a) (Some b) None xs ys first second = absurd second
 Appends-more (Some a) (Some b) (Some c) xs ys first second = second ∙ ap (λ t. t ++ ys) first ∙ append_assoc a xs ys
 
--- the same bytes, by another name
+-- the same bytes, in another form
 pub Appends-same : (old new : Option (List ℕ)) (xs ys : List ℕ) → xs ≡ ys → Appends old new xs → Appends old new ys
 Appends-same old new xs ys same wrote = subst (Appends old new) same wrote
 
--- the first bytes of a list, and then the first of those after them
+-- the first bytes of a list, and then the next ones
 pub Appends-on : (old mid new : Option (List ℕ)) (bytes following : List ℕ) (sent count : ℕ) → following ≡ take (length bytes - sent) (drop sent bytes) → count ≤ length bytes - sent
     → Appends old mid (take sent bytes) → Appends mid new (take count following) → Appends old new (take (sent + count) bytes)
 Appends-on old mid new bytes following sent count is within first second =
@@ -31,7 +31,7 @@ Appends-on old mid new bytes following sent count is within first second =
     (ap (λ t. take sent bytes ++ t) parts ∙ sym (take-add sent count bytes))
     (Appends-more old mid new (take sent bytes) (take count following) first second)
 
--- the blocks of some payloads, and then that of one more
+-- the blocks of some payloads, and then the block of one more
 pub Appends-block : (old mid new : Option (List ℕ)) (done : List (List ℕ)) (payload : List ℕ)
     → Appends old mid (blocks done) → Appends mid new (block payload) → Appends old new (blocks (done ++ payload ∷ []))
 Appends-block old mid new done payload first second =
@@ -39,7 +39,7 @@ Appends-block old mid new done payload first second =
     (Appends-more old mid new (blocks done) (block payload) first second)
 
 module _ {W : Type 0} (contents : W → Option (List ℕ)) (failures : W → Failures) where
-  -- a block that was not written whole, after some that were
+  -- a block that was not written completely, after some that were
   pub part_written : (old mid new : W) (done : List (List ℕ)) (payload : List ℕ) (more all : List (List ℕ)) → all ≡ done ++ payload ∷ more → IsPayload payload
       → Appends (contents old) (contents mid) (blocks done) → failures mid ≡ failures old
       → (fault : FrameFault) → WriteBlock contents failures mid payload (Err fault) new → WriteBlocks contents failures old all (Err fault) new

@@ -1,10 +1,10 @@
--- A stream of blocks, framed as the packets of SoupBinTCP 3.00 are: each is a length in two bytes, the high byte first, and then that
--- many bytes of payload.
+-- A stream of blocks, framed like the packets of SoupBinTCP 3.00: each block has a length in two bytes, the high byte first, and then a
+-- payload of that length.
 use Rattle.std.specs.Prelude.{◌≡◌, ℕ, ◌<◌, ◌⊎◌, List, [], ◌++◌, length}
 use Rattle.std.specs.List.{flat_map, AllByRecursion}
 use Rattle.byteorder.specs.Endian.{big_bytes}
 
--- a payload whose length fits two bytes
+-- a payload whose length fits into two bytes
 abbrev pub IsPayload : List ℕ → Type 0
 IsPayload payload = length payload < 65536
 
@@ -28,13 +28,13 @@ HasNoBlock bytes = (payload more : List ℕ) → IsPayload payload → bytes ≡
 abbrev pub blocks : List (List ℕ) → List ℕ
 blocks payloads = flat_map block payloads
 
--- the bytes are the blocks of these payloads, and then a rest that begins with no block
+-- the bytes are the blocks of these payloads, and then a rest that does not begin with a block
 pub record Blocks (bytes : List ℕ) (payloads : List (List ℕ)) (rest : List ℕ) : Type 0 where
   pub whole : bytes ≡ blocks payloads ++ rest
   pub each : AllByRecursion IsPayload payloads
   pub no_more : HasNoBlock rest
 
--- what may end a day: nothing, or an empty block and anything after it
+-- the end of a day: no bytes, or an empty block and any bytes after it
 abbrev pub Ends : List ℕ → Type 0
 Ends rest = (rest ≡ []) ⊎ ((more : List ℕ) × (rest ≡ block [] ++ more))
 
@@ -46,7 +46,7 @@ Open rest = (0 < length rest) × HasNoBlock rest
 abbrev pub IsFull : List ℕ → Type 0
 IsFull payload = (0 < length payload) × IsPayload payload
 
--- the bytes are the blocks of these payloads, none of them empty, and then the end or an unfinished block
+-- the bytes are the blocks of these payloads, none of them empty, and then the end of the day or an unfinished block
 pub record Day (bytes : List ℕ) (payloads : List (List ℕ)) (rest : List ℕ) : Type 0 where
   pub whole : bytes ≡ blocks payloads ++ rest
   pub each : AllByRecursion IsFull payloads

@@ -1,7 +1,7 @@
--- How long the current block is.
+-- The length of the current block.
 use Rattle.std.specs.Prelude.{ℕ, ◌+◌, ◌*◌, List, [], ◌∷◌}
 
--- its length, as far as its bytes say: the two length bytes come first
+-- the length of a block according to its bytes so far: two, until both length bytes are known
 abbrev pub need : List ℕ → ℕ
 need [] = 2
 need (high ∷ []) = 2

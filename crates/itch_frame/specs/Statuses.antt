@@ -1,10 +1,10 @@
--- What a program makes of a fault of blocks.
+-- The exit status and the system error of a fault of blocks.
 use Rattle.std.specs.Prelude.{ℕ, Option, Some, None}
 use Rattle.std.specs.declared.io.Error.{Error}
 use Rattle.itch_frame.specs.declared.fault.FrameFault.{FrameFault}
 use Rattle.itch_frame.specs.declared.fault.FrameFault.TheVariants.{Read, Write}
 
--- the status that it ends with: a failed read or write is 3, any other fault 1
+-- the exit status: 3 for a failed read or write, 1 for any other fault
 abbrev pub frame_status : FrameFault → ℕ
 frame_status (Read error) = 3
 frame_status (Write sent error) = 3

@@ -1,7 +1,7 @@
 //! Readers and writers that count their failures.
 //!
-//! Contracts see the bytes that a reader has left or a writer has taken, if they are known, how many calls failed, and the
-//! error of the last failure.
+//! Contracts refer to the bytes that a reader still has to read or that a writer has written, if they are known, to the number of failed
+//! calls, and to the error of the last failed call.
 ghost use Rattle.std.specs.Prelude.{◌≡◌, ℕ, ◌-◌, ◌≤◌, List, length, take, Option, IfSome, IfNone};
 ghost use Rattle.std.specs.Io.{ReadsAtMost, WritesAtMost};
 ghost use Rattle.std.specs.Io.KnownBytes.{ReadConsumes, Consumes};
@@ -20,13 +20,13 @@ use std::io::{self, Read, Write};
 pub trait CountedRead {
     ghost use Rattle.itch_frame.specs.declared.tally.Failures.{Failures};
 
-    // The bytes that are still to be read, if they are known.
+    // The bytes that the reader has not read yet, if they are known.
     ghost remaining: { Self → Option (List ℕ) };
 
-    // How many reads failed, and the error of the last one.
+    // The number of failed reads, and the error of the last one.
     ghost failures: { Self → Failures };
 
-    /// Reads some bytes into the front of `buf`, and returns how many. If `buf` is not empty, `Ok(0)` is the end of input.
+    /// Reads some bytes into the front of `buf`, and returns their number. If `buf` is not empty, `Ok(0)` means the end of input.
     ///
     /// An `Err` is counted, and consumes nothing.
     fn read_some(&mut self, buf: &mut [u8]) -> io::Result<usize>
@@ -34,9 +34,9 @@ pub trait CountedRead {
         ensures bytes { ReadConsumes (remaining self.old) (remaining self.new) result buf.new }
         ensures count { CountsErr result (failures self.old) (failures self.new) };
 
-    /// Moves the next block to the front of `buf` and returns how long it is, if all of it lies at hand already.
+    /// Moves the next block to the front of `buf` and returns its length, if the reader already holds the complete block in memory.
     ///
-    /// It reads nothing, so it cannot fail. `None`, which a reader may always return, changes nothing.
+    /// This reads nothing, so it cannot fail. `None` changes nothing; a reader may always return it.
     fn take_block(&mut self, buf: &mut [u8]) -> Option<usize>
         ensures block { IfSome result (λ size. (size ≤ length buf.new) × IsBlock (take size buf.new)) }
         ensures bytes { IfSome result (λ size. Consumes (remaining self.old) (remaining self.new) (take size buf.new)) }
@@ -47,16 +47,16 @@ pub trait CountedRead {
         None
     }
 
-    /// The bytes that come next, as far as they lie at hand. A reader may always return none of them.
+    /// Returns the next bytes that the reader already holds in memory. A reader may always return none.
     fn at_hand(&self) -> &[u8]
         ensures { IfSome (remaining self.now) (λ rest. take (length result.now) rest ≡ result.now) }
     {
         &[]
     }
 
-    /// Offers what lies at hand to a consumer, moves past what it uses, and returns how much that is.
+    /// Offers the bytes that the reader holds in memory to a consumer, moves past those that the consumer uses, and returns their number.
     ///
-    /// It reads nothing, so it cannot fail. A reader may always offer nothing, and return 0.
+    /// This reads nothing, so it cannot fail. A reader may always offer nothing and return 0.
     fn offer<C: Consumer>(&mut self, consumer: &mut C) -> usize
         requires { C.is_ready consumer.old }
         ensures offers { Offers remaining C.uses self.old result self.new consumer.old consumer.new }
@@ -74,10 +74,10 @@ pub trait CountedWrite {
     // The bytes that were written, if they are known.
     ghost contents: { Self → Option (List ℕ) };
 
-    // How many writes failed, and the error of the last one.
+    // The number of failed writes, and the error of the last one.
     ghost failures: { Self → Failures };
 
-    /// Writes some bytes from the front of `buf`, at least one unless it is empty, and returns how many.
+    /// Writes some bytes from the front of `buf`, at least one unless `buf` is empty, and returns their number.
     ///
     /// An `Err` is counted, and writes nothing.
     fn write_some(&mut self, buf: &[u8]) -> io::Result<usize>
@@ -86,9 +86,9 @@ pub trait CountedWrite {
         ensures count { CountsErr result (failures self.old) (failures self.new) };
 }
 
-/// Counts the failures of any standard reader or writer. Its bytes are those of the one inside, also after failures.
+/// Counts the failures of any standard reader or writer. It reads or writes the same bytes as the inner one, also after failures.
 ///
-/// A write that is given some bytes and takes none is the failure `WriteZero`. A flush of the writer inside is not counted.
+/// A write of some bytes that accepts none counts as the failure `WriteZero`. A flush of the inner writer is not counted.
 #[derive(Drop)]
 pub struct Counted<T> {
     inner: T,
@@ -96,7 +96,7 @@ pub struct Counted<T> {
 }
 
 impl<T> Counted<T> {
-    /// Counts from 0.
+    /// Wraps a reader or a writer, with no failures counted yet.
     pub fn new(inner: T) -> Counted<T>
         ensures inner { result.inner ≡ inner }
         ensures count { result.failures.count ≡ 0 }
@@ -108,21 +108,21 @@ impl<T> Counted<T> {
         }
     }
 
-    /// The reader or writer inside.
+    /// Returns the inner reader or writer.
     pub fn get(&self) -> &T
         ensures { result.now ≡ self.now.inner }
     {
         &self.inner
     }
 
-    /// The failures so far.
+    /// Returns the failures so far.
     pub fn failures(&self) -> Failures
         ensures { result ≡ self.now.failures }
     {
         self.failures
     }
 
-    /// The reader or writer inside, no longer counted.
+    /// Returns the inner reader or writer, whose failures are no longer counted.
     pub fn into_inner(self) -> T
         ensures { result ≡ self.inner }
     {

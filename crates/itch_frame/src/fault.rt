@@ -1,20 +1,20 @@
-//! What can go wrong with a block.
+//! Faults of reading and writing blocks.
 use std::io;
 use thiserror::Error;
 
-/// Why a block was not read or not written.
+/// The reason why a block was not read or not written.
 #[derive(Clone, Copy, Debug, Drop, Error)]
 pub enum FrameFault {
-    /// What was read so far is kept, and the call may be made again.
+    /// A read failed. The bytes read so far are kept, and the call may be repeated.
     #[error("read failed")]
     Read(io::Error),
-    /// The input ended in an unfinished block, of which `held` bytes are held.
+    /// The input ended inside a block. The reader holds `held` bytes of that block.
     #[error("truncated, {held} bytes held")]
     Truncated { held: usize },
-    /// Exactly the first `sent` bytes of the block were written.
+    /// A write failed after exactly the first `sent` bytes of the block.
     #[error("write failed")]
     Write { sent: usize, error: io::Error },
-    /// The payload is longer than 65,535 bytes, and nothing was written.
+    /// The payload is longer than 65,535 bytes. Nothing was written.
     #[error("payload too long")]
     TooLong,
 }

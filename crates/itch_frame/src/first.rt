@@ -1,14 +1,14 @@
-//! The block that bytes begin with.
+//! The first block of a slice.
 ghost use Rattle.std.specs.Prelude.{◌≡◌, ◌≤◌, ◌++◌, length, take, IfSome, IfNone, MatchOption};
 ghost use Rattle.itch_frame.specs.Blocks.{HasNoBlock, IsBlock, IsPayload, block};
 
 use crate::splitter::needed;
 
-// As many bytes as all but the longest blocks have.
+// All but the longest blocks have at most this many bytes.
 const SHORT: usize = 64;
 
-/// Copies the block that the bytes begin with to the front of `buf`, if all of it is there and `buf` has room for it, and returns how
-/// long it is. Otherwise `buf` stays as it was.
+/// Copies the block at the front of `bytes` to the front of `buf` and returns its length, if the block is complete and fits into `buf`.
+/// Otherwise `buf` is unchanged.
 #[inline(always)]
 pub fn copy_first_block(bytes: &[u8], buf: &mut [u8]) -> Option<usize>
     ensures within { IfSome result (λ size. (size ≤ length bytes.now) × (size ≤ length buf.new)) }
@@ -25,7 +25,7 @@ pub fn copy_first_block(bytes: &[u8], buf: &mut [u8]) -> Option<usize>
     Some(size)
 }
 
-/// The payload of the block that the bytes begin with, and the bytes after the block, if all of it is there.
+/// Returns the payload of the block at the front of `bytes`, and the bytes after the block, if the block is complete.
 #[inline(always)]
 pub fn split_first_block(bytes: &[u8]) -> Option<(&[u8], &[u8])>
     ensures { MatchOption result (HasNoBlock bytes.now) (λ split. IsPayload split.0.now × (bytes.now ≡ block split.0.now ++ split.1.now)) }
@@ -34,7 +34,7 @@ pub fn split_first_block(bytes: &[u8]) -> Option<(&[u8], &[u8])>
     Some((&bytes[2..size], &bytes[size..]))
 }
 
-// How long the block is that the bytes begin with, if all of it is there.
+// Returns the length of the block at the front of `bytes`, if the block is complete.
 #[inline(always)]
 fn first_block(bytes: &[u8]) -> Option<usize>
     ensures within { IfSome result (λ size. size ≤ length bytes.now) }
@@ -51,7 +51,7 @@ fn first_block(bytes: &[u8]) -> Option<usize>
     Some(size)
 }
 
-// Copies the first bytes. Those of a short block are copied with more, if there are: to move a fixed number of bytes is cheap.
+// Copies the first bytes. For a short block it copies more bytes than needed, if they exist, since moving a fixed number of bytes is cheap.
 #[inline(always)]
 fn copy_first(from: &[u8], to: &mut [u8], size: usize)
     requires from { size ≤ length from.now }

@@ -1,15 +1,15 @@
-//! Blocks: a length of two bytes, and that many bytes of payload, as streams and files of market data carry them.
+//! Blocks: two bytes with a length, and then that number of bytes of payload, as streams and files of market data contain them.
 //!
-//! A block is the length of its payload in two bytes, the high byte first, and then the payload, at most 65,535 bytes. The packets
-//! of SoupBinTCP 3.00 are sent in such blocks, and a day file has its messages in them.
+//! A block consists of the length of its payload in two bytes, the high byte first, and of the payload, at most 65,535 bytes. SoupBinTCP 3.00
+//! sends its packets in such blocks, and a day file stores its messages in them.
 //!
-//! - [`Splitter`] cuts a stream that arrives in pieces into blocks. The blocks are the same whatever the pieces are.
+//! - [`Splitter`] cuts a stream that arrives in pieces into blocks. The blocks do not depend on the pieces.
 //! - [`BlockReader`] reads blocks or messages one by one, and never reads past the current block.
-//! - [`write_block`] writes one.
+//! - [`write_block`] writes one block.
 //!
-//! Readers and writers count their failures ([`CountedRead`], [`CountedWrite`]), so no call can report a failed read or write that
-//! did not happen.
-//! `laws` states what holds of every stream.
+//! Readers and writers count their failures ([`CountedRead`], [`CountedWrite`]), so no call can report a failed read or write that did not
+//! happen.
+//! `laws` states the properties of all streams.
 //!
 //! ```
 //! write_block(&mut out, b"hi")?;

@@ -1,4 +1,4 @@
-//! Messages that are passed over, and only counted.
+//! Passes over messages and only counts them.
 ghost use Rattle.itch_frame.specs.Passing.{PassesAtHand, PassesMessage, PassesMessages};
 
 use crate::counted::CountedRead;
@@ -6,21 +6,21 @@ use crate::fault::FrameFault;
 use crate::reader::BlockReader;
 use std::alloc::Allocator;
 
-// What lay at hand, and was passed.
+// The part of the bytes in memory that was passed.
 #[derive(Clone, Copy)]
 enum AtHand {
     // A message.
     Message,
-    // An empty block, at which the messages end.
+    // An empty block, which ends the messages.
     End,
-    // No whole block.
+    // Nothing: there is no complete block in memory.
     Nothing,
 }
 
 impl<R: CountedRead, A: Allocator> BlockReader<R, A> {
-    /// Passes over messages, at most so many, and returns how many: true if there are as many, false if the messages end after them.
+    /// Passes over at most `most` messages. Returns their number, and true if it is `most`, or false if the messages end after them.
     ///
-    /// They end as [`BlockReader::next_message`] says, and the faults are those of that call.
+    /// The messages end, and the faults occur, as for [`BlockReader::next_message`].
     pub fn pass_messages(&mut self, most: u64) -> (u64, Result<bool, FrameFault>)
         ensures { PassesMessages R.remaining R.failures most self.old result.0 result.1 self.new }
     {
@@ -39,7 +39,7 @@ impl<R: CountedRead, A: Allocator> BlockReader<R, A> {
     }
 }
 
-// Passes over the next message if it lies at hand, as it mostly does.
+// Passes over the next message if it is already in memory, which is the usual case.
 #[inline(always)]
 fn pass_at_hand<R: CountedRead, A: Allocator>(reader: &mut BlockReader<R, A>) -> AtHand
     ensures { PassesAtHand R.remaining R.failures reader.old result reader.new }
@@ -51,7 +51,7 @@ fn pass_at_hand<R: CountedRead, A: Allocator>(reader: &mut BlockReader<R, A>) ->
     }
 }
 
-// Passes over the next message (true), unless the messages end here (false).
+// Passes over the next message and returns true, or returns false if the messages end here.
 #[inline(never)]
 fn pass_message<R: CountedRead, A: Allocator>(
     reader: &mut BlockReader<R, A>,

@@ -1,4 +1,4 @@
-//! Blocks from a reader.
+//! Reads blocks from a reader.
 ghost use Rattle.std.specs.Prelude.{◌≡◌, ℕ, ◌+◌, ◌-◌, ◌<◌, ◌≤◌, List, [], ◌++◌, length, take, drop, vec_len, IfOk, IfSome, true, false};
 ghost use Rattle.std.specs.Io.KnownBytes.{prepend_known, Keeps, Consumes, IsAtEnd};
 ghost use Rattle.itch_frame.specs.Blocks.{IsBlockOf};
@@ -13,24 +13,24 @@ use std::alloc::{AllocError, Allocator, Global};
 use std::io;
 use std::marker::Model;
 
-// How far a reader of blocks is.
+// The stage of a reader of blocks.
 #[derive(Clone, Copy)]
 pub(crate) enum Stage {
-    // The next block is to be read, or some of it is held.
+    // The next block has not been read, or only a part of it.
     Going,
-    // A block was returned, and the next call drops it.
+    // A block was returned. The next call drops it.
     Given,
-    // The input ended where a block would begin.
+    // The input ended before the first byte of a block.
     Ended,
-    // The input ended within a block.
+    // The input ended inside a block.
     Cut,
 }
 
-/// Reads blocks one by one, and never asks its reader for more than the current block still needs.
+/// Reads blocks one by one. It never requests more bytes from its reader than the current block still needs.
 #[derive(Drop)]
 pub struct BlockReader<R: CountedRead, A: Allocator = Global> {
     reader: R,
-    // As long as the longest block. The first `len` bytes are those of the current block.
+    // Has the length of the longest block. The first `len` bytes belong to the current block.
     buffer: Vec<u8, A>,
     len: usize,
     stage: Stage,
@@ -59,7 +59,7 @@ impl<R: CountedRead, A: Allocator> BlockReader<R, A> {
     ghost use Rattle.itch_frame.specs.Reading.{NextBlock, NextAtHand, NextMessage, StaysEnded};
     ghost use Rattle.itch_frame.specs.contracts.reader.BlockReader.{the_row as reader_row};
 
-    /// A reader of blocks, from the first byte of `reader` on. It allocates all its memory here, 65,537 bytes.
+    /// Creates a reader of blocks, from the first byte of `reader` on. It allocates all of its memory here, 65,537 bytes.
     pub fn new(alloc: A, reader: R) -> Result<BlockReader<R, A>, AllocError>
     where
         R: Drop,
@@ -73,10 +73,10 @@ impl<R: CountedRead, A: Allocator> BlockReader<R, A> {
         })
     }
 
-    /// The payload of the next block, or `None` at the end of input. The block returned before is dropped.
+    /// Returns the payload of the next block, or `None` at the end of input. The block returned before is dropped.
     ///
-    /// After `Read`, what was read so far is kept, and the call may be made again. After `None` or `Truncated`, each call
-    /// returns the same, and nothing more is read.
+    /// After `Read`, the bytes read so far are kept, and the call may be repeated. After `None` or `Truncated`, each call returns the same
+    /// result, and nothing more is read.
     #[inline(always)]
     pub fn next_block(&mut self) -> Result<Option<&[u8]>, FrameFault>
         ensures* next { sem 𝓛 (Rests (reader_row R.row A.row R.CountedRead A.Allocator) self.entry (λ new.
@@ -89,11 +89,10 @@ impl<R: CountedRead, A: Allocator> BlockReader<R, A> {
         Ok(Some(&self.buffer[2..self.len]))
     }
 
-    /// The payload of the next block, if all of it lies at hand and nothing of it is held. The block returned before is dropped then;
-    /// `None` changes nothing.
+    /// Returns the payload of the next block, if the complete block is already in memory and no part of it was read before. Then the block
+    /// returned before is dropped; `None` changes nothing.
     ///
-    /// It reads nothing, so it has no faults. A caller that has so many blocks to read that each step counts asks for the next one here
-    /// first, and then, if there is none, [`BlockReader::next_block`].
+    /// This reads nothing, so it has no faults. In a hot loop, call this first and fall back to [`BlockReader::next_block`].
     #[inline(always)]
     pub fn next_at_hand(&mut self) -> Option<&[u8]>
         ensures* next { sem 𝓛 (Rests (reader_row R.row A.row R.CountedRead A.Allocator) self.entry (λ new.
@@ -106,11 +105,11 @@ impl<R: CountedRead, A: Allocator> BlockReader<R, A> {
         Some(&self.buffer[2..self.len])
     }
 
-    /// The payload of the next message, or `None` where the messages end: at the end of input, or at an empty block, which is
-    /// read too. The message returned before is dropped.
+    /// Returns the payload of the next message, or `None` where the messages end: at the end of input, or at an empty block, which is read
+    /// too. The message returned before is dropped.
     ///
-    /// The faults are those of [`BlockReader::next_block`], and leave the same. After the end of input each call returns `None`;
-    /// after an empty block the next call reads on.
+    /// The faults, and the state after them, are those of [`BlockReader::next_block`]. After the end of input each call returns `None`; after
+    /// an empty block the next call reads on.
     #[inline(always)]
     pub fn next_message(&mut self) -> Result<Option<&[u8]>, FrameFault>
         ensures* next { sem 𝓛 (Rests (reader_row R.row A.row R.CountedRead A.Allocator) self.entry (λ new.
@@ -129,10 +128,10 @@ impl<R: CountedRead, A: Allocator> BlockReader<R, A> {
     ghost use Rattle.itch_frame.specs.Offers.{Offers};
     ghost use Rattle.itch_frame.specs.Reading.{Loads, LoadsAtHand, StaysAsEnded, bytes_left, passed};
 
-    /// Reads on until all of the next block is held (true), unless the input ends where it would begin (false). It stays the next
-    /// block until it is passed ([`BlockReader::pass`]), and [`BlockReader::payload`] is its payload.
+    /// Reads until the next block is complete and returns true, or returns false if the input ends before its first byte. The block remains
+    /// the next one until [`BlockReader::pass`]; [`BlockReader::payload`] returns its payload.
     ///
-    /// The faults are those of [`BlockReader::next_block`], and leave the same.
+    /// The faults, and the state after them, are those of [`BlockReader::next_block`].
     #[inline(always)]
     pub fn load(&mut self) -> Result<bool, FrameFault>
         ensures loads { Loads R.remaining R.failures self.old result self.new }
@@ -159,7 +158,8 @@ impl<R: CountedRead, A: Allocator> BlockReader<R, A> {
         }
     }
 
-    /// The same, if all of the next block lies at hand and nothing of it is held (true). Otherwise nothing changes.
+    /// Does the same and returns true, if the complete next block is already in memory and no part of it was read before. Otherwise it
+    /// changes nothing.
     #[inline(always)]
     pub fn load_at_hand(&mut self) -> bool
         ensures { LoadsAtHand R.remaining R.failures self.old result self.new }
@@ -176,7 +176,7 @@ impl<R: CountedRead, A: Allocator> BlockReader<R, A> {
         true
     }
 
-    /// The payload of the block that is held.
+    /// Returns the payload of the loaded block.
     #[inline(always)]
     pub fn payload(&self) -> &[u8]
         requires { IsBlock self.now.held }
@@ -185,7 +185,7 @@ impl<R: CountedRead, A: Allocator> BlockReader<R, A> {
         &self.buffer[2..self.len]
     }
 
-    /// Passes the block that is held: the one after it is the next.
+    /// Passes the loaded block: the block after it becomes the next one.
     #[inline(always)]
     pub fn pass(&mut self)
         requires { IsBlock self.old.held }
@@ -194,7 +194,7 @@ impl<R: CountedRead, A: Allocator> BlockReader<R, A> {
         self.stage = Stage::Given;
     }
 
-    /// The same if a block is held; otherwise nothing changes.
+    /// Passes the loaded block if there is one; otherwise it changes nothing.
     pub fn pass_held(&mut self)
         requires { self.old.stage ≡ Stage.Going → IsBlock self.old.held }
         ensures { self.new ≡ passed self.old }
@@ -204,11 +204,11 @@ impl<R: CountedRead, A: Allocator> BlockReader<R, A> {
         }
     }
 
-    /// Offers what lies at hand to a consumer where the next block would begin, moves past what it uses, and returns how much that is.
-    /// A consumer uses whole blocks.
+    /// Offers the bytes in memory to a consumer, if the next block begins with them, moves past those that the consumer uses, and returns
+    /// their number. A consumer uses complete blocks.
     ///
-    /// It reads nothing, so it has no faults. Before the first block, after one that has not been passed, and once the input has ended,
-    /// nothing is offered.
+    /// This reads nothing, so it has no faults. It offers nothing before the first block, after a block that has not been passed, and after
+    /// the end of the input.
     #[inline(always)]
     pub fn offer<C: Consumer>(&mut self, consumer: &mut C) -> usize
         requires { C.is_ready consumer.old }
@@ -222,7 +222,7 @@ impl<R: CountedRead, A: Allocator> BlockReader<R, A> {
         }
     }
 
-    /// The bytes that the reader has at hand: what comes after the block at hand.
+    /// Returns the bytes that the reader holds in memory: those after the block in memory.
     #[inline(always)]
     pub fn at_hand(&self) -> &[u8]
         ensures { IfSome (R.remaining self.now.reader) (λ rest. take (length result.now) rest ≡ result.now) }
@@ -231,14 +231,14 @@ impl<R: CountedRead, A: Allocator> BlockReader<R, A> {
     }
 }
 
-/// This many bytes, all zero.
+/// Returns `len` bytes, all zero.
 fn zeros<A: Allocator>(alloc: A, len: usize) -> Result<Vec<u8, A>, AllocError>
     ensures { IfOk result (λ bytes. vec_len bytes ≡ len) }
 {
     vec![in alloc; 0; len]
 }
 
-/// Completes the current block, the first `len` bytes of `buffer` (true), unless the input ends before (false).
+/// Completes the current block, the first `len` bytes of `buffer`, and returns true, or returns false if the input ends first.
 #[inline(always)]
 fn fill_block<R: CountedRead>(
     reader: &mut R,
@@ -262,7 +262,7 @@ fn fill_block<R: CountedRead>(
     read_block(reader, buffer, len)
 }
 
-/// Takes the current block at once, if nothing of it is held and all of it lies at hand.
+/// Takes the current block at once, if no part of it was read before and the complete block is already in memory.
 #[inline(always)]
 fn take_block<R: CountedRead>(reader: &mut R, buffer: &mut [u8], len: &mut usize) -> bool
     ensures room { length buffer.new ≡ length buffer.old }

@@ -1,4 +1,4 @@
-//! Blocks from a stream that arrives in pieces.
+//! Cuts a stream that arrives in pieces into blocks.
 ghost use Rattle.std.specs.Prelude.{◌≡◌, ℕ, ◌+◌, ◌-◌, ◌<◌, ◌≤◌, min, List, [], ◌++◌, length, take, slice_index, vec_capacity, IfOk, IfSome, IfNone};
 ghost use Rattle.itch_frame.specs.Blocks.{IsBlock, IsBlockOf};
 ghost use Rattle.itch_frame.specs.Cuts.{IsTake};
@@ -8,7 +8,7 @@ use byteorder::{BigEndian, ByteOrder};
 use std::alloc::{AllocError, Allocator, Global};
 use std::marker::Model;
 
-/// The longest block: two length bytes and 65,535 bytes of payload.
+/// The length of the longest block: two length bytes and 65,535 bytes of payload.
 pub(crate) const LONGEST: usize = 65_537;
 
 /// Cuts a stream that arrives in pieces into blocks.
@@ -26,14 +26,15 @@ impl<A: Allocator> Model for Splitter<A> {
 }
 
 impl<A: Allocator> Splitter<A> {
-    /// A splitter that holds nothing. It allocates all its memory here, exactly 65,537 bytes.
+    /// Creates a splitter that holds nothing. It allocates all of its memory here, exactly 65,537 bytes.
     pub fn new(alloc: A) -> Result<Splitter<A>, AllocError>
         ensures { IfOk result (λ s. s ≡ []) }
     {
         Ok(Splitter { held: room(alloc)? })
     }
 
-    /// Takes bytes from the front of `piece` up to the end of the current block, and returns how many: 0 while a block is ready.
+    /// Takes bytes from the front of `piece`, up to the end of the current block, and returns their number. While a block is ready, it
+    /// returns 0.
     pub fn take(&mut self, piece: &[u8]) -> usize
         ensures { IsTake self.old piece.now result self.new }
     {
@@ -41,7 +42,7 @@ impl<A: Allocator> Splitter<A> {
         first + fill(&mut self.held, &piece[first..])
     }
 
-    /// The payload, once the block is complete. A block of length 0 has an empty one.
+    /// Returns the payload if the block is complete. A block of length 0 has an empty payload.
     pub fn ready(&self) -> Option<&[u8]>
         ensures some { IfSome result (λ payload. IsBlockOf payload.now self.now) }
         ensures none { IfNone result (¬ IsBlock self.now) }
@@ -54,14 +55,14 @@ impl<A: Allocator> Splitter<A> {
         }
     }
 
-    /// Drops everything that is held.
+    /// Drops all bytes that the splitter holds.
     pub fn clear(&mut self)
         ensures { self.new ≡ [] }
     {
         self.held.clear();
     }
 
-    /// How many bytes are held, including the length bytes.
+    /// Returns the number of bytes that the splitter holds, including the length bytes.
     pub fn held(&self) -> usize
         ensures count { result ≡ length self.now }
         ensures bound { result ≤ 65537 }
@@ -70,14 +71,14 @@ impl<A: Allocator> Splitter<A> {
     }
 }
 
-// Room for the longest block, and no more.
+// Allocates room for exactly the longest block.
 fn room<A: Allocator>(alloc: A) -> Result<Vec<u8, A>, AllocError>
     ensures { IfOk result (λ held. (held.items ≡ []) × (vec_capacity held ≡ 65537)) }
 {
     Vec::with_capacity(alloc, LONGEST)
 }
 
-/// How many bytes the current block still needs, as far as its bytes say: the two length bytes come first.
+/// Returns how many more bytes the current block needs, according to the bytes so far: the two length bytes come first.
 pub(crate) fn lacking(held: &[u8]) -> usize
     ensures count { result ≡ need held.now - length held.now }
     ensures bound { need held.now ≤ 65537 }
@@ -91,7 +92,7 @@ pub(crate) fn lacking(held: &[u8]) -> usize
     }
 }
 
-/// How long the current block is, once its length bytes are there.
+/// Returns the length of the current block, once its length bytes are complete.
 #[inline(always)]
 pub(crate) fn needed(held: &[u8]) -> usize
     requires { 2 ≤ length held.now }
@@ -102,7 +103,7 @@ pub(crate) fn needed(held: &[u8]) -> usize
     2 + usize::from(BigEndian::read_u16(held))
 }
 
-/// Moves as much of the piece as the current block needs, and returns how much.
+/// Moves bytes of the piece that the current block needs, and returns their number.
 fn fill<A: Allocator>(held: &mut Vec<u8, A>, piece: &[u8]) -> usize
     requires room { 65537 ≤ vec_capacity held.old }
     requires begun { length held.old.items ≤ need held.old.items }

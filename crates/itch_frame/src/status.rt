@@ -1,4 +1,4 @@
-//! What a program makes of a fault: the status that it ends with, and the system's error behind it.
+//! The exit status of a program after a fault, and the system's error behind it.
 ghost use Rattle.std.specs.Prelude.{◌≡◌};
 ghost use Rattle.itch_frame.specs.Statuses.{frame_error, frame_status};
 
@@ -6,7 +6,7 @@ use crate::fault::FrameFault;
 use std::io;
 
 impl FrameFault {
-    /// The status that a program ends with: 3 for a failed read or write, 1 for blocks that are refused.
+    /// Returns the exit status of a program: 3 for a failed read or write, 1 for rejected blocks.
     pub fn status(&self) -> u8
         ensures { result ≡ frame_status self.now }
     {
@@ -16,7 +16,7 @@ impl FrameFault {
         }
     }
 
-    /// The system's own error, if a read or a write failed.
+    /// Returns the system's own error, if a read or a write failed.
     pub fn io_error(&self) -> Option<io::Error>
         ensures { result ≡ frame_error self.now }
     {

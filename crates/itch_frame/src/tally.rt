@@ -1,19 +1,19 @@
-//! The count of a reader's or a writer's failures.
+//! Counts the failures of a reader or a writer.
 ghost use Rattle.std.specs.Prelude.{◌≡◌};
 ghost use Rattle.itch_frame.specs.Counting.{failed};
 
 use std::io;
 
-/// How many calls failed, and the error of the last one.
+/// The number of failed calls, and the error of the last one.
 #[derive(Clone, Copy, Debug)]
 pub struct Failures {
-    // It stays at its greatest value, 2^64 - 1.
+    // Remains at its maximum, 2^64 - 1.
     count: u64,
     last: Option<io::Error>,
 }
 
 impl Failures {
-    /// No failures so far.
+    /// Returns a count without failures.
     pub fn none() -> Failures
         ensures count { result.count ≡ 0 }
         ensures last { result.last ≡ None }
@@ -24,14 +24,14 @@ impl Failures {
         }
     }
 
-    /// How many there were. The count stays at its greatest value, 2^64 - 1.
+    /// Returns the number of failures. The count remains at its maximum, 2^64 - 1.
     pub fn count(&self) -> u64
         ensures { result ≡ self.now.count }
     {
         self.count
     }
 
-    /// The error of the last one.
+    /// Returns the error of the last failure.
     pub fn last(&self) -> Option<io::Error>
         ensures { result ≡ self.now.last }
     {

@@ -1,4 +1,4 @@
-//! Blocks to a writer.
+//! Writes blocks to a writer.
 ghost use Rattle.std.specs.Prelude.{◌<◌, ◌+◌, length};
 ghost use Rattle.itch_frame.specs.Writing.{WriteBlock, WritePart};
 
@@ -20,9 +20,9 @@ pub fn write_block<W: CountedWrite>(writer: &mut W, payload: &[u8]) -> Result<()
     write_part(writer, payload, 2)
 }
 
-/// Writes bytes as they are: a part of something of which `before` bytes were written before.
+/// Writes bytes unchanged, as the part of a block after its first `before` bytes.
 ///
-/// The only fault is `Write`, which says how much of the whole was written.
+/// The only fault is `Write`, which states how many bytes of the complete block were written.
 #[inline(always)]
 pub fn write_part<W: CountedWrite>(
     writer: &mut W,

@@ -1,4 +1,4 @@
--- What is known in each case of a delivery, and of a message of a snapshot.
+-- The properties of each case of a delivery, and of a message of a snapshot.
 use Rattle.std.proofs.Common.{◌≡◌, ℕ, ◌==◌, ◌-◌, ◌^◌, ◌<◌, ◌≤◌, nat_lt, Bool, true, false, cond, List, Option, Some, None, is_some, refl, subst, arith, bytes_eq}
 use Rattle.std.specs.FinMap as map
 use Rattle.std.proofs.lemmas.Bool.Decides.{nat_tests}
@@ -13,7 +13,7 @@ use Rattle.itch_join.specs.Rules.{Rules}
 use Rattle.itch_join.specs.States.{State, HalfRead, Reading, Broken, is_number}
 use Rattle.itch_join.specs.Steps.{halted_case, old_case, conflict_case, next_case, live_case, SnapshotCase, SnapHalted, SnapJoined, SnapBroken, SnapFails, SnapEnds, SnapTakes, message_case, payload_case, half_case, unjoined_case, unhalted_case, snapshot_case}
 
--- a place at or below a number
+-- a position at or below a number
 abbrev pub IsAbove : State → ℕ → Type 0
 IsAbove s number = (j : Position) → s.joined ≡ Some j → j.next < number
 
@@ -93,7 +93,7 @@ module _ (cap : ℕ) (s : State) (number : ℕ) (payload : List ℕ) where
   pub live_case_is : IsLiveCase cap s number payload (live_case cap s number payload)
   live_case_is = by_halt s.halt refl
 
--- what is known in each case of a message of the snapshot
+-- the properties of each case of a message of the snapshot
 abbrev pub IsSnapshotCase : Rules → State → List ℕ → SnapshotCase → Type 0
 IsSnapshotCase R s payload (SnapHalted h) = s.halt ≡ Some h
 IsSnapshotCase R s payload SnapJoined = Unit {0}

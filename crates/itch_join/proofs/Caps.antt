@@ -1,4 +1,4 @@
--- At most `cap` messages wait, whatever is delivered.
+-- At most `cap` messages are waiting, for any deliveries.
 use Rattle.std.proofs.Common.{◌≡◌, ℕ, ◌+◌, ◌≤◌, Bool, true, false, ◌||◌, cond, List, [], ◌∷◌, Option, Some, None, is_some, Result, Ok, Err, ap, ◌∙◌, arith}
 use Rattle.std.specs.FinMap as map
 use Rattle.std.specs.Ordering.{nat_cmp}
@@ -21,7 +21,7 @@ use Rattle.itch_join.specs.Deliveries.{Event, LeadsTo, History}
 use Rattle.itch_join.proofs.CallCases.{IsLiveCase, live_case_is}
 use Rattle.itch_join.proofs.Maps.{len_removed, len_from}
 
--- a message that is applied waits no longer, and none is added
+-- an applied message is no longer waiting, and none is added
 applied_len : (R : Rules) (a b : Front) (hand : Option (List ℕ)) (ps : List (List ℕ)) (ending : Result (Unit {0}) Stopped) → Applies R a hand ps ending b → map.len b.wait ≤ map.len a.wait
 applied_len R a b hand [] ending (ends, is) = let e = ap (λ (f : Front). map.len f.wait) is in omega arith
 applied_len R a b hand (p ∷ ps) ending (there, none, rest) =
@@ -30,7 +30,7 @@ applied_len R a b hand (p ∷ ps) ending (there, none, rest) =
     omega arith
 
 module _ (R : Rules) (cap : ℕ) where
-  -- at most `cap` messages wait
+  -- at most `cap` messages are waiting
   abbrev Has : State → Type 0
   Has s = map.len s.wait ≤ cap
 

@@ -1,4 +1,4 @@
--- What a call leaves that has applied messages up to the first number that is missing.
+-- The state after a call that applied messages up to the first number that is missing.
 use Rattle.std.proofs.Common.{◌≡◌, ℕ, ◌||◌, Bool, true, false, not, List, Option, Some, None, is_some, Result, sym, ap, ◌∙◌, subst}
 use Rattle.std.specs.Option.{option_map}
 use Rattle.std.specs.FinMap as map
@@ -35,7 +35,7 @@ pub nexted : (R : Rules) (s now : State) (j : Position) (number : ℕ) (payload 
     → CatchesUp R s.half (front_of s j) (Some payload) Applied (λ any. is_some (map.get s.wait j.next) || any) result now → NextBy R s number payload s.joined result now
 nexted R s now j number payload result there goes = subst (λ (o : Option Position). NextBy R s number payload o result now) (sym there) goes
 
--- a message was applied or waits
+-- a message was applied or is waiting
 pub taken_first : (a b x : Bool) → a ≡ true → x ≡ true → x ≡ (a || b)
 taken_first a b x first is = is ∙ ap (λ c. c || b) (sym first)
 

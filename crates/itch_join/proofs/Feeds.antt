@@ -1,4 +1,4 @@
--- The markets that a feed leaves, up to its first bad place.
+-- The markets after the messages of a feed, up to its first bad position.
 use Rattle.std.proofs.Common.{◌≡◌, ℕ, zero, suc, ◌+◌, ◌-◌, ◌<◌, ◌≤◌, Bool, true, false, cond, List, [], ◌∷◌, take, Option, Some, None, is_some, slice_get, refl, ap, ◌∙◌, subst, arith}
 use Rattle.std.specs.List.{AllByRecursion}
 use Rattle.itch_codec.specs.Fields.{AreBytes}
@@ -16,7 +16,7 @@ module _ (R : Rules) where
     by_test true = omega arith
     by_test false = omega arith
 
-  -- the first is not bad, where a later one is the first or none
+  -- the first message is not bad if a later one is the first bad one, or none is
   pub first_fine : (m : Content) (q : List ℕ) (F : List (List ℕ)) (k : ℕ) → suc k + 1 ≤ first_bad R m (q ∷ F) → (is_some (R.refused m q) ≡ false) × (k + 1 ≤ first_bad R (R.effect m q) F)
   first_fine m q F k low = by_test (is_some (R.refused m q)) low where
     by_test : (b : Bool) → suc k + 1 ≤ cond b 1 (first_bad R (R.effect m q) F + 1) → (b ≡ false) × (k + 1 ≤ first_bad R (R.effect m q) F)
@@ -65,9 +65,9 @@ module _ (R : Rules) where
       let fine = first_fine m q F k low in
       good lawful (R.effect m q) F k (lawful.effect_good m q is bytes.0 (none_there (R.refused m q) fine.0)) bytes.1 fine.1
 
-  -- the same of places, from 1 -------------------------------------------------
+  -- the same for positions, from 1 on ----------------------------------------------
 
-  -- the market before a place
+  -- the market before a position
   abbrev pub market_at : List (List ℕ) → ℕ → Content
   market_at F n = run R (take (n - 1) F)
 

@@ -1,4 +1,4 @@
--- Applying keeps what is true of a joiner's front.
+-- Applying preserves the properties of a joiner's front.
 use Rattle.std.proofs.Common.{◌≡◌, ◌≢◌, ℕ, ◌+◌, ◌-◌, ◌<◌, ◌≤◌, Bool, true, false, cond, List, [], ◌∷◌, Option, Some, None, is_some, slice_get, Result, refl, sym, ap, ◌∙◌, subst, arith, eqb, inl, inr}
 use Rattle.std.specs.List.{AllByRecursion}
 use Rattle.std.specs.FinMap as map
@@ -17,7 +17,7 @@ use Rattle.itch_join.specs.Applying.{Front, advanced, at_hand, EndsBy, Applies}
 use Rattle.itch_join.proofs.Maps.{get-remove}
 use Rattle.itch_join.proofs.Feeds.{market_at, market_next, bad_next, market_good, bytes_at}
 
--- what is left of a map without a key
+-- a map after a key was removed
 pub record IsLeft (w : Wait) (k i : ℕ) (p : List ℕ) : Type 0 where
   pub there : map.get w i ≡ Some p
   pub other : i ≢ k
@@ -75,12 +75,12 @@ module _ (R : Rules) (lawful : AreLawful R) (feed : List (List ℕ)) (bytes : Al
             (subst (Same (R.effect a.market p)) (sym (market_next R feed a.next p some there)) (lawful.effect_same a.market (market_at R feed a.next) p g.good fine are g.market none));
       }
 
-  -- applying has ended
+  -- the end of applying
   pub record Ended (taken : ℕ → Bool) (first : ℕ) (ending : Result (Unit {0}) Stopped) (b : Front) : Type 0 where
     pub going : Going R feed taken first b.next b
     pub ends : EndsBy R b.market (at_hand b) ending
 
-  -- all that waits is applied
+  -- all waiting messages are applied
   pub go_on : (taken : ℕ → Bool) (first : ℕ) (a b : Front) (ps : List (List ℕ)) (ending : Result (Unit {0}) Stopped) → Going R feed taken first a.next a
       → Applies R a (at_hand a) ps ending b → Ended taken first ending b
   go_on taken first a b [] ending g (ends, is) =

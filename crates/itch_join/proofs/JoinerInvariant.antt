@@ -1,4 +1,4 @@
--- What stays true of a joiner from call to call.
+-- The properties of a joiner that each call preserves.
 use Rattle.std.proofs.Common.{◌≡◌, ℕ, ◌+◌, ◌-◌, ◌==◌, ◌<◌, ◌≤◌, nat_lt, nat_le, Bool, true, false, not, ◌&&◌, ◌||◌, cond, List, [], ◌∷◌, Option, Some, None, is_some, slice_get, Result, Ok, Err, refl, sym, ap, ◌∙◌, subst, arith, eqb, ◌⊎◌, inl, inr}
 use Rattle.std.specs.List.{AllByRecursion}
 use Rattle.std.specs.FinMap as map
@@ -47,7 +47,7 @@ pub and_second : (a b : Bool) → (a && b) ≡ true → b ≡ true
 and_second true b h = h
 and_second false b h = cc
 
--- a fault that does not say whether any could be applied
+-- a fault that does not determine whether any message could be applied
 pub unheard : (o : Option Position) (number : ℕ) (fault : JoinFault) → by_fault fault ≡ None → by_live_fault o number fault ≡ None
 unheard None number fault none = refl
 unheard (Some j) number fault none = by_test (number == j.next) where
@@ -79,7 +79,7 @@ pub record IsKeptUp (R : Rules) (feed : List (List ℕ)) (past : List Event) (s 
   pub halted : (h : Halt) → s.halt ≡ Some h → IsHaltedAt R feed s h
   pub half : HalfIsGood s.half
 
--- the history with one call more
+-- the history with one more call
 abbrev pub then_call : State → Call → List Event → List Event
 then_call s call past = let x : Event = record { before = s; call = call } in x ∷ past
 
@@ -87,7 +87,7 @@ module _ (R : Rules) (lawful : AreLawful R) (feed : List (List ℕ)) (bytes : Al
   abbrev Keeps : List Event → State → Type 0
   Keeps past s = IsKeptUp R feed past s
 
-  -- a call that leaves the same messages waiting, and the same next number
+  -- a call that does not change the waiting messages or the next number
   pub stay : (past : List Event) (s : State) (call : Call) (h : HalfRead) → Keeps past s → HalfIsGood h → start_of R s call ≡ None
       → ((i : ℕ) → accepts i call ≡ true → is_from s.joined i ≡ true → accepted i past ≡ true)
       → (s.halt ≡ None → settled (then_call s call past) ≡ true → settled past ≡ true)
@@ -115,7 +115,7 @@ module _ (R : Rules) (lawful : AreLawful R) (feed : List (List ℕ)) (bytes : Al
     half = fine;
   }
 
-  -- a message at hand that is refused is the feed's first bad one
+  -- a next message that is refused is the feed's first bad one
   pub at_bad : (n : ℕ) (m : Content) (p : List ℕ) (cause : Cause) → 0 < n → n ≤ bad R feed → IsGood m → Same m (market_at R feed n) → slice_get feed (n - 1) ≡ Some p
       → R.refused m p ≡ Some cause → IsBadAt R feed n cause
   at_bad n m p cause some low good same there is =
@@ -123,7 +123,7 @@ module _ (R : Rules) (lawful : AreLawful R) (feed : List (List ℕ)) (bytes : Al
       let too : R.refused (market_at R feed n) p ≡ Some cause = sym (lawful.refused_same m (market_at R feed n) p good fine same) ∙ is in
       record { is_bad = bad_here R feed n p cause some low there too; payload = p; there = there; refused = too }
 
-  -- where applying has ended
+  -- the end of applying
   pub finish : (past : List Event) (s : State) (call : Call) (half : HalfRead) (taken : ℕ → Bool) (first : ℕ) (ending : Result (Unit {0}) Stopped) (b : Front)
       → Ended R lawful feed bytes taken first ending b → HalfIsGood half → start R (then_call s call past) ≡ Some first
       → ((i : ℕ) → b.next ≤ i → taken i ≡ true → accepted i (then_call s call past) ≡ true)
@@ -180,11 +180,11 @@ module _ (R : Rules) (lawful : AreLawful R) (feed : List (List ℕ)) (bytes : Al
             at_bad = at_bad b.next b.market p cause (omega (arith, g.positive, g.from_first)) g.to_bad g.good g.market (g.bytes b.next p is) ends;
           })
 
-  -- nothing in the result counts as taken
+  -- no delivery counts as taken by the result
   pub untaken : (number i : ℕ) (taken : Bool) (b : Bool) → taken ≡ false → ((number == i) && taken) ≡ true → b ≡ true
   untaken number i taken b off h = let is = and_second (number == i) taken h in absurd (cc)
 
-  -- a delivery that is not taken and changes nothing
+  -- a delivery that is not taken and that changes nothing
   pub refuse_live : (past : List Event) (s : State) (number : ℕ) (payload : List ℕ) (fault : JoinFault) → Keeps past s → is_taken (Err fault) ≡ false
       → (s.halt ≡ None → settling s (CallLive number payload (Err fault)) ≡ None) → Keeps (then_call s (CallLive number payload (Err fault)) past) s
   refuse_live past s number payload fault k off silent =
@@ -371,7 +371,7 @@ module _ (R : Rules) (lawful : AreLawful R) (feed : List (List ℕ)) (bytes : Al
       by_key i p true e has = absurd (cc)
       by_key i p false e has = (has, grind (arith, nat_tests))
 
-  -- what waits is applied
+  -- the waiting messages are applied
   pub resume_at : (past : List Event) (s : State) (j : Position) (ps : List (List ℕ)) (ending : Result (Unit {0}) Stopped) (b : Front)
       → Keeps past s → s.halt ≡ None → s.joined ≡ Some j → Applies R (front_of s j) (at_hand (front_of s j)) ps ending b
       → Keeps (then_call s (CallResume (result_by Some false ending b.next)) past) (standing s.half ending b)

@@ -1,4 +1,4 @@
--- Each call keeps what is true of a joiner, and so a joiner stands where `Stands` says.
+-- Each call preserves the properties of a joiner, and so its state is the one in `Stands`.
 use Rattle.std.proofs.Common.{◌≡◌, ℕ, ◌+◌, ◌-◌, ◌==◌, ◌<◌, ◌≤◌, nat_le, Bool, true, false, ◌&&◌, cond, List, [], ◌∷◌, Option, Some, None, is_some, slice_get, Result, Ok, Err, refl, sym, ap, ◌∙◌, subst, arith}
 use Rattle.std.specs.List.{AllByRecursion}
 use Rattle.std.specs.FinMap as map
@@ -71,7 +71,7 @@ module _ (R : Rules) (lawful : AreLawful R) (cap : ℕ) (feed : List (List ℕ))
       apart_live None over = refl
       apart_live (Some j) over = let less = over j refl in let off : (number == j.next) ≡ false = grind (arith, nat_tests) in ap (λ t. cond t (Some false) None) off
 
-  -- a message of a snapshot at which nothing is applied
+  -- a message of a snapshot that applies no waiting messages
   quiet : (past : List Event) (s : State) (payload : List ℕ) (result : Result Snap JoinFault) (h : HalfRead) → Keeps past s → HalfIsGood h → start_by (snapshot_case R s payload) ≡ None
       → (s.halt ≡ None → settled (then_call s (CallSnapshot payload result) past) ≡ true → settled past ≡ true) → Keeps (then_call s (CallSnapshot payload result) past) (record s { half = h })
   quiet past s payload result h k fine starts calm = stay R lawful feed bytes past s (CallSnapshot payload result) h k fine starts (λ i acc. absurd (cc)) calm
@@ -138,7 +138,7 @@ module _ (R : Rules) (lawful : AreLawful R) (cap : ℕ) (feed : List (List ℕ))
   always [] now is = subst (Keeps []) (sym is) at_first
   always (x ∷ past) now (step, fits, before) = keeps past x.before x.call now (always past x.before before) step fits
 
-  -- where it stands ---------------------------------------------------------------
+  -- the state of a joiner ---------------------------------------------------------
 
   alike : (a b : Bool) → (a ≡ true → b ≡ true) → (b ≡ true → a ≡ true) → a ≡ b
   alike true b one other = sym (one refl)

@@ -33,7 +33,7 @@ use Rattle.std.proofs.lemmas.Slice.Eq.{bytes_eq-Decides}
 abbrev HaltStays : {T : Type 0} → Result T JoinFault → State → Type 0
 HaltStays result now = (h : Halt) → halt_in result ≡ Some h → now.halt ≡ Some h
 
--- where applying has ended, a halt that is returned stands
+-- at the end of applying, a halt that is returned remains
 went_halts : {T : Type 0} (done : ℕ → T) (taken : Bool) (half : HalfRead) (ending : Result (Unit {0}) Stopped) (b : Front) → HaltStays (result_by done taken ending b.next) (standing half ending b)
 went_halts done taken half (Ok ended) b h is = absurd (cc)
 went_halts done taken half (Err (Refused cause)) b h is = is
@@ -115,7 +115,7 @@ module _ (R : Rules) (lawful : AreLawful R) (cap : ℕ) (feed : List (List ℕ))
   abbrev Bad : ℕ → Result Live JoinFault → Type 0
   Bad number result = (cause : Cause) × (result ≡ Err (Halted number cause)) × IsBadAt R feed number cause
 
-  -- a message that is applied is not the bad one
+  -- an applied message is not the bad one
   fine : (past : List Event) (s : State) (j : Position) (p : List ℕ) → IsKeptUp R feed past s → s.joined ≡ Some j → j.next ≡ bad R feed → slice_get feed (j.next - 1) ≡ Some p → R.refused j.market p ≡ None → ⊥
   fine past s j p k there at deliver none =
       let q = k.placed j there in

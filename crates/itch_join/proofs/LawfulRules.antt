@@ -45,7 +45,7 @@ market_lawful = record {
   effect_good = λ m p good bytes none. effect_good m (message_of p) good (fits m p bytes none) (reasonless m p (fault p) none);
 }
 
--- so are those where only some locates are wanted
+-- so are the rules in which only some locates are wanted
 module _ (wanted : ℕ → Bool) where
   abbrev R : Rules
   R = rules_of wanted

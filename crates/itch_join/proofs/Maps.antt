@@ -1,4 +1,4 @@
--- Finite maps with numbers as keys: what is left where keys are dropped.
+-- Finite maps with numeric keys, after keys are removed.
 use Rattle.std.proofs.Common.{T, is_lt, Less, Bool, true, false, ◌≡◌, ℕ, ◌-◌, ◌<◌, ◌≤◌, nat_lt, not, cond, List, [], ◌∷◌, length, Option, Some, None, is_some, refl, sym, ap, ◌∙◌, nat_cmp, eqb, arith, map}
 use Rattle.std.specs.Cmp.{nat_cmp_total, eq_by_cmp_equiv}
 use Rattle.std.specs.FinMap as finite
@@ -28,7 +28,7 @@ module _ {X : Type 0} where
       let parts = both (below_all nat_cmp e.0 es) (is_sorted nat_cmp es) sorted in
       (below_rise e.0 es parts.0, entries_rise es parts.1)
 
-  -- the keys of a map rise
+  -- the keys of a map ascend
   keys_rise : (m : finite.FinMap nat_cmp X) → IsStrictlySortedBy nat_cmp (finite.keys m)
   keys_rise m = entries_rise (finite.entries m) (finite.entries_sorted m)
 
@@ -38,7 +38,7 @@ module _ {X : Type 0} where
   pub get-from : (m : finite.FinMap nat_cmp X) (n q : ℕ) → finite.get (finite.retain_keys m (λ i. not (nat_lt i n))) q ≡ cond (not (nat_lt q n)) (finite.get m q) None
   get-from m n q = finite.get-retain_keys m (λ i. not (nat_lt i n)) q (λ x same. ap (λ i. not (nat_lt i n)) (sym (nat_cmp-IsAntisymmetric q x same)))
 
-  -- a map with no other keys is no longer
+  -- a map without additional keys is no longer
   pub len_within : (m n : finite.FinMap nat_cmp X) → ((q : ℕ) → is_some (finite.get n q) ≡ true → is_some (finite.get m q) ≡ true) → finite.len n ≤ finite.len m
   len_within m n within =
       let laws = eq_by_cmp_equiv nat_cmp_total in
@@ -47,21 +47,21 @@ module _ {X : Type 0} where
       (λ q has. sym (finite.contains_key-keys m q) ∙ within q (finite.contains_key-keys n q ∙ has)) in
       omega (arith, finite.len-entries n, finite.len-entries m, length-map (λ (e : ℕ × X). e.0) (finite.entries n), length-map (λ (e : ℕ × X). e.0) (finite.entries m))
 
-  -- so is one without a key
+  -- nor is a map without a key
   pub len_removed : (m : finite.FinMap nat_cmp X) (k : ℕ) → finite.len (finite.remove m k) ≤ finite.len m
   len_removed m k = len_within m (finite.remove m k) (λ q has. was_there (eqb q k) (finite.get m q) (ap is_some (sym (get-remove m k q)) ∙ has)) where
     was_there : (b : Bool) (o : Option X) → is_some (cond b None o) ≡ true → is_some o ≡ true
     was_there true o has = cc
     was_there false o has = has
 
-  -- and one without the keys below a number
+  -- nor a map without the keys below a number
   pub len_from : (m : finite.FinMap nat_cmp X) (n : ℕ) → finite.len (finite.retain_keys m (λ i. not (nat_lt i n))) ≤ finite.len m
   len_from m n = len_within m (finite.retain_keys m (λ i. not (nat_lt i n))) (λ q has. was_there (nat_lt q n) (finite.get m q) (ap is_some (sym (get-from m n q)) ∙ has)) where
     was_there : (b : Bool) (o : Option X) → is_some (cond (not b) o None) ≡ true → is_some o ≡ true
     was_there true o has = cc
     was_there false o has = has
 
-  -- a map without a key that was there is shorter
+  -- a map is shorter after an existing key is removed
   pub len_less : (m : finite.FinMap nat_cmp X) (k : ℕ) (x : X) → finite.get m k ≡ Some x → finite.len (finite.remove m k) < finite.len m
   len_less m k x there =
       let some : (finite.len m ≡ 0 → ⊥) = λ none. let e : None ≡ Some x = sym (finite.get-empty nat_cmp k) ∙ ap (λ w. finite.get w k) (sym (finite.empty_of_len m none)) ∙ there in cc in

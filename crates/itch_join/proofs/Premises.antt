@@ -1,4 +1,4 @@
--- The snapshot of a feed's first messages is one of the feed.
+-- The snapshot of a feed's first messages meets the premise on snapshots of the feed.
 use Rattle.std.proofs.Common.{◌≡◌, ℕ, zero, suc, ◌+◌, ◌-◌, ◌^◌, ◌==◌, ◌<◌, ◌≤◌, Bool, true, false, not, cond, List, [], ◌∷◌, map, length, take, Some, None, refl, sym, ap, ap₂, ◌∙◌, subst, arith}
 use Rattle.std.specs.Option.{option_map}
 use Rattle.std.specs.List.{AllByRecursion}
@@ -51,7 +51,7 @@ take_short (suc k) (q ∷ F) = let h = take_short k F in omega arith
 pub laid_empty : laid empty ≡ empty
 laid_empty = let none : book.lay [] ≡ [] = lay_fit [] tt in ap (λ (os : List Order). let m : Content = record empty { orders = os } in m) none
 
--- messages that are spelled are read back
+-- encoded messages are read back
 read_back : (ms : List Message) → AreMessages ms → map message_of (map spelling ms) ≡ ms
 read_back [] fit = refl
 read_back (x ∷ xs) fit = ap₂ (λ y ys. y ∷ ys) (message_of-spelling x fit.0) (read_back xs fit.1)
@@ -60,7 +60,7 @@ are_clean : (ms : List Message) → AreMessages ms → AllByRecursion (λ p. fau
 are_clean [] fit = tt
 are_clean (x ∷ xs) fit = (fault-spelling x fit.0, are_clean xs fit.1)
 
--- the snapshot of the first k messages ends as one of the feed
+-- the snapshot of the first k messages ends as a snapshot of the feed
 pub record EndsAsOne (R : Rules) (feed : List (List ℕ)) (k : ℕ) : Type 0 where
   pub kind : half_case R (half_of_snapshot R (run R (take k feed))) (spelling (is.End (k + 1))) ≡ SnapEnds (k + 1) (laid (run R (take k feed)))
   pub fits : IsOfFeed R feed (SnapEnds (k + 1) (laid (run R (take k feed))))
@@ -69,8 +69,8 @@ module _ (wanted : ℕ → Bool) where
   abbrev R : Rules
   R = rules_of wanted
 
-  -- Of the first messages of a feed, those that are not skipped follow the order rules, and leave what the joiner's rules say. A market with nothing at
-  -- other locates stays one.
+  -- Of the first messages of a feed, those that are not skipped follow the order rules, and have the result that the joiner's rules state. A
+  -- market with nothing at other locates remains one.
   record IsRun (m : Content) (ps : List (List ℕ)) : Type 0 where
     follows : FollowsFrom m (kept wanted (map message_of ps))
     fit : AreMessages (kept wanted (map message_of ps))
@@ -125,7 +125,7 @@ module _ (wanted : ℕ → Bool) where
       ∙ ap (payload_case taken m None) refuses
       ∙ ap (λ b. cond b (payload_case (10 ^ 19 - 1) m None None) (SnapTakes taken m)) free
 
-  -- a snapshot whose messages are taken, of which those that are skipped change nothing
+  -- a snapshot whose messages are taken, and in which skipped messages change nothing
   pub reads_on : (ps : List (List ℕ)) (taken : ℕ) (m : Content) → IsGood m → AllByRecursion (λ p. fault p ≡ None) ps → AreMessages (map message_of ps) → FollowsFrom m (kept wanted (map message_of ps))
       → taken + length ps ≤ 10 ^ 19 - 1 → half_after R (Reading taken (laid m)) ps ≡ Reading (taken + length ps) (laid (runs.after m (kept wanted (map message_of ps))))
   reads_on [] taken m fine clean fit follows room = ap (λ n. Reading n (laid m)) (omega arith)
@@ -159,7 +159,7 @@ module _ (wanted : ℕ → Bool) where
       ∙ ap (λ ms. Reading (taken + 1 + length ps) (laid (runs.after m ms))) (sym more)
       ∙ ap (λ n. Reading n (laid (runs.after m (kept wanted (x ∷ xs))))) (omega arith))
 
-  -- the whole snapshot of a market, as one of the market cut down
+  -- the complete snapshot of a market, as a snapshot of the restricted market
   reads_snap : (m : Content) → IsGood m → length (snap m) ≤ 10 ^ 19 - 1 → half_of_snapshot R m ≡ Reading (length (snap m)) (laid (only wanted m))
   reads_snap m fine short =
       let ps = map spelling (snap m) in
@@ -198,7 +198,7 @@ module _ (wanted : ℕ → Bool) where
         fits = (omega arith, omega arith, let e : (k + 1) - 1 ≡ k = omega arith in subst (λ n. Same (laid M) (run R (take n feed))) (sym e) (laid_is_same M fine));
       }
 
--- the same of the whole market
+-- the same for the complete market
 pub meets_all : (feed : List (List ℕ)) (k : ℕ) → AllByRecursion AreBytes feed → k < bad market_rules feed → k < 10 ^ 19 → EndsAsOne market_rules feed k
 meets_all feed k bytes low few =
     let every : rules_of (λ l. true) ≡ market_rules = all_rules (λ l. true) (λ l. refl) in

@@ -1,4 +1,4 @@
--- What a feed leaves under the rules of some locates is what it leaves of the market, cut down to them.
+-- The market after a feed under the rules of some locates is the market after the feed, restricted to them.
 use Rattle.std.proofs.Common.{◌≡◌, ℕ, zero, suc, ◌+◌, ◌<◌, ◌≤◌, Bool, not, cond, List, [], ◌∷◌, map, take, Option, None, is_some, refl, sym, ap, ◌∙◌, subst, arith}
 use Rattle.std.specs.List.{AllByRecursion}
 use Rattle.std.specs.Option.{option_map}
@@ -27,7 +27,7 @@ one_further R m q F k none low =
     let is : first_bad R m (q ∷ F) ≡ first_bad R (R.effect m q) F + 1 = ap (λ (o : Option Cause). cond (is_some o) 1 (first_bad R (R.effect m q) F + 1)) none in
     omega arith
 
--- the first payloads of a feed, none of them refused, as messages
+-- the first payloads of a feed, none of which is refused, as messages
 pub record IsLed (m : Content) (ps : List (List ℕ)) : Type 0 where
   pub follows : FollowsFrom m (map message_of ps)
   pub fit : AreMessages (map message_of ps)
@@ -82,7 +82,7 @@ module _ (wanted : ℕ → Bool) where
         ap (λ j. after R j (take k F)) effect_is ∙ rest.1 ∙ ap (runs.after n) (sym more),
       ))
 
-  -- no rule refuses more, and the market is that of the whole, cut down
+  -- no rule refuses more messages, and the market is the complete one, restricted
   pub restricted : (feed : List (List ℕ)) (k : ℕ) → AllByRecursion AreBytes feed → k < bad market_rules feed
       → (k < bad R feed) × (run R (take k feed) ≡ only wanted (run market_rules (take k feed)))
   restricted feed k bytes low =

@@ -1,4 +1,4 @@
--- A joiner that is restricted to a set may start from whole snapshots, and from those cut down to the set.
+-- A joiner that is restricted to a set may start from complete snapshots, and from those restricted to the set.
 use Rattle.std.proofs.Common.{◌≡◌, ℕ, ◌+◌, ◌-◌, ◌^◌, ◌==◌, ◌<◌, ◌≤◌, Bool, true, false, cond, List, [], ◌∷◌, map, length, take, Option, Some, None, refl, sym, ap, ◌∙◌, subst, arith}
 use Rattle.std.specs.List.{AllByRecursion}
 use Rattle.std.proofs.lemmas.Bool.Decides.{nat_tests}
@@ -36,13 +36,13 @@ use Rattle.itch_join.proofs.LawfulRules.{market_lawful, faultless, reasonless}
 use Rattle.itch_join.proofs.Premises.{laid_empty, take_short, reads_on, ends_so, meets}
 use Rattle.itch_join.proofs.RestrictedFeeds.{led, restricted}
 
--- the same markets, cut down, are the same
+-- markets that are the same remain so after the restriction
 pub same_only : (wanted : ℕ → Bool) (m n : Content) → IsGood m → IsGood n → Same m n → Same (only wanted m) (only wanted n)
 same_only wanted m n good fine same =
     same_snap (only wanted m) (only wanted n) (only_good wanted m good) (only_good wanted n fine)
     (snap_only wanted m ∙ ap (kept wanted) (snap_same m n same) ∙ sym (snap_only wanted n))
 
--- what a snapshot of the feed's first messages does to a joiner of the set: the whole one, and the one cut down
+-- the effect of a snapshot of the feed's first messages on a joiner of the set: of the complete snapshot, and of the restricted one
 pub record StartsSet (wanted : ℕ → Bool) (feed : List (List ℕ)) (k : ℕ) : Type 0 where
   pub whole : half_case (rules_of wanted) (half_of_snapshot (rules_of wanted) (run market_rules (take k feed))) (spelling (is.End (k + 1))) ≡ SnapEnds (k + 1) (laid (only wanted (run market_rules (take k feed))))
   pub part : half_case (rules_of wanted) (half_of_snapshot (rules_of wanted) (only wanted (run market_rules (take k feed)))) (spelling (is.End (k + 1))) ≡ SnapEnds (k + 1) (laid (only wanted (run market_rules (take k feed))))
@@ -66,7 +66,7 @@ starts_set wanted feed k bytes low few =
 
 -- any snapshot ------------------------------------------------------------------
 
--- a broken snapshot stays one
+-- a broken snapshot remains broken
 stays_broken : (R : Rules) (ps : List (List ℕ)) (place : ℕ) (why : Cause) (t : ℕ) (n : Content) → half_after R (Broken place why) ps ≡ Reading t n → ⊥
 stays_broken R [] place why t n h = cc
 stays_broken R (p ∷ ps) place why t n h = stays_broken R ps place why t n h

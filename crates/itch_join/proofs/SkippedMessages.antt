@@ -1,4 +1,4 @@
--- The rules where only some locates are wanted, by whether a message is skipped.
+-- The rules if only some locates are wanted, for messages that are skipped and for the others.
 use mathlib.Core.Path.{fun_ext}
 use Rattle.std.proofs.Common.{◌≡◌, ℕ, Bool, true, false, cond, List, None, ap}
 use Rattle.itch_market.specs.Content.{Content}
@@ -7,7 +7,7 @@ use Rattle.itch_snapshot.proofs.SkippedMessages.{none_skipped}
 use Rattle.itch_join.specs.Rules.{Rules, market_rules, rules_of}
 
 module _ (wanted : ℕ → Bool) where
-  -- a message that is not skipped is under the rules of markets
+  -- the rules of markets apply to a message that is not skipped
   pub refused_here : (m : Content) (p : List ℕ) → is_skipped wanted p ≡ false → Rules.refused (rules_of wanted) m p ≡ Rules.refused market_rules m p
   refused_here m p stays = ap (λ b. cond b None (Rules.refused market_rules m p)) stays
 
@@ -17,14 +17,14 @@ module _ (wanted : ℕ → Bool) where
   pub memory_here : (m : Content) (p : List ℕ) → is_skipped wanted p ≡ false → Rules.takes_memory (rules_of wanted) m p ≡ Rules.takes_memory market_rules m p
   memory_here m p stays = ap (λ b. cond b false (Rules.takes_memory market_rules m p)) stays
 
-  -- one that is skipped is under none
+  -- no rules apply to a skipped message
   pub refused_skipped : (m : Content) (p : List ℕ) → is_skipped wanted p ≡ true → Rules.refused (rules_of wanted) m p ≡ None
   refused_skipped m p skip = ap (λ b. cond b None (Rules.refused market_rules m p)) skip
 
   pub effect_skipped : (m : Content) (p : List ℕ) → is_skipped wanted p ≡ true → Rules.effect (rules_of wanted) m p ≡ m
   effect_skipped m p skip = ap (λ b. cond b m (Rules.effect market_rules m p)) skip
 
-  -- where all locates are wanted, the rules are those of markets
+  -- if all locates are wanted, the rules are those of markets
   module _ (all : (l : ℕ) → wanted l ≡ true) where
     same_refused : Rules.refused (rules_of wanted) ≡ Rules.refused market_rules
     same_refused = fun_ext (λ m. fun_ext (λ p. refused_here m p (none_skipped wanted all p)))

@@ -32,7 +32,7 @@ use Rattle.itch_join.specs.States.{HalfRead, Reading, Broken, State}
 use Rattle.itch_join.specs.Steps.{SnapshotCase, SnapTakes, SnapFails, SnapBroken, payload_case, half_case, unjoined_case, unhalted_case, snapshot_case, SnapshotBy}
 use Rattle.itch_join.specs.HalfReads.{Breaks, broken_by, join_fault_of, half_at, half_of, IsOpenAt, IsOpen}
 
--- places and states ----------------------------------------------------------
+-- positions and states -------------------------------------------------------
 
 room : (taken : ℕ) (l k : SnapshotCase) → is_full taken ≡ false → cond (taken == 10 ^ 19 - 1) l k ≡ k
 room taken l k free = ap (λ b. cond b l k) free

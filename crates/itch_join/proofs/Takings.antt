@@ -1,4 +1,4 @@
--- What one message of the feed does to a joiner that has joined and in which nothing waits.
+-- The effect of a message of the feed on a joiner that has joined and has no waiting messages.
 use Rattle.std.proofs.Common.{◌≡◌, ℕ, ◌+◌, ◌^◌, ◌<◌, ◌≤◌, ◌==◌, Bool, true, false, cond, nat_le, List, [], ◌∷◌, Option, Some, None, is_some, Result, Ok, Err, refl, sym, ap, ◌∙◌, subst, inl, inr, arith}
 use Rattle.std.proofs.lemmas.Bool.Decides.{nat_tests}
 use Rattle.std.specs.Option.{option_map}
@@ -60,7 +60,7 @@ module _ (wanted : ℕ → Bool) (cap number : ℕ) (s : State) (p : List ℕ) (
   abbrev j : Position
   j = position_of s
 
-  -- what a joiner does that hears it
+  -- the effect on the joiner when it takes the message
   abbrev pub Heard : Result Live JoinFault → State → Type 0
   Heard (Ok outcome) now = Passes (rules_of wanted) (position_of s) number p (position_of now) × IsJoined now
   Heard (Err f) now =
@@ -129,7 +129,7 @@ module _ (wanted : ℕ → Bool) (cap number : ℕ) (s : State) (p : List ℕ) (
   pub heard : (result : Result Live JoinFault) (now : State) → LiveBy R cap s number p (live_case cap s number p) result now → Heard result now
   heard result now h = by_kind (live_case cap s number p) result now (live_case_is cap s number p) h
 
--- then it may be handed the message after that
+-- then it can take the message after that one
 pub may_go_on : (wanted : ℕ → Bool) (number : ℕ) (old : Position) (p : List ℕ) (new : Joining) → Passes (rules_of wanted) old number p (position_of new.state) → IsJoined new.state → MayTake new (number + 1)
 may_go_on wanted number old p new (inl (below, same)) joined =
     let next : Position.next (position_of new.state) ≡ old.next = ap (λ (j : Position). j.next) same in (joined, omega (arith, below, next))
@@ -139,7 +139,7 @@ position_there : (o : Option Position) (next : ℕ) → option_map (λ (j : Posi
 position_there None next there = absurd (let no_one : ⊥ = cc in no_one)
 position_there (Some j) next there = (refl, cc)
 
--- a joiner may be handed the messages from a number on that is no higher than its next one
+-- a joiner can take the messages from a number on that is not above its next one
 pub may_begin : (j : Joining) (number next waiting : ℕ) → is_some j.state.halt ≡ false → waiting ≡ map.len j.state.wait → waiting ≤ 0
     → option_map (λ (k : Position). k.next) j.state.joined ≡ Some next → nat_le number next ≡ true → MayTake j number
 may_begin j number next waiting running counted none there within =

@@ -65,11 +65,11 @@ module _ {A : Type 0} where
       ∙ kept_mapped bytes_of (not (nat_lt q next)) (tree.get nat_cmp m q)
       ∙ ap (λ o. cond (not (nat_lt q next)) o None) (sym (get_waits m q)) ∙ sym (get-from (waits_of m) next q))
 
-  -- a number that is not below another
+  -- a number that is not below another one
   abbrev pub is_kept : ℕ → ℕ × Vec ℕ A → Bool
   is_kept next e = not (nat_lt e.0 next)
 
-  -- all stay where the least number is not below
+  -- all entries remain if the smallest number is not below
   pub all_kept : (next n : ℕ) → next ≤ n → (es : List (ℕ × Vec ℕ A)) → All (IsLeBy nat_cmp n) (keys_of es) → filter (is_kept next) es ≡ es
   all_kept next n low [] all = refl
   all_kept next n low (e ∷ es) all =
@@ -78,7 +78,7 @@ module _ {A : Type 0} where
       let stays : is_kept next e ≡ true = grind (arith, nat_tests) in
       ap (λ b. cond b (e ∷ filter (is_kept next) es) (filter (is_kept next) es)) stays ∙ ap (λ rest. e ∷ rest) (all_kept next n low es (λ k d h. all (suc k) d (omega (arith, h))))
 
-  -- the first one was dropped, and was below
+  -- the first entry was dropped, and was below
   pub first_dropped : (next : ℕ) (o : Option (ℕ × Vec ℕ A)) (es rest : List (ℕ × Vec ℕ A)) (x : ℕ × Vec ℕ A) → IsSome o → IfSome o (λ p. es ≡ p ∷ rest) → slice_get es 0 ≡ Some x → x.0 < next
       → filter (is_kept next) rest ≡ filter (is_kept next) es
   first_dropped next None es rest x some is there low = cc
@@ -110,7 +110,7 @@ module _ {A : Type 0} where
       ∙ sym (ap length (entries_of_rising (map entry_of m.entries) (subst (IsStrictlySortedBy nat_cmp) (sym (same_keys m.entries)) ordered)))
       ∙ sym (finite.len-entries (waits_of m))
 
--- numbers that can be delivered stay so
+-- possible numbers of messages remain possible
 none_waits : {P : Type 0} (p : List ℕ) → None ≡ Some p → P
 none_waits p e = absurd (cc)
 

@@ -1,4 +1,4 @@
--- Lists of calls whose deliveries are of one feed.
+-- Lists of calls whose deliveries belong to one feed.
 use Rattle.std.specs.Prelude.{◌≡◌, ℕ, ◌-◌, ◌==◌, ◌<◌, ◌≤◌, ◌&&◌, ◌||◌, Bool, true, false, List, [], ◌∷◌, take, Option, Some, None, Result, Ok, Err, slice_get, if◌then◌else◌}
 use Rattle.itch_codec.specs.Fields.{AreBytes}
 use Rattle.itch_market.specs.SameMarkets.{Same}
@@ -13,13 +13,13 @@ use Rattle.itch_join.specs.Rules.{Rules, run, bad}
 use Rattle.itch_join.specs.States.{State, new, is_number}
 use Rattle.itch_join.specs.Steps.{SnapshotCase, SnapHalted, SnapJoined, SnapBroken, SnapFails, SnapEnds, SnapTakes, snapshot_case, Call, CallLive, CallSnapshot, CallRestart, CallResume, Step}
 
--- a call with its result, and the state in which it was made
+-- a call with its result, and the state before it
 pub record Event : Type 0 where
   pub before : State
   pub call : Call
 
--- The premise on snapshots: where End of Snapshot is taken, its number is that of the feed's first bad message or lower, and the market that the
--- snapshot's messages leave is the same as that of the feed's messages before that number.
+-- The premise on snapshots: if End of Snapshot is taken, its number is at most that of the feed's first bad message, and the market after the
+-- snapshot's messages is the same as the market after the feed's messages before that number.
 abbrev pub IsOfFeed : Rules → List (List ℕ) → SnapshotCase → Type 0
 IsOfFeed R feed (SnapHalted h) = Unit {0}
 IsOfFeed R feed SnapJoined = Unit {0}
@@ -28,24 +28,25 @@ IsOfFeed R feed (SnapFails place cause) = Unit {0}
 IsOfFeed R feed (SnapTakes taken m) = Unit {0}
 IsOfFeed R feed (SnapEnds next m) = (0 < next) × (next ≤ bad R feed) × Same m (run R (take (next - 1) feed))
 
--- a delivery of the live feed carries the feed's message with its number, or its number is none; a snapshot's payload is bytes
+-- a delivery of the live feed has the feed's message with its number, or its number is not a message number; a snapshot's payload consists of
+-- bytes
 abbrev pub Fits : Rules → List (List ℕ) → State → Call → Type 0
 Fits R feed s (CallLive number payload result) = is_number number ≡ true → slice_get feed (number - 1) ≡ Some payload
 Fits R feed s (CallSnapshot payload result) = AreBytes payload × IsOfFeed R feed (snapshot_case R s payload)
 Fits R feed s CallRestart = Unit {0}
 Fits R feed s (CallResume result) = Unit {0}
 
--- from a new joiner of this cap, these calls have led to this state, whatever they delivered; the latest stands first
+-- from a new joiner with this cap, these calls have led to this state, for any deliveries; the latest call is first
 abbrev pub LeadsTo : Rules → ℕ → List Event → State → Type 0
 LeadsTo R cap [] now = now ≡ new
 LeadsTo R cap (x ∷ past) now = Step R cap x.before x.call now × LeadsTo R cap past x.before
 
--- the same, where the deliveries are of one feed
+-- the same for calls whose deliveries belong to one feed
 abbrev pub History : Rules → ℕ → List (List ℕ) → List Event → State → Type 0
 History R cap feed [] now = now ≡ new
 History R cap feed (x ∷ past) now = Step R cap x.before x.call now × Fits R feed x.before x.call × History R cap feed past x.before
 
--- the message was applied or waits, or the market contained it already
+-- the message was applied or is waiting, or the market already contained it
 abbrev pub is_taken : Result Live JoinFault → Bool
 is_taken (Ok live) = true
 is_taken (Err (Full cap)) = false
@@ -67,7 +68,7 @@ abbrev pub accepted : ℕ → List Event → Bool
 accepted i [] = false
 accepted i (x ∷ past) = accepts i x.call || accepted i past
 
--- the number in End of Snapshot, where this call took it
+-- the number in End of Snapshot, if this call took it
 abbrev pub start_by : SnapshotCase → Option ℕ
 start_by (SnapHalted h) = None
 start_by SnapJoined = None
@@ -91,17 +92,17 @@ abbrev pub start : Rules → List Event → Option ℕ
 start R [] = None
 start R (x ∷ past) = or_else (start_of R x.before x.call) (start R past)
 
--- a fault for want of memory may leave messages that could be applied
+-- after memory ran out, there may be messages left that could be applied
 abbrev pub by_fault : JoinFault → Option Bool
 by_fault (OutOfMemory taken) = Some false
 by_fault _ = None
 
--- the same, where the delivered message was the next; storing a message does not change it
+-- the same, if the delivered message was the next; storing a message does not change it
 abbrev pub by_live_fault : Option Position → ℕ → JoinFault → Option Bool
 by_live_fault None number fault = None
 by_live_fault (Some j) number fault = if number == j.next then by_fault fault else None
 
--- whether this call has left no message that could be applied, if it decides that
+-- whether this call left no message that could be applied, if it determines that
 abbrev pub settling : State → Call → Option Bool
 settling s (CallLive number payload (Ok (Applied next))) = Some true
 settling s (CallLive number payload (Ok Kept)) = None
@@ -119,12 +120,12 @@ abbrev pub or_last : Option Bool → Bool → Bool
 or_last (Some is) rest = is
 or_last None rest = rest
 
--- the last call that decides it has left no message that could be applied
+-- the last call that determines it left no message that could be applied
 abbrev pub settled : List Event → Bool
 settled [] = true
 settled (x ∷ past) = or_last (settling x.before x.call) (settled past)
 
--- the halt that a result names
+-- the halt in a result
 abbrev pub halt_in : {T : Type 0} → Result T JoinFault → Option Halt
 halt_in (Err (Halted number cause)) = Some (record { number = number; cause = cause })
 halt_in _ = None

@@ -1,4 +1,4 @@
--- A reader of snapshots as the half-read snapshot of a joiner.
+-- A reader of snapshots as the unfinished snapshot of a joiner.
 use Rattle.std.specs.Prelude.{◌≡◌, ◌≢◌, ℕ, ◌^◌, false, Some, Result, Ok, Err}
 use Rattle.itch_market.specs.Content.{Content}
 use Rattle.itch_market.specs.declared.refusal.Refusal.TheVariants as why
@@ -30,7 +30,7 @@ Breaks NoEnd = ⊥
 Breaks (Frame f) = ⊥
 Breaks AfterEnd = ⊥
 
--- a snapshot that this fault has broken
+-- a snapshot that was broken by this fault
 abbrev pub broken_by : SnapFault → HalfRead
 broken_by (Codec place f) = Broken place (cause.Codec f)
 broken_by (Rule place reason) = Broken place (cause.Rule reason)
@@ -39,7 +39,7 @@ broken_by NoEnd = unread
 broken_by (Frame f) = unread
 broken_by AfterEnd = unread
 
--- the joiner's fault where the reader has this one
+-- the joiner's fault for this fault of the reader
 abbrev pub join_fault_of : SnapFault → JoinFault
 join_fault_of (Codec place f) = fault.BadSnapshot place (cause.Codec f)
 join_fault_of (Rule place why.OutOfMemory) = fault.OutOfMemory false
@@ -54,7 +54,7 @@ half_at stage.Taking load = Reading load.taken load.market
 half_at (stage.Broken fault) load = broken_by fault
 half_at (stage.Closed next) load = unread
 
--- the half-read snapshot that a reader holds
+-- the unfinished snapshot of a reader
 abbrev pub half_of : Load → HalfRead
 half_of load = half_at load.stage load
 
@@ -63,11 +63,11 @@ IsOpenAt stage.Taking = Unit {0}
 IsOpenAt (stage.Broken fault) = Breaks fault
 IsOpenAt (stage.Closed next) = ⊥
 
--- the reader has taken no End of Snapshot, and only a message has broken it
+-- the reader has not taken an End of Snapshot, and it is broken at most by a message
 abbrev pub IsOpen : Load → Type 0
 IsOpen load = IsOpenAt load.stage
 
--- a joiner that has taken nothing joins where the snapshot ends that was read, or it is as it was
+-- a joiner that has not taken any message joins at the end of the snapshot that was read, or does not change
 abbrev pub JoinsAt : (Result (Content × ℕ) SnapFault → Type 0) → Result (Unit {0}) SnapFault → State → Type 0
 JoinsAt Reads (Ok done) now = (start : Content × ℕ) × Reads (Ok start) × (now ≡ record new { joined = Some (record { next = start.1; market = start.0 }) })
 JoinsAt Reads (Err fault) now = Reads (Err fault) × (now ≡ new)

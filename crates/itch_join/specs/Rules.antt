@@ -1,4 +1,4 @@
--- What messages do to markets, as a joiner uses it, and the market that a feed leaves.
+-- The effect of messages on markets, as a joiner uses it, and the market after a feed.
 use Rattle.std.specs.Prelude.{◌≡◌, ℕ, ◌+◌, Bool, false, List, [], ◌∷◌, Option, Some, None, is_some, length, option_map, if◌then◌else◌}
 use Rattle.itch_codec.specs.declared.fault.CodecFault.{CodecFault}
 use Rattle.itch_codec.specs.Messages.{fault, message_of}
@@ -12,18 +12,18 @@ use Rattle.itch_snapshot.specs.TakenMessages.{closing_number, is_skipped}
 use Rattle.itch_join.specs.declared.fault.Cause.{Cause}
 use Rattle.itch_join.specs.declared.fault.Cause.TheVariants as cause
 
--- what the messages of payloads do to markets
+-- the effect of the messages of payloads on markets
 pub record Rules : Type 0 where
-  -- the fault of a payload, or the reason that its message has in a market
+  -- the fault of a payload, or the reason of its message in a market
   pub refused : Content → List ℕ → Option Cause
-  -- what its message does, where it is not refused
+  -- the effect of its message, if it is not refused
   pub effect : Content → List ℕ → Content
   -- whether its message takes memory
   pub takes_memory : Content → List ℕ → Bool
-  -- the number in it, where it spells End of Snapshot
+  -- the number in it, if it is End of Snapshot
   pub end_number : List ℕ → Option ℕ
 
--- The same markets refuse the same messages for the same causes, and stay the same. A good market stays good.
+-- Markets that are the same refuse the same messages for the same causes, and remain the same. A good market remains good.
 pub record AreLawful (R : Rules) : Type 0 where
   pub refused_same : (m n : Content) (p : List ℕ) → IsGood m → IsGood n → Same m n → R.refused m p ≡ R.refused n p
   pub effect_same : (m n : Content) (p : List ℕ) → IsGood m → IsGood n → AreBytes p → Same m n → R.refused m p ≡ None → Same (R.effect m p) (R.effect n p)
@@ -38,7 +38,7 @@ after R m (p ∷ ps) = after R (R.effect m p) ps
 abbrev pub run : Rules → List (List ℕ) → Content
 run R ps = after R empty ps
 
--- the first place, from 1, at which a payload is refused, or the place after the last
+-- the first position, from 1, at which a payload is refused, or the position after the last
 abbrev pub first_bad : Rules → Content → List (List ℕ) → ℕ
 first_bad R m [] = 1
 first_bad R m (p ∷ ps) = if is_some (R.refused m p) then 1 else first_bad R (R.effect m p) ps + 1
@@ -52,7 +52,7 @@ IsLawfulFeed R feed = bad R feed ≡ length feed + 1
 
 -- the rules of markets -----------------------------------------------------
 
--- why a payload is refused: its fault, or the reason of its message
+-- the reason why a payload is refused: its fault, or the reason of its message
 abbrev pub refused_by : Option CodecFault → Content → List ℕ → Option Cause
 refused_by (Some f) m p = Some (cause.Codec f)
 refused_by None m p = option_map cause.Rule (reason m (message_of p))
@@ -65,7 +65,7 @@ market_rules = record {
   end_number = closing_number;
 }
 
--- the same where only some locates are wanted: a message that is skipped has to be decoded, but it has no reason and no effect
+-- the rules if only some locates are wanted: a message that is skipped must be valid, but it has no reason and no effect
 abbrev pub rules_of : (ℕ → Bool) → Rules
 rules_of wanted = record {
   refused = λ m p. if is_skipped wanted p then None else market_rules.refused m p;

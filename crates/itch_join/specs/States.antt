@@ -8,11 +8,12 @@ use Rattle.itch_join.specs.declared.fault.Cause.{Cause}
 use Rattle.itch_join.specs.declared.state.Halt.{Halt}
 use Rattle.itch_join.specs.Positions.{Position}
 
--- the messages that wait, by their numbers
+-- the waiting messages, by number
 abbrev pub Wait : Type 0
 Wait = map.FinMap nat_cmp (List ℕ)
 
--- a half-read snapshot: the number of its messages taken, and the market that they leave; or the place of the message that is refused, and why
+-- an unfinished snapshot: the number of its messages taken, and the market after them; or the position of the message that is refused, and
+-- the reason
 pub data HalfRead : Type 0 where
   Reading : ℕ → Content → HalfRead
   Broken : ℕ → Cause → HalfRead
@@ -23,13 +24,13 @@ pub record State : Type 0 where
   pub joined : Option Position
   pub halt : Option Halt
 
--- what contracts see of a joiner: how many messages may wait, the locates that are wanted, and its state
+-- a joiner as contracts describe it: the maximum number of waiting messages, the wanted locates, and its state
 pub record Joining : Type 0 where
   pub cap : ℕ
   pub set : Wanted
   pub state : State
 
--- a snapshot of which nothing is read
+-- a snapshot before its first message
 abbrev pub unread : HalfRead
 unread = Reading 0 empty
 
@@ -37,6 +38,6 @@ unread = Reading 0 empty
 abbrev pub new : State
 new = record { wait = map.empty; half = unread; joined = None; halt = None }
 
--- a number that a message may have: 1 to 10^19 - 1
+-- a possible number of a message: 1 to 10^19 - 1
 abbrev pub is_number : ℕ → Bool
 is_number n = nat_lt 0 n && nat_lt n (10 ^ 19)

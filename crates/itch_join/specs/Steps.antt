@@ -1,4 +1,4 @@
--- What each call of a joiner returns, and the state that it leaves.
+-- The result of each call of a joiner, and the state after it.
 use Rattle.std.specs.Prelude.{◌≡◌, ℕ, ◌+◌, ◌-◌, ◌^◌, ◌==◌, ◌||◌, nat_lt, true, false, not, List, Option, Some, None, is_some, Result, Ok, Err, if◌then◌else◌}
 use Rattle.std.specs.Str.{bytes_eq}
 use Rattle.std.specs.FinMap as map
@@ -37,7 +37,7 @@ abbrev pub next_case : Option Position → ℕ → LiveCase → LiveCase
 next_case None number rest = rest
 next_case (Some j) number rest = if number == j.next then live.Next else rest
 
--- the first of these that is true of a delivery decides
+-- the first of these cases that applies to a delivery decides
 abbrev pub live_case : ℕ → State → ℕ → List ℕ → LiveCase
 live_case cap s number payload =
     halted_case s.halt
@@ -50,12 +50,12 @@ live_case cap s number payload =
     else live.Full)))
     else live.BadNumber)
 
--- a message is stored, or memory is refused
+-- a message is stored, or memory runs out
 abbrev pub Stores : State → ℕ → List ℕ → Result Live JoinFault → State → Type 0
 Stores s number payload (Ok outcome) now = (outcome ≡ Kept) × (now ≡ record s { wait = map.insert s.wait number payload })
 Stores s number payload (Err fault) now = (fault ≡ OutOfMemory false) × (now ≡ s)
 
--- the delivered message is applied, and then what waits
+-- the delivered message is applied, and then the waiting messages
 abbrev pub NextBy : Rules → State → ℕ → List ℕ → Option Position → Result Live JoinFault → State → Type 0
 NextBy R s number payload None result now = ⊥
 NextBy R s number payload (Some j) result now =
@@ -73,8 +73,8 @@ LiveBy R cap s number payload live.Stored result now = Stores s number payload r
 
 -- snapshot ---------------------------------------------------------------
 
--- what is true of a message of the snapshot: the joiner is halted; it has joined; a message broke the snapshot before; this one breaks it; it is
--- End of Snapshot, with its number and the snapshot's market; it is taken, with the number of messages taken before and the market that they leave
+-- the case of a message of the snapshot: the joiner is halted; it has joined; a message broke the snapshot before; this one breaks it; it is
+-- End of Snapshot, with its number and the snapshot's market; it is taken, with the number of messages taken before and the market after them
 pub data SnapshotCase : Type 0 where
   SnapHalted : Halt → SnapshotCase
   SnapJoined : SnapshotCase
@@ -104,16 +104,16 @@ abbrev pub unhalted_case : Option Halt → SnapshotCase → SnapshotCase
 unhalted_case (Some h) rest = SnapHalted h
 unhalted_case None rest = rest
 
--- the first that is true of a message of the snapshot decides
+-- the first case that applies to a message of the snapshot decides
 abbrev pub snapshot_case : Rules → State → List ℕ → SnapshotCase
 snapshot_case R s payload = unhalted_case s.halt (unjoined_case s.joined (half_case R s.half payload))
 
--- a message is applied to the snapshot's market, or memory is refused
+-- a message is applied to the snapshot's market, or memory runs out
 abbrev pub Takes : Rules → State → ℕ → Content → List ℕ → Result Snap JoinFault → State → Type 0
 Takes R s taken m payload (Ok outcome) now = (outcome ≡ snap.More) × (now ≡ record s { half = Reading (taken + 1) (laid (R.effect m payload)) })
 Takes R s taken m payload (Err fault) now = (fault ≡ OutOfMemory false) × (R.takes_memory m payload ≡ true) × (now ≡ s)
 
--- where a joiner starts from a snapshot: what waits below its number is dropped
+-- the start of a joiner from a snapshot: waiting messages below its number are dropped
 abbrev pub started : State → ℕ → Content → Front
 started s next m = record { wait = map.retain_keys s.wait (λ i. not (nat_lt i next)); next = next; market = m }
 
@@ -148,7 +148,7 @@ pub data Call : Type 0 where
   CallRestart : Call
   CallResume : Result (Option ℕ) JoinFault → Call
 
--- In the state old, a joiner of this cap may return this from the call, and is then in the state now.
+-- In the state old, a joiner with this cap may return this result from the call, and is then in the state now.
 abbrev pub Step : Rules → ℕ → State → Call → State → Type 0
 Step R cap old (CallLive number payload result) now = LiveBy R cap old number payload (live_case cap old number payload) result now
 Step R cap old (CallSnapshot payload result) now = SnapshotBy R old payload (snapshot_case R old payload) result now

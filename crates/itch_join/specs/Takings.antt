@@ -1,4 +1,4 @@
--- What the messages of a day do, one after another, to a joiner that has joined and in which nothing waits.
+-- The effect of the messages of a day, one after another, on a joiner that has joined and has no waiting messages.
 use Rattle.std.specs.Prelude.{◌≡◌, ℕ, ◌+◌, ◌<◌, ◌≤◌, ◌⊎◌, ⊤, true, List, Option, Some, None, Ok}
 use Rattle.std.specs.FinMap as map
 use Rattle.itch_codec.specs.Fields.{AreBytes}
@@ -23,17 +23,17 @@ position_by (Some j) = j
 abbrev pub position_of : State → Position
 position_of s = position_by s.joined
 
--- a joiner has joined, nothing waits, and no message was refused
+-- a joiner has joined, no messages are waiting, and no message was refused
 pub record IsJoined (s : State) : Type 0 where
   pub waits : (i : ℕ) → map.get s.wait i ≡ None
   pub joined : s.joined ≡ Some (position_of s)
   pub running : s.halt ≡ None
 
--- such a joiner may be handed the message with this number: its market contains it, or it is the next
+-- such a joiner can take the message with this number: its market contains the message, or it is the next
 abbrev pub MayTake : Joining → ℕ → Type 0
 MayTake j number = IsJoined j.state × (number ≤ Position.next (position_of j.state))
 
--- the market contains the message with this number already, or it is the next, and is applied
+-- the market already contains the message with this number, or it is the next, and is applied
 abbrev pub Passes : Rules → Position → ℕ → List ℕ → Position → Type 0
 Passes R old number payload new =
     ((number < old.next) × (new ≡ old)) ⊎ ((old.next ≡ number) × AppliesOne R old.market payload (Ok tt) new.market × (new.next ≡ number + 1))
@@ -58,14 +58,14 @@ pub record RefusesNumbered (old : Joining) (number : ℕ) (payload : List ℕ) (
   pub stays : position_of new.state ≡ position_of old.state
   pub set : new.set ≡ old.set
 
--- a joiner may refuse the next message for this
+-- a possible fault of the next message
 abbrev pub IsOfNext : JoinFault → Type 0
 IsOfNext (fault.Halted number (cause.Codec f)) = ⊤
 IsOfNext (fault.Halted number (cause.Rule why)) = ⊤
 IsOfNext (fault.OutOfMemory taken) = ⊤
 IsOfNext other = ⊥
 
--- why the message is refused then
+-- the reason why the message is refused then
 abbrev pub refused_by : JoinFault → Refused
 refused_by (fault.Halted number (cause.Codec f)) = Codec f
 refused_by (fault.Halted number (cause.Rule why)) = Rule why

@@ -1,4 +1,4 @@
--- What a tree of waiting messages holds.
+-- The content of a tree of waiting messages.
 use Rattle.std.specs.Prelude.{◌≡◌, ℕ, ◌<◌, ◌^◌, List, map, Some}
 use Rattle.std.specs.Ordering.{nat_cmp}
 use Rattle.std.specs.FinMap as finite
@@ -9,7 +9,7 @@ use Rattle.std.specs.declared.vec.Vec.{Vec}
 abbrev pub entry_of : {A : Type 0} → ℕ × Vec ℕ A → ℕ × List ℕ
 entry_of e = (e.0, e.1.items)
 
--- the payloads by their numbers
+-- the payloads by number
 abbrev pub waits_of : {A : Type 0} → BTreeMap ℕ (Vec ℕ A) → finite.FinMap nat_cmp (List ℕ)
 waits_of m = finite.from_entries (map entry_of m.entries)
 

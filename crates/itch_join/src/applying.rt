@@ -1,4 +1,4 @@
-//! Messages applied to a market.
+//! Applies messages to a market.
 ghost use Rattle.std.specs.Prelude.{ℕ, List};
 ghost use Rattle.itch_day.specs.Sinks.{Decodes};
 ghost use Rattle.itch_market.specs.Wanted.{has};
@@ -10,7 +10,7 @@ use itch_book::OrderBook;
 use itch_codec::{CodecFault, Message, decode};
 use itch_market::{LocateSet, Market};
 
-// Applies the message that a payload spells, unless it is at a locate that the set does not contain.
+// Applies the message of a payload, unless it is at a locate that is not in the set.
 pub(crate) fn apply<B: OrderBook>(
     market: &mut Market<B>,
     set: &LocateSet<B::Alloc>,
@@ -21,7 +21,7 @@ pub(crate) fn apply<B: OrderBook>(
     apply_decoded(market, set, &decode(payload))
 }
 
-// The same of what is decoded of a payload.
+// Does the same for the decoded form of a payload.
 pub(crate) fn apply_decoded<B: OrderBook>(
     market: &mut Market<B>,
     set: &LocateSet<B::Alloc>,

@@ -1,32 +1,32 @@
-//! Why a joiner did not take what it was given.
+//! The reasons why a joiner did not take a message.
 
 use itch_codec::CodecFault;
 use itch_market::Refusal;
 use thiserror::Error;
 
-/// Why a message is refused.
+/// The reason why a message is refused.
 #[derive(Clone, Copy, Debug, PartialEq, Eq, Error)]
 pub enum Cause {
-    /// The payload spells no message.
+    /// The payload is not a valid message.
     #[error("{0}")]
     Codec(CodecFault),
     /// An order rule refuses the message.
     #[error("{0}")]
     Rule(Refusal),
-    /// The snapshot goes on after 10^19 - 1 messages, without an End of Snapshot.
+    /// The snapshot continues after 10^19 - 1 messages, without an End of Snapshot.
     #[error("too many messages")]
     TooMany,
 }
 
-/// Why a joiner did not take what it was given.
+/// The reason why a joiner did not take a message.
 #[derive(Clone, Copy, Debug, PartialEq, Eq, Error)]
 pub enum JoinFault {
-    /// `cap` messages wait already, and this one is not the next. Nothing has changed.
+    /// `cap` messages are already waiting, and this one is not the next. Nothing has changed.
     #[error("{cap} messages wait already")]
     Full {
         cap: usize,
     },
-    /// Another payload waits under this number. Nothing has changed.
+    /// Another payload is waiting under this number. Nothing has changed.
     #[error("message {number} waits with other bytes")]
     Conflict {
         number: u64,
@@ -34,26 +34,25 @@ pub enum JoinFault {
     /// The number is 0 or above 10^19 - 1. Nothing has changed.
     #[error("bad message number")]
     BadNumber,
-    /// The message with this number is refused. The market is that of the messages before it. What waited still waits,
-    /// except what this call applied or dropped before. Every later call except `restart` returns the same.
+    /// The message with this number is refused. The market is that of the messages before it. The waiting messages are still waiting, except
+    /// those that this call applied or dropped before. Every later call except `restart` returns the same.
     #[error("message {number}: {cause}")]
     Halted {
         number: u64,
         cause: Cause,
     },
-    /// Out of memory. What this call has applied stays applied. What waited still waits, except what this call applied or
-    /// dropped before.
+    /// Memory ran out. The messages that this call has applied remain applied. The waiting messages are still waiting, except those that this
+    /// call applied or dropped before.
     #[error("out of memory")]
     OutOfMemory {
-        /// Whether the delivered message was applied or waits; in `snapshot`, whether it was taken. If not, it may be
-        /// delivered again.
+        /// Whether the delivered message was applied or is waiting; in `snapshot`, whether it was taken. If not, it may be delivered again.
         taken: bool,
     },
-    /// A message of a snapshot after joining. Nothing has changed.
+    /// There was a message of a snapshot after joining. Nothing has changed.
     #[error("joined already")]
     Joined,
-    /// The snapshot's message at this place, counted from 1, is refused. Every further message of the snapshot returns the
-    /// same until `restart`. What waits is kept.
+    /// The snapshot's message at this position, counted from 1, is refused. Every further message of the snapshot returns the same until
+    /// `restart`. The waiting messages are kept.
     #[error("snapshot message {place}: {cause}")]
     BadSnapshot {
         place: u64,

@@ -1,4 +1,4 @@
-//! A snapshot and the live feed, joined.
+//! Joins a snapshot and the live feed.
 ghost use Rattle.std.specs.Prelude.{◌≡◌, ℕ, ◌<◌, ◌^◌, List, true, Some, None, MatchResult, option_map};
 ghost use Rattle.std.specs.Option.{option_copied};
 ghost use Rattle.std.specs.FinMap as map;
@@ -28,14 +28,14 @@ use std::alloc::Allocator;
 use std::marker::Model;
 use std::mem::replace;
 
-/// Joins a snapshot and the live feed: it takes the snapshot's messages in order and the feed's in any order, and keeps the
-/// market that the feed's messages before [`Joiner::next`] lead to.
+/// Joins a snapshot and the live feed: it takes the snapshot's messages in order and the feed's messages in any order, and keeps the market
+/// after the feed's messages before [`Joiner::next`].
 ///
-/// With a set of locates it keeps the market cut down to them: messages at other locates, of the snapshot and of the feed,
-/// are decoded and counted, but checked against no rule, and change nothing.
+/// With a set of locates it keeps the market restricted to them: messages at other locates, of the snapshot and of the feed, are decoded and
+/// counted, but no rule is checked, and they change nothing.
 ///
-/// The feed's first message has the number 1. Memory is taken only for a message of the feed that has to wait, and for a
-/// market that grows.
+/// The feed's first message has the number 1. Memory is allocated only for a message of the feed that has to wait, and for a market that
+/// grows.
 #[derive(Drop)]
 pub struct Joiner<B: OrderBook> {
     alloc: B::Alloc,
@@ -62,7 +62,7 @@ impl<B: OrderBook> Model for Joiner<B> {
     ghost invariant = { λ j. IsOpen j.half };
 }
 
-// The fault of a call that stopped at the message with this number.
+// Returns the fault of a call that stopped at the message with this number.
 fn fault_of(taken: bool, stopped: Stopped, next: u64) -> JoinFault
     ensures { result ≡ fault_of taken stopped next }
 {
@@ -75,7 +75,7 @@ fn fault_of(taken: bool, stopped: Stopped, next: u64) -> JoinFault
     }
 }
 
-// A refused message halts the joiner.
+// Returns the halt of the joiner after a refused message.
 fn halt_of(ended: Result<(), Stopped>, next: u64) -> Option<Halt>
     ensures { result ≡ halt_of ended next }
 {
@@ -88,7 +88,7 @@ fn halt_of(ended: Result<(), Stopped>, next: u64) -> Option<Halt>
     }
 }
 
-// The fault of a message of the snapshot that was not taken.
+// Returns the fault for a message of the snapshot that was not taken.
 fn join_fault_of(fault: SnapFault) -> JoinFault
     requires { IsOfMessage fault }
     ensures { result ≡ join_fault_of fault }
@@ -115,7 +115,7 @@ fn join_fault_of(fault: SnapFault) -> JoinFault
 }
 
 impl<B: OrderBook> Joiner<B> {
-    /// A joiner in which nothing waits yet, and at most `cap` messages may. It takes no memory.
+    /// Creates a joiner without waiting messages, of which there may be at most `cap`. It allocates no memory.
     pub fn new(alloc: B::Alloc, cap: usize) -> Self
         ensures cap { result.cap ≡ cap }
         ensures set { (locate : ℕ) → has result.set locate ≡ true }
@@ -124,7 +124,7 @@ impl<B: OrderBook> Joiner<B> {
         Joiner::only(alloc, cap, LocateSet::all(alloc))
     }
 
-    /// The same, restricted to the locates of a set.
+    /// Creates the same, restricted to the locates of a set.
     pub fn only(alloc: B::Alloc, cap: usize, set: LocateSet<B::Alloc>) -> Self
         ensures { result ≡ record { cap = cap; set = set; state = new } }
     {
@@ -139,7 +139,7 @@ impl<B: OrderBook> Joiner<B> {
         }
     }
 
-    /// The number of the next message to apply, once joined.
+    /// Returns the number of the next message to apply, after joining.
     pub fn next(&self) -> Option<u64>
         ensures { result ≡ option_map (λ j. j.next) self.now.state.joined }
     {
@@ -147,7 +147,7 @@ impl<B: OrderBook> Joiner<B> {
         Some(position.next)
     }
 
-    /// The market of the feed's messages before the next one, once joined.
+    /// Returns the market of the feed's messages before the next one, after joining.
     pub fn market(&self) -> Option<&Market<B>>
         ensures { option_copied result ≡ option_map (λ j. j.market) self.now.state.joined }
     {
@@ -155,7 +155,7 @@ impl<B: OrderBook> Joiner<B> {
         Some(&position.market)
     }
 
-    /// Tells the market that look-ups follow, as [`Market::settle`] does. Nothing changes, and no memory is taken.
+    /// Prepares the market for look-ups, as [`Market::settle`] does. Nothing changes, and no memory is allocated.
     pub fn settle_market(&mut self)
         ensures { self.new ≡ self.old }
     {
@@ -164,8 +164,8 @@ impl<B: OrderBook> Joiner<B> {
         }
     }
 
-    /// Whether it may be handed the messages of a day from this one on: it has joined, nothing waits, no message was refused, and its
-    /// market contains the messages before this one.
+    /// Returns whether the joiner can take the messages of a day from this one on as a sink: it has joined, no messages are waiting, no
+    /// message was refused, and its market contains the messages before this one.
     pub fn may_take(&self, number: u64) -> bool
         ensures { result ≡ true → MayTake self.now number }
     {
@@ -181,14 +181,14 @@ impl<B: OrderBook> Joiner<B> {
         number <= next
     }
 
-    /// The number of messages that wait.
+    /// Returns the number of waiting messages.
     pub fn waiting(&self) -> usize
         ensures { result ≡ map.len self.now.state.wait }
     {
         self.wait.len()
     }
 
-    // Which case a delivery of the live feed is.
+    // Returns the case of a delivery of the live feed.
     fn live_case(&self, number: u64, payload: &[u8]) -> LiveCase
         ensures { result ≡ live_case self.now.cap self.now.state number payload.now }
     {
@@ -236,7 +236,7 @@ impl<B: OrderBook> Joiner<B> {
         }
     }
 
-    // Applies the message with the next number, and then what waits.
+    // Applies the message with the next number, and then the waiting messages after it.
     fn apply_next(
         &mut self,
         number: u64,
@@ -265,20 +265,20 @@ impl<B: OrderBook> Joiner<B> {
         }
     }
 
-    /// Takes the live feed's message with this number. The first of these that is true decides:
+    /// Takes the live feed's message with this number. The first case that applies decides the result:
     ///
     /// 1. a message was refused before: `Halted`, as it was then;
     /// 2. no message has this number: `BadNumber`;
     /// 3. the joiner has joined, and its market contains the message: `Old`;
-    /// 4. other bytes wait under this number: `Conflict`;
-    /// 5. the joiner has joined, and the message is the next: it is applied, without being copied, and then what waits, up
-    ///    to the first number that is missing: `Applied`;
-    /// 6. the message waits already: `Kept`;
-    /// 7. `cap` messages wait: `Full`;
+    /// 4. other bytes are waiting under this number: `Conflict`;
+    /// 5. the joiner has joined, and the message is the next: it is applied, without being copied, and then the waiting messages, up to the
+    ///    first number that is missing: `Applied`;
+    /// 6. the message is already waiting: `Kept`;
+    /// 7. `cap` messages are waiting: `Full`;
     /// 8. a copy of it is stored: `Kept`.
     ///
-    /// A message that is refused when it is to be applied is `Halted`. Memory may run out in 5, at a message that adds to
-    /// the market, and in 8: `OutOfMemory`.
+    /// A message that is refused when it is to be applied is `Halted`. Memory may run out in case 5, at a message that adds to the market,
+    /// and in case 8: `OutOfMemory`.
     pub fn live(&mut self, number: u64, payload: &[u8]) -> Result<Live, JoinFault>
         ensures step { Step (rules_of (has self.old.set)) self.old.cap self.old.state (CallLive number payload.now result) self.new.state }
         ensures cap { self.new.cap ≡ self.old.cap }
@@ -287,7 +287,7 @@ impl<B: OrderBook> Joiner<B> {
         self.live_decoded(number, payload, &decode(payload))
     }
 
-    /// The same for a caller that has decoded the payload.
+    /// Does the same for a caller that has decoded the payload.
     pub fn live_decoded(
         &mut self,
         number: u64,
@@ -336,11 +336,11 @@ impl<B: OrderBook> Joiner<B> {
 
     /// Takes the snapshot's next message.
     ///
-    /// At End of Snapshot the joiner has the snapshot's market, and its next number is the one in End of Snapshot. What
-    /// waits below that is dropped, and then what waits is applied, up to the first number that is missing: `Joined`. A
-    /// message that is refused breaks the snapshot: `BadSnapshot` until `restart`. After joining the result is the fault
-    /// `Joined`, and after a refused message of the feed `Halted`. Where memory runs out for a message of the snapshot, it
-    /// is `OutOfMemory` with `taken` false, and the same message may be given again.
+    /// At End of Snapshot the joiner has the snapshot's market, and its next number is the one in End of Snapshot. Waiting messages below
+    /// that number are dropped, and then the other waiting messages are applied, up to the first number that is missing: `Joined`. A message
+    /// that is refused breaks the snapshot: `BadSnapshot` until `restart`. After joining the result is the fault `Joined`, and after a
+    /// refused message of the feed `Halted`. If memory runs out for a message of the snapshot, the result is `OutOfMemory` with `taken`
+    /// false, and the same message may be passed again.
     pub fn snapshot(&mut self, payload: &[u8]) -> Result<Snap, JoinFault>
         ensures step { Step (rules_of (has self.old.set)) self.old.cap self.old.state (CallSnapshot payload.now result) self.new.state }
         ensures cap { self.new.cap ≡ self.old.cap }
@@ -367,10 +367,10 @@ impl<B: OrderBook> Joiner<B> {
         }
     }
 
-    /// Reads a snapshot file, up to its End of Snapshot, and joins there: it has the market and the next number then that it would have
-    /// after taking the file's messages one by one. What follows in the file is left.
+    /// Reads a snapshot file, up to its End of Snapshot, and joins there: the market and the next number are then those after taking the
+    /// file's messages one by one. The rest of the file is left in the reader.
     ///
-    /// It is for a joiner that has taken nothing yet, which a fault leaves as it was.
+    /// Call it only for a joiner that has not taken any message yet. A fault does not change the joiner.
     pub fn read_snapshot<R: CountedRead, A: Allocator>(
         &mut self,
         reader: &mut BlockReader<R, A>,
@@ -394,7 +394,7 @@ impl<B: OrderBook> Joiner<B> {
         }
     }
 
-    /// Drops an unfinished or broken snapshot, and keeps what waits. Once joined it changes nothing. It takes no memory.
+    /// Drops an unfinished or broken snapshot, and keeps the waiting messages. After joining it changes nothing. It allocates no memory.
     pub fn restart(&mut self)
         ensures step { Step (rules_of (has self.old.set)) self.old.cap self.old.state CallRestart self.new.state }
         ensures cap { self.new.cap ≡ self.old.cap }
@@ -405,8 +405,8 @@ impl<B: OrderBook> Joiner<B> {
         }
     }
 
-    /// Applies what waits, up to the first number that is missing, as may be wanted after `OutOfMemory`. It returns the
-    /// number of the next message, or `None` before joining.
+    /// Applies the waiting messages, up to the first number that is missing, which may be needed after `OutOfMemory`. It returns the number
+    /// of the next message, or `None` before joining.
     pub fn resume(&mut self) -> Result<Option<u64>, JoinFault>
         ensures step { Step (rules_of (has self.old.set)) self.old.cap self.old.state (CallResume result) self.new.state }
         ensures cap { self.new.cap ≡ self.old.cap }

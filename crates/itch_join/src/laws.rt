@@ -1,6 +1,6 @@
-//! What holds for every joiner, whatever is delivered to it.
+//! Laws of all joiners, for any deliveries.
 //!
-//! Each function here does nothing: its clauses are the laws.
+//! Each function has an empty body: its clauses state the laws.
 ghost use Rattle.std.specs.Prelude.{◌≡◌, ℕ, Bool, List, ◌+◌, ◌<◌, ◌≤◌, ◌^◌, true, Some, None, length, take};
 ghost use Rattle.std.specs.List.{AllByRecursion};
 ghost use Rattle.std.specs.FinMap as map;
@@ -18,17 +18,17 @@ ghost use Rattle.itch_join.specs.Deliveries.{Event, LeadsTo, History, IsOfFeed, 
 ghost use Rattle.itch_join.specs.Premise.{half_after, half_of_snapshot};
 ghost use Rattle.itch_join.specs.Stands.{Stands, LastIsRight, AreAllAccepted, IsAtEnd};
 
-/// The rules of markets are lawful: the same markets refuse the same messages for the same causes, and stay the same. So are
-/// those where only some locates are wanted; where all are, they are the rules of markets.
+/// The rules of markets are lawful: markets that are the same refuse the same messages for the same causes, and remain the same. So are the
+/// rules in which only some locates are wanted; if all locates are wanted, they are the rules of markets.
 pub fn lawful_market()
     ensures market { AreLawful market_rules }
     ensures only { (wanted : ℕ → Bool) → AreLawful (rules_of wanted) }
     ensures all { (wanted : ℕ → Bool) → ((locate : ℕ) → wanted locate ≡ true) → rules_of wanted ≡ market_rules }
 {}
 
-/// Where a joiner stands after every list of calls whose deliveries are of one feed, whatever was lost, repeated or out of
-/// order, whichever snapshots were broken, and wherever memory was refused. With a set of locates, the run, the rules and what
-/// is asked of snapshots are those of the messages that are not skipped.
+/// The state of a joiner after every list of calls whose deliveries belong to one feed, for any losses, repetitions and reorderings, any
+/// broken snapshots, and wherever memory ran out. With a set of locates, the run, the rules and the premise on snapshots are those of the
+/// messages that are not skipped.
 pub fn late_joiner()
     ensures market { (cap : ℕ) → (feed : List (List ℕ)) → (past : List Event) → (now : State) → AllByRecursion AreBytes feed
         → History market_rules cap feed past now → Stands market_rules cap feed past now }
@@ -38,13 +38,13 @@ pub fn late_joiner()
         → History rules cap feed past now → Stands rules cap feed past now }
 {}
 
-/// At most `cap` messages wait, after every list of calls, whatever they deliver.
+/// At most `cap` messages are waiting, after every list of calls, for any deliveries.
 pub fn at_most_cap_wait()
     ensures { (rules : Rules) → (cap : ℕ) → (past : List Event) → (now : State) → LeadsTo rules cap past now → map.len now.wait ≤ cap }
 {}
 
-/// What the last call returned: `Full` only where `cap` messages wait and the number is not the next, `Halted` for the
-/// feed's first bad message where it is the next; and a halt that was returned stands.
+/// The result of the last call: `Full` only if `cap` messages are waiting and the number is not the next, `Halted` for the feed's first bad
+/// message if it is the next; and a halt that was returned remains.
 pub fn last_result()
     ensures market { (cap : ℕ) → (feed : List (List ℕ)) → (past : List Event) → (now : State) → AllByRecursion AreBytes feed → length feed < 10 ^ 19
         → History market_rules cap feed past now → LastIsRight market_rules cap feed past now }
@@ -54,8 +54,8 @@ pub fn last_result()
         → History rules cap feed past now → LastIsRight rules cap feed past now }
 {}
 
-/// The snapshot of a feed's first messages, none of them refused, is one that a joiner of the feed may start from: its
-/// messages are taken, and its End of Snapshot meets what `late_joiner` asks of a snapshot.
+/// If none of a feed's first messages is refused, a joiner of the feed may start from their snapshot: its messages are taken, and its End of
+/// Snapshot meets the premise of `late_joiner` on snapshots.
 pub fn snapshot_of_feed()
     ensures ends { (feed : List (List ℕ)) → (k : ℕ) → AllByRecursion AreBytes feed → k < bad market_rules feed → k < 10 ^ 19
         → half_case market_rules (half_of_snapshot market_rules (run market_rules (take k feed))) (spelling (is.End (k + 1))) ≡ SnapEnds (k + 1) (laid (run market_rules (take k feed))) }
@@ -67,8 +67,8 @@ pub fn snapshot_of_feed()
         → IsOfFeed (rules_of wanted) feed (SnapEnds (k + 1) (laid (run (rules_of wanted) (take k feed)))) }
 {}
 
-/// Where no message of the feed is refused, a joiner that has joined, that has accepted every message from the snapshot's
-/// number on, in any order, and that did not run out of memory, has the market of the whole feed.
+/// If no message of the feed is refused, a joiner that has joined, that has accepted every message from the snapshot's number on, in any
+/// order, and that did not run out of memory, has the market of the complete feed.
 pub fn whole_feed()
     ensures market { (cap : ℕ) → (feed : List (List ℕ)) → (past : List Event) → (now : State) → (j : Position) → AllByRecursion AreBytes feed → IsLawfulFeed market_rules feed
         → History market_rules cap feed past now → now.joined ≡ Some j → settled past ≡ true → AreAllAccepted market_rules feed past → IsAtEnd market_rules feed now j }
@@ -76,17 +76,17 @@ pub fn whole_feed()
         → History (rules_of wanted) cap feed past now → now.joined ≡ Some j → settled past ≡ true → AreAllAccepted (rules_of wanted) feed past → IsAtEnd (rules_of wanted) feed now j }
 {}
 
-/// Where none of a feed's first k messages is refused, the rules of a set of locates refuse none of them either, and leave
-/// the market of all of them, cut down to the set.
+/// If none of a feed's first k messages is refused, the rules of a set of locates do not refuse any of them either, and result in the market
+/// of all of them, restricted to the set.
 pub fn restricted_feed()
     ensures follows { (wanted : ℕ → Bool) → (feed : List (List ℕ)) → (k : ℕ) → AllByRecursion AreBytes feed → k < bad market_rules feed → k < bad (rules_of wanted) feed }
     ensures leaves { (wanted : ℕ → Bool) → (feed : List (List ℕ)) → (k : ℕ) → AllByRecursion AreBytes feed → k < bad market_rules feed
         → run (rules_of wanted) (take k feed) ≡ cut wanted (run market_rules (take k feed)) }
 {}
 
-/// From the snapshot of a feed's first messages, none of them refused, a joiner of a set of locates may start too: from the
-/// whole one, of which it skips what is at other locates, and from that of the market cut down to the set. Either leaves it
-/// that market, cut down, and the End of Snapshot meets what `late_joiner` asks of a snapshot.
+/// A joiner of a set of locates may also start from the snapshot of a feed's first messages, if none of them is refused: from the complete
+/// one, of which it skips the messages at other locates, or from the snapshot of the market restricted to the set. Both result in that
+/// market, restricted to the set, and the End of Snapshot meets the premise of `late_joiner` on snapshots.
 pub fn snapshot_for_a_set()
     ensures whole { (wanted : ℕ → Bool) → (feed : List (List ℕ)) → (k : ℕ) → AllByRecursion AreBytes feed → k < bad market_rules feed → k < 10 ^ 19
         → half_case (rules_of wanted) (half_of_snapshot (rules_of wanted) (run market_rules (take k feed))) (spelling (is.End (k + 1)))
@@ -98,9 +98,8 @@ pub fn snapshot_for_a_set()
         → IsOfFeed (rules_of wanted) feed (SnapEnds (k + 1) (laid (cut wanted (run market_rules (take k feed))))) }
 {}
 
-/// Whatever snapshot a joiner of the whole market may start from, a joiner of a set of locates may start from too. It
-/// leaves the second that market, cut down to the set, and the End of Snapshot meets what `late_joiner` asks of a snapshot
-/// there too.
+/// If a joiner of the complete market may start from a snapshot, a joiner of a set of locates may start from it too. The second joiner then
+/// has that market, restricted to the set, and the End of Snapshot meets the premise of `late_joiner` on snapshots for it too.
 pub fn any_snapshot_for_a_set()
     ensures leaves { (wanted : ℕ → Bool) → (ps : List (List ℕ)) → (taken : ℕ) → (m : Content) → AllByRecursion AreBytes ps → AllByRecursion (λ p. closing_number p ≡ None) ps
         → half_after market_rules unread ps ≡ Reading taken m → half_after (rules_of wanted) unread ps ≡ Reading taken (laid (cut wanted m)) }

@@ -1,8 +1,8 @@
-//! A snapshot and the live feed, joined into one market.
+//! Joins a snapshot and the live feed into one market.
 //!
-//! A receiver that comes late to an ITCH feed asks for a snapshot, as over GLIMPSE, and meanwhile receives the live feed. A
-//! [`Joiner`] takes both: messages of the feed wait until the snapshot ends, those that it contains are dropped, and the
-//! rest are applied in the order of their numbers, whatever was lost, repeated or out of order on the way.
+//! A receiver that joins an ITCH feed late requests a snapshot, for example over GLIMPSE, and meanwhile receives the live feed. A [`Joiner`]
+//! takes both. Messages of the feed wait until the snapshot ends; then those that the snapshot contains are dropped, and the rest are applied
+//! in the order of their numbers, even if messages were lost, repeated or out of order on the way.
 //!
 //! ```
 //! let mut joiner: Joiner<IndexedBook> = Joiner::new(alloc, 16);

@@ -1,4 +1,4 @@
-//! Where a joiner stands once it has joined.
+//! The position of a joiner after joining.
 ghost use Rattle.std.specs.Prelude.{◌<◌, ◌^◌, ℕ, List, Some};
 ghost use Rattle.itch_day.specs.Sinks.{Decodes};
 ghost use Rattle.itch_market.specs.Wanted.{has};
@@ -13,7 +13,7 @@ use itch_codec::{CodecFault, Message};
 use itch_market::{LocateSet, Market};
 use std::marker::Model;
 
-/// The number of the next message, and the market of those before it.
+/// The number of the next message, and the market of the messages before it.
 #[derive(Drop)]
 pub struct Position<B: OrderBook> {
     pub(crate) next: u64,
@@ -32,7 +32,7 @@ impl<B: OrderBook> Model for Position<B> {
     ghost view = { λ j. record { next = j.next; market = j.market } };
 }
 
-// Applies what waits, up to the first number that is missing. A message waits until it is applied.
+// Applies the waiting messages, up to the first number that is missing. A message remains in the waiting list until it is applied.
 pub(crate) fn drain<B: OrderBook>(
     wait: &mut Waiting<B::Alloc>,
     set: &LocateSet<B::Alloc>,
@@ -48,7 +48,7 @@ pub(crate) fn drain<B: OrderBook>(
     Ok(())
 }
 
-// Applies the message with the next number, and then what waits.
+// Applies the message with the next number, and then the waiting messages after it.
 pub(crate) fn advance<B: OrderBook>(
     wait: &mut Waiting<B::Alloc>,
     set: &LocateSet<B::Alloc>,

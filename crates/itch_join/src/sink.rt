@@ -1,4 +1,4 @@
-//! A joiner that takes the messages of a day.
+//! A joiner as a sink of the messages of a day.
 ghost use Rattle.std.specs.Prelude.{◌≡◌};
 ghost use Rattle.itch_join.specs.Takings.{IsOfNext, refused_by};
 
@@ -9,8 +9,8 @@ use itch_codec::{CodecFault, Message};
 use itch_day::Sink;
 use itch_market::{Refusal, Refused};
 
-/// A joiner that has joined, and in which nothing waits, takes the day's messages from its next one on. It passes over those that its
-/// market contains already, whatever they are.
+/// A joiner that has joined, without waiting messages, takes the day's messages from its next one on. It skips messages that its market
+/// already contains, whatever their content.
 impl<B: OrderBook> Sink for Joiner<B> {
     ghost use Rattle.itch_join.specs.Takings.{MayTake, RefusesNumbered, TakesNumbered};
 
@@ -36,7 +36,7 @@ impl<B: OrderBook> Sink for Joiner<B> {
     }
 }
 
-// Why such a joiner refuses a message.
+// Returns the reason why such a joiner refuses a message.
 fn refused_by(fault: JoinFault) -> Refused
     requires { IsOfNext fault }
     ensures { result ≡ refused_by fault }

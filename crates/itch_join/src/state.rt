@@ -1,4 +1,4 @@
-//! What decides the result of a joiner's call.
+//! The cases that determine the result of a joiner's call.
 ghost use Rattle.std.specs.Prelude.{◌≡◌};
 ghost use Rattle.itch_join.specs.declared.fault.Cause.TheVariants.{Codec};
 ghost use Rattle.itch_join.specs.declared.state.Stopped.TheVariants.{Refused};
@@ -8,14 +8,14 @@ use crate::fault::Cause;
 use itch_codec::CodecFault;
 use itch_market::Refusal;
 
-/// The number of the message that is refused, and why.
+/// The number of a refused message, and the reason.
 #[derive(Clone, Copy, Debug)]
 pub struct Halt {
     pub(crate) number: u64,
     pub(crate) cause: Cause,
 }
 
-/// Why a message was not applied.
+/// The reason why a message was not applied.
 #[derive(Clone, Copy, Debug)]
 pub enum Stopped {
     Refused(Cause),
@@ -41,7 +41,7 @@ impl From<Refusal> for Stopped {
     }
 }
 
-/// What is true of a delivery of the live feed. The first that is true decides.
+/// The case of a delivery of the live feed. The first one that applies decides the result.
 #[derive(Clone, Copy, Debug)]
 pub enum LiveCase {
     /// A message was refused before.
@@ -50,11 +50,11 @@ pub enum LiveCase {
     BadNumber,
     /// The market contains it.
     Old,
-    /// Other bytes wait under its number.
+    /// Other bytes are waiting under its number.
     Conflict,
-    /// It is the next.
+    /// It is the next message.
     Next,
-    /// It waits already.
+    /// It is already waiting.
     Kept,
     /// There is no room for it.
     Full,

@@ -1,4 +1,4 @@
-//! The messages that wait.
+//! The waiting messages.
 ghost use Rattle.std.specs.Prelude.{◌≡◌, ◌<◌, ◌^◌, Some, None, is_some, not, nat_lt, MatchOption, OnOk, OnErr};
 ghost use Rattle.std.specs.FinMap as map;
 ghost use Rattle.itch_join.specs.Waits.{AreNumbers};
@@ -7,7 +7,7 @@ use std::alloc::{AllocError, Allocator};
 use std::collections::BTreeMap;
 use std::marker::Model;
 
-/// The messages that wait, by their numbers.
+/// The waiting messages, by number.
 #[derive(Drop)]
 pub struct Waiting<A: Allocator + Copy> {
     alloc: A,
@@ -31,7 +31,7 @@ impl<A: Allocator + Copy> Model for Waiting<A> {
 }
 
 impl<A: Allocator + Copy> Waiting<A> {
-    /// Nothing waits, and no memory is taken.
+    /// Creates a collection without messages. It allocates no memory.
     pub fn new(alloc: A) -> Self
         ensures { result ≡ map.empty }
     {
@@ -41,14 +41,14 @@ impl<A: Allocator + Copy> Waiting<A> {
         }
     }
 
-    /// The number of messages that wait.
+    /// Returns the number of waiting messages.
     pub fn len(&self) -> usize
         ensures { result ≡ map.len self.now }
     {
         self.messages.len()
     }
 
-    /// The payload that waits under a number.
+    /// Returns the payload that is waiting under a number.
     pub fn get(&self, number: u64) -> Option<&[u8]>
         ensures found { MatchOption result (map.get self.now number ≡ None) (λ p. map.get self.now number ≡ Some p.now) }
         ensures numbers { AreNumbers self.now }
@@ -57,14 +57,14 @@ impl<A: Allocator + Copy> Waiting<A> {
         Some(payload.as_slice())
     }
 
-    /// Whether a message waits under a number.
+    /// Returns whether a message is waiting under a number.
     pub fn has(&self, number: u64) -> bool
         ensures { result ≡ is_some (map.get self.now number) }
     {
         self.get(number).is_some()
     }
 
-    /// Keeps a copy of a payload under a number, in place of what waits there.
+    /// Stores a copy of a payload under a number, in place of any other payload there.
     pub fn insert(&mut self, number: u64, payload: &[u8]) -> Result<(), AllocError>
         requires { number < 10 ^ 19 }
         ensures ok { OnOk result (self.new ≡ map.insert self.old number payload.now) }
@@ -76,14 +76,14 @@ impl<A: Allocator + Copy> Waiting<A> {
         Ok(())
     }
 
-    /// Drops the message that waits under a number, if one does.
+    /// Drops the message that is waiting under a number, if there is one.
     pub fn remove(&mut self, number: u64)
         ensures { self.new ≡ map.remove self.old number }
     {
         self.messages.remove(&number);
     }
 
-    /// Drops the messages with lower numbers than this.
+    /// Drops the messages with numbers below `next`.
     pub fn keep_from(&mut self, next: u64)
         ensures { self.new ≡ map.retain_keys self.old (λ i. not (nat_lt i next)) }
     {

@@ -1,4 +1,4 @@
--- A client that waits is answered, and one that is silent is cut off.
+-- A waiting client is answered, and a silent one is disconnected.
 use Rattle.std.proofs.Common.{◌≡◌, ℕ, ◌-◌, ◌+◌, ◌<◌, ◌≤◌, nat_lt, nat_le, ◌==◌, Bool, true, false, not, cond, if◌then◌else◌, ◌&&◌, ◌||◌, List, [], ◌∷◌, length, Option, None, Some, refl, sym, ap, subst, ◌∙◌, ◌⊎◌, inl, inr, is_some, arith}
 use Rattle.std.specs.Option.{option_or}
 use Rattle.std.proofs.lemmas.Bool.{leb-true, ltb-false}
@@ -29,7 +29,7 @@ is_first place count below = by_test (nat_lt place count) refl where
   by_test true h = h
   by_test false h = let above = ltb-false place count h in absurd (omega (arith, above, below))
 
--- where there is room, there is a snapshot
+-- if there is room, there is a snapshot
 shot_of : (k : Option (List ℕ)) (b : Bool) (w : List ℕ) → (is_some k ≡ true) ⊎ (b ≡ true) → (bytes : List ℕ) × (option_or k (if b then Some w else None) ≡ Some bytes)
 shot_of (Some bytes) b w room = (bytes, refl)
 shot_of None true w room = (w, refl)
@@ -64,7 +64,7 @@ IsSilence None = ⊥
 IsSilence (Some reason.Silent) = Unit {0}
 IsSilence (Some other) = ⊥
 
--- for another reason none is silent that was not before
+-- another reason does not make a client silent that was not before
 left_first : (o : Option Gone) → IsSilence (option_or o (Some reason.Left)) → IsSilence o
 left_first None h = absurd h
 left_first (Some why) h = h
@@ -83,7 +83,7 @@ by_act (act.Fault fault) login now g h = fault_first g.gone h
 same_gone : (g h : Guest) → h ≡ g → IsSilence h.gone → IsSilence g.gone
 same_gone g h same is = subst (λ (x : Guest). IsSilence x.gone) same is
 
--- one that falls silent does so at a moment
+-- a client becomes silent at a reported time
 abbrev pub Falls : Guest → Happening → Type 0
 Falls f happening = (now : ℕ) × (happening ≡ stories.Ticks now) × (is_silent f now ≡ true)
 

@@ -1,4 +1,4 @@
--- What the clients of a desk are sent, where what follows the feed is sent one feed.
+-- The bytes sent to the clients of a desk whose follower receives one feed.
 use Rattle.std.proofs.Common.{◌≡◌, ℕ, ◌-◌, ◌==◌, ◌++◌, nat_lt, Bool, true, false, if◌then◌else◌, List, [], ◌∷◌, take, Option, None, Some, Ok, Err, refl, sym, ap, subst, ◌∙◌, inl, inr, append-nil, ◌&&◌, is_some}
 use Rattle.std.specs.List.{AllByRecursion}
 use Rattle.itch_codec.specs.Fields.{AreBytes}
@@ -39,7 +39,7 @@ abbrev pub IsSeen : Option Visit → Type 0
 IsSeen None = ⊥
 IsSeen (Some v) = Unit {0}
 
--- what happened last, and before it
+-- the latest event, and those before it
 abbrev pub first_or : Happening → List Happening → Happening
 first_or d [] = d
 first_or d (x ∷ xs) = x
@@ -60,7 +60,7 @@ abbrev pub number_or : ℕ → Happening → ℕ
 number_or i (stories.Answers m next now) = next
 number_or i other = i
 
--- the call by which the market was handed to the client of a visit
+-- the call that answered the client of a visit with the market
 pub record Origin {W : Type 0} (k : ℕ) (past : List (Event W)) (begun : Arrival) (m : Content) (next : ℕ) (seen : List Happening) : Type 0 where
   pub later : List (Event W)
   pub at : Event W
@@ -97,7 +97,7 @@ module _ {W : Type 0} (k : ℕ) where
     stayed = (stays, o.stayed);
   }
 
-  -- one happening more, which is not what is (stories.Answers m next now)
+  -- one more event, which is not the answer `stories.Answers m next now`
   onward : (x : Event W) (past : List (Event W)) (h a : Happening) (seen later : List Happening) (v : Visit) (o : Option Visit) (T : Arrival → Type 0) → (IsAnswers h → ⊥) → IsAnswers a
       → ((u : Visit) → o ≡ Some u → (later : List Happening) → u.past ≡ later ++ a ∷ seen → T u.begun)
       → with h o ≡ Some v → v.past ≡ later ++ a ∷ seen → T v.begun
@@ -241,7 +241,7 @@ module _ {W : Type 0} (contents : W → Option (List ℕ)) (failures : W → Fai
     abbrev R : Rules
     R = rules_of (has set)
 
-    -- an answer that was handed in then
+    -- an answer that was passed in then
     answer_of : (past : List (Event W)) (d : Desk) → History contents failures begun past d → AreHonest R feed past → (v : Visit) → visit_at k past ≡ Some v → (told : List ℕ)
         → IsAnswer v.begun.config v.begun.now v.past told → IsFeedAnswer R feed k past v told
     answer_of past d h honest v sees told a =

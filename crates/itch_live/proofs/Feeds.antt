@@ -1,4 +1,4 @@
--- What follows a feed keeps a joiner that was delivered nothing else.
+-- The follower of a feed keeps a joiner that has received nothing else.
 use Rattle.std.proofs.Common.{◌≡◌, ℕ, ◌<◌, List, [], ◌∷◌, Option, Some, refl, sym, ap, subst, ◌∙◌, inl, inr, arith}
 use Rattle.std.specs.List.{AllByRecursion}
 use Rattle.itch_codec.specs.Fields.{AreBytes}
@@ -18,7 +18,7 @@ use Rattle.itch_live.specs.declared.news.News.{News}
 use Rattle.itch_live.specs.Follows.{Following, Calls, ActsOn, HearsFeed}
 use Rattle.itch_live.specs.Feeds.{Did, Connects, Ticks, Replays, Hears, FitsAct, IsHonest, IsJoining, Does, Followed, StandsJoined}
 
--- the joiner is as before
+-- the joiner does not change
 same_joining : (set : Wanted) (cap : ℕ) (feed : List (List ℕ)) (f g : Following) → g.joining ≡ f.joining → IsJoining set cap feed f → IsJoining set cap feed g
 same_joining set cap feed f g same j = record {
   set_is = ap (λ x. x.set) same ∙ j.set_is;

@@ -1,4 +1,4 @@
--- A sheet with room for all that is written to it.
+-- A sheet with room for all bytes that are written to it.
 use Rattle.std.proofs.Common.{◌≡◌, ℕ, ◌<◌, ◌≤◌, List, [], ◌∷◌, ◌++◌, length, take, Option, Some, Err, sym, ap, subst, arith, length-append}
 use Rattle.std.proofs.lemmas.List.{length-take}
 use Rattle.itch_frame.specs.Blocks.{block, blocks}
@@ -9,7 +9,7 @@ use Rattle.itch_frame.specs.declared.fault.FrameFault.TheVariants.{Read, Truncat
 use Rattle.itch_frame.proofs.BlockLemmas.{blocks-append}
 use Rattle.itch_live.specs.declared.sheet.Sheet.{Sheet}
 
--- the room stands before the bytes
+-- the room comes before the bytes
 pub grown : (room size : ℕ) (old new bytes : List ℕ) → size ∷ new ≡ room ∷ (old ++ bytes) → old ≡ [] → (size ≡ room) × (new ≡ bytes)
 grown room size old new bytes is empty = let front : old ++ bytes ≡ bytes = ap (λ xs. xs ++ bytes) empty in (cc, cc)
 
@@ -20,7 +20,7 @@ module _ {A : Type 0} where
   abbrev failing : Sheet A → Failures
   failing s = s.failures
 
-  -- a write fails only where the sheet is full, so it does not where all has room
+  -- a write fails only if the sheet is full, so it does not fail if there is room for everything
   pub never_full : (old new : Sheet A) (payloads : List (List ℕ)) (fault : FrameFault) → old.bytes.items ≡ [] → length (blocks payloads) ≤ old.room
       → WriteBlocks written failing old payloads (Err fault) new → ⊥
   never_full old new payloads (Write sent error) empty fits (done, payload, more, whole, short, appended, counted) =

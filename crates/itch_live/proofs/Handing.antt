@@ -1,4 +1,4 @@
--- What handing in the present market makes of a desk.
+-- The effect on a desk of answering with the current market.
 use Rattle.std.proofs.Common.{◌≡◌, ℕ, ◌++◌, false, List, [], length, map, take, Option, None, Some, Result, Ok, Err, option_map, OnOk, IsErr, refl, sym, ap, ◌∙◌, append-nil}
 use Rattle.std.specs.List.{list_any}
 use Rattle.std.proofs.Math.Seq.{take-length, drop-length}
@@ -15,7 +15,7 @@ all_seats bytes next now seats none =
     sym (none_answered bytes next now seats none) ∙ sym (append-nil (map f seats))
     ∙ ap (λ xs. map f xs ++ []) (sym (take-length seats)) ∙ ap (λ xs. map f (take (length seats) seats) ++ xs) (sym (drop-length seats))
 
--- where none waits, nothing changes
+-- if no client waits, nothing changes
 pub none_waits : (d : Desk) (limit now : ℕ) → list_any waits d.seats ≡ false → d ≡ answered d limit (length d.seats) now
 none_waits d limit now none = by_joined d.following.joining.state.joined where
   by_joined : (o : Option Position) → d ≡ answered_with o d limit (length d.seats) now
@@ -25,7 +25,7 @@ none_waits d limit now none = by_joined d.following.joining.state.joined where
     by_shot None = refl
     by_shot (Some bytes) = ap (λ s. record d { seats = s }) (all_seats bytes j.next now d.seats none)
 
--- nor where there is no market
+-- nothing changes either if there is no market
 pub no_market : (d : Desk) (limit count now : ℕ) → d.following.joining.state.joined ≡ None → d ≡ answered d limit count now
 no_market d limit count now none = sym (ap (λ o. answered_with o d limit count now) none)
 
@@ -43,13 +43,13 @@ position_is (Some j) next market numbered there =
     let same : j.next ≡ next = cc in let is : j.market ≡ market = cc in
     ap (λ n. Some (record { next = n; market = j.market })) same ∙ ap (λ m. Some (record { next = next; market = m })) is
 
--- a snapshot is handed in, or none
+-- the clients receive a snapshot, or none
 pub handed_shot : (d : Desk) (j : Position) (shot : Option (List ℕ)) (limit count now : ℕ) (seats : Seats) → d.following.joining.state.joined ≡ Some j
     → shot ≡ shot_for limit d.seats j.market j.next → seats ≡ places.handed shot j.next now count d.seats → record d { seats = seats } ≡ answered d limit count now
 handed_shot d j shot limit count now seats there is same =
     ap (λ s. record d { seats = s }) (same ∙ ap (λ x. places.handed x j.next now count d.seats) is) ∙ sym (ap (λ o. answered_with o d limit count now) there)
 
--- of a result that is an error nothing is said at `Ok`
+-- a result that is an error satisfies any statement about `Ok`
 pub only_err : {T E : Type 0} (r : Result T E) (P : Type 0) → IsErr r → OnOk r P
 only_err (Ok value) P h = absurd (cc)
 only_err (Err error) P h = tt

@@ -1,4 +1,4 @@
--- What a client has said.
+-- Packets from a client.
 use Rattle.std.proofs.Common.{◌≡◌, ℕ, false, List, [], Option, sym, ap, subst, ◌∙◌, inl, inr}
 use Rattle.itch_frame.specs.Blocks.{IsBlockOf}
 use Rattle.itch_frame.specs.Cuts.{IsTake}
@@ -7,13 +7,13 @@ use Rattle.itch_soup.specs.declared.server.ServerAct.{ServerAct}
 use Rattle.itch_soup.specs.Servers.{Server}
 use Rattle.itch_live.specs.Guests.{Guest, after_act, moved_by_words, is_deaf, Judges, HearsPayload, Hears}
 
--- a payload is heard as the session judges it
+-- a payload has the effect that the session's judgement has
 hearing : (g h : Guest) (payload : List ℕ) (now : ℕ) (answer : ServerAct × Option LoginRequest) (s : Server) → Judges g.session payload now answer s
     → h ≡ after_act answer.0 answer.1 now (record g { held = []; session = s; moved = moved_by_words g now }) → HearsPayload g payload now h
 hearing g h payload now answer s (inl (packet, spelled, is, after)) turned = inl (packet, spelled, rw (is, after) at turned)
 hearing g h payload now answer s (inr (fault, at, is, after)) turned = inr (fault, at, rw (is, after) at turned)
 
--- a whole packet is heard: what was held of it is dropped, and the client moves on
+-- a complete packet arrives: its held bytes are dropped, and the client has made progress
 pub hears_packet : (inside g h : Guest) (piece held payload dropped : List ℕ) (now n moved : ℕ) (answer : ServerAct × Option LoginRequest) (s : Server)
     → inside ≡ g → is_deaf g ≡ false → IsTake inside.held piece n held → IsBlockOf payload held → Judges inside.session payload now answer s → dropped ≡ [] → moved ≡ moved_by_words g now
     → h ≡ after_act answer.0 answer.1 now (record inside { held = dropped; session = s; moved = moved }) → Hears g piece now n h

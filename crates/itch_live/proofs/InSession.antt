@@ -1,4 +1,4 @@
--- What a follower takes comes in a connection that was accepted in the name of the session.
+-- A follower takes messages only from a connection that was accepted under the name of the session.
 use Rattle.std.proofs.Common.{◌≡◌, ℕ, ◌+◌, ◌^◌, nat_lt, Bool, true, false, not, List, [], ◌∷◌, Option, None, Some, is_some, refl, sym, ap, subst, ◌∙◌, inl, inr, ◌⊎◌, if◌then◌else◌}
 use Rattle.std.specs.Option.{option_or}
 use Rattle.std.specs.Str.{bytes_eq}
@@ -31,7 +31,7 @@ use Rattle.itch_live.specs.Feeds.{Did, Connects, Ticks, Replays, Hears}
 use Rattle.itch_live.specs.Identity.{StaysConnected, Led, IsInSession}
 use Rattle.itch_live.proofs.Shutting.{none_known}
 
--- a session that is accepted was so before, or its login is accepted by this packet
+-- an accepted session was accepted before, or this packet accepts its login
 turned : (next : ℕ) (at : Stage) (packet : Packet) → (client_turn next at packet).1 ≡ stage.Accepted
     → ((at ≡ stage.Accepted) × (accepted_as (client_turn next at packet).0 (named_in packet) ≡ None))
     ⊎ ((login : LoginAccepted) × (packet ≡ is.LoginAccepted login) × (accepted_as (client_turn next at packet).0 (named_in packet) ≡ Some login.session))
@@ -60,7 +60,7 @@ turned next stage.Accepted (is.UnsequencedData payload) h = inl (refl, refl)
 turned next stage.Accepted is.ClientHeartbeat h = absurd (cc)
 turned next stage.Accepted is.LogoutRequest h = absurd (cc)
 
--- only in an accepted session a packet is a message
+-- only in an accepted session can a packet be a message
 told_data : (next : ℕ) (at : Stage) (packet : Packet) (number : ℕ) (payload : List ℕ) → (client_turn next at packet).0 ≡ act.Data number payload → at ≡ stage.Accepted
 told_data next stage.Accepted packet number payload h = refl
 told_data next stage.Closed packet number payload h = absurd (cc)
@@ -86,7 +86,7 @@ ticked_on tick.Nothing c now h = h
 ticked_on tick.Heartbeat c now h = h
 ticked_on tick.Lost c now h = absurd (cc)
 
--- the session that is expected once a login was accepted in this name, and not in another one
+-- the expected session after a login was accepted under this name, and not under another one
 pub record Agrees (known : Sessions) (from : Source) (name : List ℕ) : Type 0 where
   pub session : List ℕ
   pub wanted : expected known from ≡ Some session
@@ -113,7 +113,7 @@ agreed known source.Glimpse name own = by_own known.glimpse refl own where
       record { session = f.0; wanted = ap (λ o. option_or o (option_or known.feed (Some name))) is ∙ f.1; same = f.2 }
   by_own (Some wanted) is own = record { session = wanted; wanted = ap (λ o. option_or o known.feed) is; same = same_name wanted name own }
 
--- what has come changes the joiner only where it is a message
+-- a packet changes the joiner only if it is a message
 module _ {W : Type 0} (contents : W → Option (List ℕ)) (failures : W → Failures) where
   unless_data : (from : Source) (answer : ClientAct) (old new : Joining) (record_old record_new : W) (told : News) → ActsOn contents failures from answer old record_old told record_new new
       → (new ≡ old) ⊎ ((number : ℕ) × (payload : List ℕ) × (answer ≡ act.Data number payload))
@@ -128,7 +128,7 @@ module _ {W : Type 0} (contents : W → Option (List ℕ)) (failures : W → Fai
     abbrev Holds : List (Did W) → Following → Type 0
     Holds past f = f.session.connection.stage ≡ stage.Accepted → IsInSession contents failures begun past f
 
-    -- in the same connection
+    -- the same connection
     on : (past : List (Did W)) (did : Did W) (f g : Following) → StaysConnected did → g.sessions ≡ f.sessions → g.source ≡ f.source → IsInSession contents failures begun past f
         → IsInSession contents failures begun (did ∷ past) g
     on past did f g stays sessions_same source_same s = record {

@@ -1,4 +1,4 @@
--- How many bytes the snapshots have that are kept.
+-- The size of the kept snapshots in bytes.
 use Rattle.std.proofs.Common.{◌≡◌, ◌⊎◌, inl, inr, ℕ, ◌+◌, ◌-◌, ◌≤◌, ◌||◌, ◌&&◌, ◌==◌, nat_lt, nat_le, max, Bool, true, false, not, if◌then◌else◌, List, [], ◌∷◌, ◌++◌, length, map, take, drop, Option, None, Some, Ok, Err, refl, sym, ap, ◌∙◌, subst, arith, set, replicate, zero, suc}
 use Rattle.std.specs.List.{sum_by}
 use Rattle.std.specs.Option.{option_or}
@@ -27,18 +27,18 @@ use Rattle.itch_live.proofs.Present.{kept_for}
 use Rattle.itch_live.proofs.Lengths.{session_within}
 use Rattle.itch_live.proofs.Totals.{is_at_true, at_number, is_in, in_rest, in_first, own, total, total_same, without, without_itself, one_more, none_more}
 
--- the numbers of the snapshots that the clients are sent
+-- the numbers of the clients' snapshots
 abbrev pub numbers : Seats → List (Option ℕ)
 numbers seats = map number_of seats
 
--- who is sent the snapshot of a number is told the bytes that belong to it
+-- a client with the snapshot of a number receives the bytes that belong to the number
 abbrev pub Agrees : (ℕ → List ℕ) → Option ℕ → Option (List ℕ) → Type 0
 Agrees bytes snapshot told = (n : ℕ) → snapshot ≡ Some n → told ≡ Some (bytes n)
 
 unsent : (bytes : ℕ → List ℕ) (told : Option (List ℕ)) → Agrees bytes None told
 unsent bytes told n there = absurd (cc)
 
--- the bytes that are kept -----------------------------------------------------
+-- the kept bytes -----------------------------------------------------------------
 
 kept_is_in : (seats : Seats) (n : ℕ) → is_kept seats n ≡ is_in (numbers seats) n
 kept_is_in [] n = refl
@@ -70,13 +70,13 @@ kept_under bytes (Some g ∷ seats) all n there = by_test (is_at g.snapshot n) r
   by_test true at here rest = ap (λ o. option_or o (kept_bytes seats n)) (all 0 g refl n (at_number g.snapshot n at))
   by_test false at later rest = rest later
 
--- each number that is kept counts its bytes once
+-- each kept number counts its bytes once
 pub bytes_are : (bytes : ℕ → List ℕ) (seats : Seats) → AllHold (Agrees bytes) seats → snapshot_bytes seats ≡ total (λ n. length (bytes n)) (numbers seats)
 bytes_are bytes seats all =
     sum_is (λ n. length_or (kept_bytes seats n)) seats
     ∙ total_same (λ n. length_or (kept_bytes seats n)) (λ n. length (bytes n)) (numbers seats) (λ n there. ap length_or (kept_under bytes seats all n there))
 
--- numbers that stay -------------------------------------------------------------
+-- numbers that do not change -------------------------------------------------------
 
 in_at : (seats : Seats) (place n : ℕ) → number_of (guest_at seats place) ≡ Some n → is_in (numbers seats) n ≡ true
 in_at [] place n at = absurd (cc)
@@ -142,7 +142,7 @@ took_same : (seats : Seats) (place count now : ℕ) (seat : Option Guest) → gu
 took_same seats place count now None there = refl
 took_same seats place count now (Some g) there = set_same number_of seats place (Some (guests.took g count now)) (takes g.notes g count now ∙ ap number_of (sym there))
 
--- a place that is freed keeps no more
+-- a place that becomes free does not increase the total
 freed : (f : ℕ → ℕ) (seats : Seats) (place : ℕ) (o : Option ℕ) → number_of (guest_at seats place) ≡ o → total f (numbers (set seats place None)) ≤ total f (numbers seats)
 freed f seats place None there = let same = ap (total f) (set_same number_of seats place None (sym there)) in omega (arith, same)
 freed f seats place (Some n) there =
@@ -150,7 +150,7 @@ freed f seats place (Some n) there =
     (others_of n (set seats place None) ∙ set_same (λ seat. without n (number_of seat)) seats place None (sym (ap (without n) there ∙ without_itself n)) ∙ sym (others_of n seats))
     (in_at seats place n there)
 
--- one who waits has no number yet, and gets this one
+-- a waiting client has no number yet, and gets this one
 handed_same : (bytes : ℕ → List ℕ) (shot : List ℕ) (next now : ℕ) (seat : Option Guest) → ((g : Guest) → seat ≡ Some g → Agrees bytes g.snapshot g.told)
     → without next (number_of (answered_seat shot next now seat)) ≡ without next (number_of seat)
 handed_same bytes shot next now None agrees = refl
@@ -177,7 +177,7 @@ all_handed bytes shot next now count seats all =
 
 -- calls -----------------------------------------------------------------------
 
--- the bytes of each number, which all who are sent it are told: together they are no more than these
+-- the bytes of each number, which all its clients receive: the total is at most `most`
 record Bounded (most : ℕ) (seats : Seats) : Type 0 where
   pub bytes : ℕ → List ℕ
   pub agree : AllHold (Agrees bytes) seats
@@ -201,7 +201,7 @@ fewer most seats place b =
       within = omega (arith, less, b.within);
     }
 
--- a snapshot is handed in that is kept already
+-- a client receives a snapshot that is kept already
 again : (most : ℕ) (seats : Seats) (shot : List ℕ) (next now count : ℕ) → kept_bytes seats next ≡ Some shot → Bounded most seats
     → Bounded most (map (answered_seat shot next now) (take count seats) ++ drop count seats)
 again most seats shot next now count found b =
@@ -218,11 +218,11 @@ again most seats shot next now count found b =
       one_number : {m n : ℕ} → Some m ≡ Some n → m ≡ n
       one_number {m} {n} h = cc
 
--- the bytes of one number are these, and those of the others what they were
+-- the bytes of one number are these, and the bytes of the others do not change
 abbrev pub with_bytes : ℕ → List ℕ → (ℕ → List ℕ) → ℕ → List ℕ
 with_bytes next shot bytes n = if n == next then shot else bytes n
 
--- a new snapshot is handed in
+-- a client receives a new snapshot
 fresh : (most : ℕ) (seats : Seats) (shot : List ℕ) (next now count : ℕ) → kept_bytes seats next ≡ None → (b : Bounded most seats) → snapshot_bytes seats + length shot ≤ most
     → Bounded most (map (answered_seat shot next now) (take count seats) ++ drop count seats)
 fresh most seats shot next now count none b room = record {

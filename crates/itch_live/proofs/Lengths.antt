@@ -1,4 +1,4 @@
--- How many bytes answer a login with a snapshot.
+-- The number of bytes that answer a login with a snapshot.
 use Rattle.std.proofs.Common.{◌≡◌, ℕ, ◌+◌, ◌*◌, ◌≤◌, List, [], ◌∷◌, ◌++◌, map, length, flat_map, Option, None, Some, ap, ◌∙◌, arith, length-append}
 use Rattle.std.specs.List.{AllByRecursion}
 use Rattle.std.specs.FinMap as finite
@@ -30,7 +30,7 @@ abbrev IsShortShape : Shape → Type 0
 IsShortShape (Fields layout values) = layout.size ≤ 40
 IsShortShape (Payload bytes) = ⊥
 
--- its type has at most 40 bytes
+-- the type of a message has at most 40 bytes
 abbrev IsShort : Message → Type 0
 IsShort x = IsShortShape (shape x)
 
@@ -61,7 +61,7 @@ states_short locate s =
     (each_short (halt_part locate stock) (λ e. omega arith) (finite.entries s.halts))
     (each_short (position_part locate stock) (λ e. omega arith) (finite.entries s.positions))))
 
--- the longest is an attributed order
+-- the longest message is an order with attribution
 order_short : (stock : List ℕ) (x : Order) → IsShort (order_part stock x)
 order_short stock x = one x.mpid where
   one : (mpid : Option (List ℕ)) → IsShort (attributed (add_of stock x) mpid)
@@ -104,7 +104,7 @@ packets_short (x ∷ xs) fit short =
     let rest = packets_short xs fit.1 short.1 in
     omega (arith, first, rest, length-append (block (packet_spelling (data_packet x))) (blocks (map packet_spelling (map data_packet xs))))
 
--- what is sent after them -------------------------------------------
+-- the packets after them -------------------------------------------
 
 session_length : (xs : List Message) → length (blocks (map packet_spelling (session_packets xs))) ≡ length (blocks (map packet_spelling (map data_packet xs))) + 3
 session_length xs =
@@ -120,7 +120,7 @@ all_messages m next good number = All-append_rec IsMessage (snap m) (message.End
 all_short : (m : Content) (next : ℕ) → AllByRecursion IsShort (messages m next)
 all_short m next = All-append_rec IsShort (snap m) (message.End next ∷ []) (snap_short m) (omega arith, tt)
 
--- the answer has at most 43 bytes for each message of the snapshot, and 128 for the End of Snapshot and the end of the session
+-- the answer has at most 43 bytes per message of the snapshot, and 128 for the End of Snapshot and the end of the session
 pub session_within : (m : Content) (next : ℕ) → IsGood m → IsSequence next → length (session_bytes m next) ≤ 43 * length (snap m) + 128
 session_within m next good number =
     omega (

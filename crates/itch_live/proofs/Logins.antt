@@ -1,4 +1,4 @@
--- How a login is judged where there is no message yet.
+-- How a login is judged if there are no messages yet.
 use Rattle.std.proofs.Common.{◌≡◌, ℕ, ◌+◌, ◌≤◌, ◌++◌, nat_lt, max, Bool, true, false, map, length, Some, refl, sym, ap, arith}
 use Rattle.std.proofs.lemmas.Bool.{ltb-true, ltb-false}
 use Rattle.itch_frame.specs.Blocks.{blocks}
@@ -25,7 +25,7 @@ abbrev pub IsAcceptance : ServerAct → Type 0
 IsAcceptance (act.Accept n) = Unit {0}
 IsAcceptance other = ⊥
 
--- a login that is accepted where there is no message yet is accepted from number 1 on, however many there are
+-- a login that is accepted while there are no messages is accepted from number 1, for any number of messages
 accepted : (config : ServerConfig) (total : ℕ) (login : LoginRequest) (user session above far : Bool) → is_user config login ≡ user
     → asks_for_session config.session login.session ≡ session → nat_lt 1 (first_asked login) ≡ above → nat_lt (total + 1) (first_asked login) ≡ far
     → IsAcceptance (judged config 0 login).0 → (judged config total login).0 ≡ act.Accept 1
@@ -39,7 +39,7 @@ accepted config total login true true false false u s a f h =
       one : (n : ℕ) → max 1 n ≤ 1 → max 1 n ≡ 1
       one n h = omega arith
 
--- so the acceptance and the answer are what a server of a file sends
+-- so the acceptance and the answer are the ones that a server of a file sends
 pub answered_whole : (config : ServerConfig) (m : Content) (next : ℕ) (login : LoginRequest) → IsAcceptance (judged config 0 login).0 → welcome config 1 ++ session_bytes m next ≡ served m next config login
 answered_whole config m next login h =
     ap (λ a. blocks (map packet_spelling (packets_for m next config a)))
@@ -62,7 +62,7 @@ IsDecision (act.Accept n) = Unit {0}
 IsDecision (act.Reject code) = Unit {0}
 IsDecision other = ⊥
 
--- a login is decided on where none was before, and then none is wanted
+-- a login is judged that was awaited before, and none is awaited afterwards
 pub record Decides (config : ServerConfig) (total : ℕ) (at : Stage) (packet : Packet) : Type 0 where
   pub was_before : IsBefore at
   pub login : LoginRequest

@@ -1,4 +1,4 @@
--- What a desk holds in bytes.
+-- The bytes that a desk holds.
 use Rattle.std.proofs.Common.{◌≡◌, ℕ, ◌+◌, ◌*◌, ◌≤◌, max, List, [], ◌∷◌, length, Option, None, Some, refl, ap, arith}
 use Rattle.itch_frame.specs.declared.tally.Failures.{Failures}
 use Rattle.itch_codec.specs.Widths.{IsSequence}
@@ -18,7 +18,7 @@ few_clients [] = omega arith
 few_clients (None ∷ seats) = let rest = few_clients seats in omega arith
 few_clients (Some g ∷ seats) = let rest = few_clients seats in omega arith
 
--- the greater of two numbers is no more than a third
+-- if the greater of two numbers is at most a third, so is the first
 max_first : (a b most : ℕ) → max a b ≤ most → a ≤ most
 max_first a b most h = omega arith
 
@@ -34,10 +34,10 @@ within_longest contents failures begun past d markets history =
       sums : (c places bytes most : ℕ) → c ≤ places → bytes ≤ most → splitter_bytes + c * splitter_bytes + bytes ≤ splitter_bytes + places * splitter_bytes + most
       sums c places bytes most few within = omega (arith, few, within)
 
--- bytes of snapshots by their messages -------------------------------------------
+-- the size of snapshots by their messages ------------------------------------------
 
 module _ {W : Type 0} (contents : W → Option (List ℕ)) (failures : W → Failures) (most : ℕ) where
-  -- what is handed in is the snapshot of the present market
+  -- an answer with the snapshot of the current market
   answer_short : (d : Desk) (limit : ℕ) (o : Option Position) → AreFitting o d.seats → ((j : Position) → o ≡ Some j → IsGood j.market × IsSequence j.next)
       → messages_at o ≤ most → handed_at o limit d ≤ 43 * most + 128
   answer_short d limit None fits markets few = omega arith

@@ -1,4 +1,4 @@
--- The session of a feed stays the same once it is known.
+-- The session of a feed does not change once it is known.
 use Rattle.std.proofs.Common.{◌≡◌, ℕ, not, List, [], ◌∷◌, ◌++◌, Option, None, Some, is_some, Ok, Err, refl, ap, ◌∙◌, inl, inr, if◌then◌else◌}
 use Rattle.std.specs.Option.{option_or}
 use Rattle.itch_frame.specs.declared.tally.Failures.{Failures}

@@ -1,4 +1,4 @@
--- What has happened to a client leaves one client, and one list of bytes sent to it.
+-- The events of a client determine the client and the bytes sent to it.
 use Rattle.std.proofs.Common.{◌≡◌, ℕ, ◌++◌, Bool, true, false, List, [], ◌∷◌, Some, sym, ap, subst, ◌∙◌, inl, inr}
 use Rattle.itch_frame.proofs.BlockLemmas.{block_one}
 use Rattle.itch_soup.specs.declared.login.ServerConfig.{ServerConfig}

@@ -1,4 +1,4 @@
--- A client's visit decides what it is sent.
+-- A client's visit determines the bytes sent to it.
 use Rattle.std.proofs.Common.{◌≡◌, ℕ, List, Option, None, Some, sym, ◌∙◌, subst}
 use Rattle.itch_frame.specs.declared.tally.Failures.{Failures}
 use Rattle.itch_live.specs.Guests.{Guest}

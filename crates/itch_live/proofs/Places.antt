@@ -20,7 +20,7 @@ within seats place g there = by_test (nat_lt place (length seats)) refl where
   by_test true h = ltb-true place (length seats) h
   by_test false h = absurd (no_guest (sym (get_or_past seats place None (ltb-false place (length seats) h)) ∙ there))
 
--- each place has what f makes of it
+-- each place has the result of f
 pub at_mapped : (f : Option Guest → Option Guest) (seats : Seats) (place : ℕ) → f None ≡ None → guest_at (map f seats) place ≡ f (guest_at seats place)
 at_mapped f seats place none = by_test (nat_lt place (length seats)) refl where
   by_test : (b : Bool) → nat_lt place (length seats) ≡ b → guest_at (map f seats) place ≡ f (guest_at seats place)
@@ -29,7 +29,7 @@ at_mapped f seats place none = by_test (nat_lt place (length seats)) refl where
       let past = ltb-false place (length seats) h in
       get_or_past (map f seats) place None (subst (λ n. n ≤ place) (sym (length-map seats f)) past) ∙ sym none ∙ ap f (sym (get_or_past seats place None past))
 
--- at the first places
+-- the same for the first places
 pub at_first : (f : Option Guest → Option Guest) (seats : Seats) (count place : ℕ) → f None ≡ None
     → guest_at (map f (take count seats) ++ drop count seats) place ≡ cond (nat_lt place count) (f (guest_at seats place)) (guest_at seats place)
 at_first f seats count place none = by_tests (nat_lt place count) (nat_lt place (length seats)) refl refl where
@@ -58,7 +58,7 @@ at_first f seats count place none = by_tests (nat_lt place count) (nat_lt place 
         either true is = sym none ∙ ap f (sym is)
         either false is = sym is
 
--- where none waits nothing changes
+-- if no client waits, nothing changes
 pub none_answered : (bytes : List ℕ) (next now : ℕ) (seats : Seats) → list_any waits seats ≡ false → map (answered_seat bytes next now) seats ≡ seats
 none_answered bytes next now [] none = refl
 none_answered bytes next now (None ∷ seats) none = ap (λ s. None ∷ s) (none_answered bytes next now seats none)

@@ -1,4 +1,4 @@
--- What a client of a played feed is sent.
+-- The bytes sent to a client of a played feed.
 use Rattle.std.proofs.Common.{◌≡◌, ℕ, ◌+◌, ◌-◌, ◌<◌, ◌≤◌, ◌⊎◌, inl, inr, Bool, true, false, List, [], ◌∷◌, ◌++◌, length, take, drop, map, Option, None, Some, refl, sym, ap, subst, ◌∙◌, arith, append-nil, append_assoc, length-append, ◌&&◌, not, nat_le, nat_lt, if◌then◌else◌}
 use Rattle.std.specs.Option.{IsSome}
 use Rattle.std.proofs.lemmas.Bool.{leb-true, ltb-true, ltb-false}
@@ -31,11 +31,11 @@ without-append [] ys = refl
 without-append (is.ServerHeartbeat ∷ xs) ys = without-append xs ys
 without-append (x ∷ xs) ys = ap (λ zs. x ∷ zs) (without-append xs ys)
 
--- one packet more
+-- one more packet
 pushed : (packets : List Packet) (x : Packet) → blocks (map packet_spelling packets) ++ block (packet_spelling x) ≡ blocks (map packet_spelling (packets ++ x ∷ []))
 pushed packets x = sym (ap blocks (map-append packet_spelling packets (x ∷ [])) ∙ blocks-push (map packet_spelling packets) (packet_spelling x))
 
--- bytes are added to what was told
+-- bytes are added to those sent
 seam : (a b c : List ℕ) → (a ++ []) ++ (b ++ c) ≡ (a ++ b) ++ c
 seam a b c = ap (λ front. front ++ (b ++ c)) (append-nil a) ∙ sym (append_assoc a b c)
 
@@ -59,7 +59,7 @@ negated : (b : Bool) → not b ≡ true → b ≡ false
 negated true h = absurd (subst IsYes (sym h) tt)
 negated false h = refl
 
--- a client that is played its feed from some number on
+-- a client that is sent its feed from some number on
 abbrev pub IsPlayed : Progress → Type 0
 IsPlayed at = (first : ℕ) × (at ≡ progress.Playing first)
 
@@ -76,7 +76,7 @@ some_if : (b : Bool) (n : ℕ) → IsSome (if b then Some n else None) → b ≡
 some_if true n h = refl
 some_if false n h = absurd (subst IsYes (sym h) tt)
 
--- what is known of a client of whom a message is wanted
+-- the known facts about a client for which a message is requested
 pub record Wants (p : Player) : Type 0 where
   pub playing : IsPlayed p.progress
   pub left : p.next ≤ p.session.total
@@ -106,7 +106,7 @@ accepted_at config total n login true true false u s a accepts h =
     let same : n ≡ first_asked login = cc in
     (same, ltb-false (total + 1) (first_asked login) a)
 
--- a login that is accepted is accepted from the number on that it asks for, which is at most the one after the last
+-- a login is accepted from the number that it asks for, which is at most the one after the last
 accepted_first : (config : ServerConfig) (total n : ℕ) (login : LoginRequest) → (judged config total login).0 ≡ act.Accept n → (n ≡ first_asked login) × (first_asked login ≤ total + 1)
 accepted_first config total n login h = accepted_at config total n login _ _ _ refl refl refl (subst IsAcceptance (sym h) tt) h
 
@@ -146,7 +146,7 @@ module _ (config : ServerConfig) (total : ℕ) where
     is = f.is;
   }
 
-  -- what a client was told in all, by how far it has come
+  -- all bytes for a client, by its progress
   abbrev pub Stands : List Event → ℕ → Progress → List ℕ → Type 0
   Stands past next progress.Waiting bytes = (bytes ≡ []) × (handed_in past ≡ [])
   Stands past next (progress.Refused code) bytes = IsRefusal config total past (progress.Refused code) bytes
@@ -168,7 +168,7 @@ module _ (config : ServerConfig) (total : ℕ) where
   new_sound : (begun : ℕ) → IsSound [] (new_player config total begun)
   new_sound begun = record { config_is = refl; total_is = refl; fresh = λ b. refl; stands = (refl, refl) }
 
-  -- what has come as far, with the same number, is in no earlier stage, and was told the same
+  -- a client with the same progress and number, in no earlier stage, has the same bytes
   kept : (e : Event) (past : List Event) (p q : Player) → q.session.config ≡ p.session.config → q.session.total ≡ p.session.total
       → (IsBefore q.session.connection.stage → IsBefore p.session.connection.stage) → q.progress ≡ p.progress → q.next ≡ p.next
       → sent_bytes (e ∷ past) ++ q.outbox ≡ sent_bytes past ++ p.outbox → handed_in (e ∷ past) ≡ handed_in past → IsSound past p → IsSound (e ∷ past) q
@@ -182,7 +182,7 @@ module _ (config : ServerConfig) (total : ℕ) where
         (stands_before e past p.next p.progress (sent_bytes past ++ p.outbox) handed_same s.stands)));
   }
 
-  -- the same where nothing is sent, handed in or told
+  -- the same if nothing is sent, passed in or queued
   idle : (e : Event) (past : List Event) (p q : Player) → sent_by e.happening e.before ≡ [] → handed_by e.happening ≡ [] → q.session.config ≡ p.session.config
       → q.session.total ≡ p.session.total → (IsBefore q.session.connection.stage → IsBefore p.session.connection.stage) → q.progress ≡ p.progress → q.next ≡ p.next
       → q.outbox ≡ p.outbox → IsSound past p → IsSound (e ∷ past) q
@@ -198,7 +198,7 @@ module _ (config : ServerConfig) (total : ℕ) where
   abbrev pub after : List Event → Player → Happening → List Event
   after past p happening = record { before = p; happening = happening } ∷ past
 
-  -- a client that is waiting for its login was told nothing
+  -- a client whose login is awaited was sent nothing
   pub untold : (past : List Event) (p : Player) → IsSound past p → IsBefore p.session.connection.stage → (sent_bytes past ≡ []) × (handed_in past ≡ [])
   untold past p s before =
       let none = subst (λ at. Stands past p.next at (sent_bytes past ++ p.outbox)) (s.fresh before) s.stands in
@@ -207,7 +207,7 @@ module _ (config : ServerConfig) (total : ℕ) where
         first_nil [] b h = refl
         first_nil (x ∷ a) b h = absurd (cc)
 
-  -- a packet is heard
+  -- a packet arrives
   heard_by : (past : List Event) (p : Player) (piece : List ℕ) (now n : ℕ) (packet : Packet) (a : ServerAct) → server_answer p.session packet ≡ a
       → ((login : LoginRequest) → login_in packet ≡ Some login → Came (after past p (Hears piece now n)) login) → IsSound past p
       → IsSound (after past p (Hears piece now n)) (heard p (server_after_packet p.session packet now) a now)
@@ -280,7 +280,7 @@ module _ (config : ServerConfig) (total : ℕ) where
   hears past p q piece now n (inr (listens, (held, takes, inr (none, is)))) s =
       subst (λ x. IsSound (after past p (Hears piece now n)) x) (sym is) (idle _ past p _ refl refl refl refl (λ b. b) refl refl refl s)
 
-  -- what a client that plays was told
+  -- the bytes for a client that is sent its feed
   feed_of : (past : List Event) (p : Player) → IsSound past p → (playing : IsPlayed p.progress)
       → IsFeed config total past p.next (progress.Playing playing.0) (sent_bytes past ++ p.outbox)
   feed_of past p s playing = subst (λ at. Stands past p.next at (sent_bytes past ++ p.outbox)) playing.1 s.stands

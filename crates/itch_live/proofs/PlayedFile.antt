@@ -14,7 +14,7 @@ use Rattle.itch_live.proofs.Logins.{IsBefore, IsDecision, decides}
 use Rattle.itch_live.proofs.Recorded.{between_more, between_none}
 use Rattle.itch_live.proofs.Played.{wants, IsSound, sound, untold, told_right}
 
--- the number of the next message stays, or a login is decided on
+-- the number of the next message does not change, or a login is judged
 abbrev pub Goes : Player → Player → Type 0
 Goes p q = (q.next ≡ p.next) ⊎ IsBefore p.session.connection.stage
 
@@ -39,12 +39,12 @@ same_next : (b : Bool) (p q : Player) (n : ℕ) → p.next ≡ n → q.next ≡ 
 same_next true p q n one other = one
 same_next false p q n one other = other
 
--- what was handed in is the file's, from one number up to the one before the next
+-- the messages passed in are the file's, from one number up to the one before the next
 abbrev pub FromFile : List (List ℕ) → List Event → Player → Type 0
 FromFile file past p = (first : ℕ) → p.next ≡ first + length (handed_in past) → 0 < first → handed_in past ≡ between first p.next file
 
 module _ (config : ServerConfig) (total : ℕ) (file : List (List ℕ)) where
-  -- nothing is handed in
+  -- nothing is passed in
   stays : (past : List Event) (p q : Player) → q.next ≡ p.next → FromFile file past p
       → (first : ℕ) → q.next ≡ first + length (handed_in past ++ []) → 0 < first → handed_in past ++ [] ≡ between first q.next file
   stays past p q same goes first counted low =

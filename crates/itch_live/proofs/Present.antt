@@ -1,4 +1,4 @@
--- A snapshot that is kept under the number of the present market is that market's.
+-- A snapshot that is kept under the number of the current market is the snapshot of that market.
 use Rattle.std.proofs.Common.{◌≡◌, ℕ, ◌≤◌, Bool, true, false, if◌then◌else◌, List, [], ◌∷◌, ◌++◌, map, take, drop, Option, None, Some, Ok, Err, refl, sym, ap, ◌∙◌, subst, arith, suc}
 use Rattle.std.specs.Option.{option_or}
 use Rattle.std.proofs.lemmas.Bool.{eqb-true}
@@ -16,7 +16,7 @@ use Rattle.itch_live.proofs.Seated.{Holds, one_guest, set_holds, all_tick, all_a
 no_bytes : {bytes : List ℕ} → None ≡ Some bytes → ⊥
 no_bytes {bytes} h = cc
 
--- the snapshot of this number is of no later market than the present one, and the present one's if it has the same number
+-- the snapshot with this number is not of a later market than the current one, and is of the current one if the numbers are equal
 pub record IsOf (o : Option Position) (told : Option (List ℕ)) (number : ℕ) : Type 0 where
   pub position : Position
   pub is : o ≡ Some position
@@ -50,7 +50,7 @@ later o p advances g fits number there =
           let still : a.position ≡ f.position = a.still (sym at ∙ h) in
           f.same at ∙ ap (λ (i : Position). Some (session_bytes i.market i.next)) (sym still)
 
--- whose the bytes kept of a number are
+-- the position of the kept bytes with a number
 pub record KeptFor (seats : Seats) (number : ℕ) (bytes : List ℕ) : Type 0 where
   pub place : ℕ
   pub guest : Guest
@@ -82,7 +82,7 @@ kept_for (Some g ∷ seats) number bytes there = by_shot (λ found. kept_for sea
       let both = shot_is g.snapshot g.told number shot (is_at g.snapshot number) refl is in
       record { place = 0; guest = g; there = refl; number_is = both.0; told_is = both.1 ∙ found }
 
--- what is handed in is the present market's snapshot
+-- an answer contains the snapshot of the current market
 pub right_shot : (limit : ℕ) (seats : Seats) (j : Position) (bytes : List ℕ) → AreFitting (Some j) seats → shot_for limit seats j.market j.next ≡ Some bytes
     → bytes ≡ session_bytes j.market j.next
 right_shot limit seats j bytes all is = by_kept (kept_bytes seats j.next) refl is where
@@ -106,7 +106,7 @@ right_shot limit seats j bytes all is = by_kept (kept_bytes seats j.next) refl i
         one_position {i} same = cc
 
 module _ {W : Type 0} (contents : W → Option (List ℕ)) (failures : W → Failures) where
-  -- each snapshot that is kept fits the present market
+  -- each kept snapshot fits the current market
   abbrev pub DeskFits : Desk → Type 0
   DeskFits d = AreFitting d.following.joining.state.joined d.seats
 

@@ -1,4 +1,4 @@
--- What is recorded of a feed.
+-- The record of a feed.
 use Rattle.std.proofs.Common.{◌≡◌, ℕ, ◌+◌, ◌-◌, ◌<◌, ◌≤◌, Bool, true, false, cond, List, [], ◌∷◌, ◌++◌, length, take, drop, Option, None, Some, Result, Ok, Err, refl, sym, ap, subst, ◌∙◌, inl, inr, ◌⊎◌, arith, append-nil, slice_get, get_or, length-drop, not, nat_lt, eqb}
 use Rattle.std.specs.List.{AllByRecursion}
 use Rattle.std.specs.Ordering.{nat_cmp}
@@ -39,7 +39,7 @@ use Rattle.itch_live.specs.Feeds.{Did, Connects, Ticks, Replays, Hears, FitsAct,
 use Rattle.itch_live.specs.Records.{IsWritten, IsOneRecord, joined_in, joined_by, first_recorded, between, RecordsUpTo, IsRecord}
 use Rattle.itch_live.proofs.Feeds.{joining, stands_joined, positive_next}
 
--- where nothing waits, no message is at hand
+-- if nothing waits, no waiting message has this number
 no_wait : (w : Wait) (i : ℕ) → map.len w ≤ 0 → map.get w i ≡ None
 no_wait w i low =
     let none : map.len w ≡ 0 = omega arith in
@@ -63,12 +63,12 @@ abbrev pub IsApplied : Result Live JoinFault → Type 0
 IsApplied (Ok (live.Applied next)) = Unit {0}
 IsApplied other = ⊥
 
--- a delivery that leaves the market as it was, and was not applied
+-- a delivery that does not change the market, and was not applied
 pub record Stays (o o' : Option Position) (result : Result Live JoinFault) : Type 0 where
   pub same : o' ≡ o
   pub unapplied : IsApplied result → ⊥
 
--- a delivery of the next message, which alone was applied
+-- a delivery of the next message, the only one that was applied
 pub record Moves (o o' : Option Position) (number : ℕ) (result : Result Live JoinFault) : Type 0 where
   pub was : Position
   pub was_is : o ≡ Some was
@@ -79,7 +79,7 @@ pub record Moves (o o' : Option Position) (number : ℕ) (result : Result Live J
   pub next : now.next ≡ was.next + 1
   pub applied : result ≡ Ok (live.Applied now.next)
 
--- a message of a snapshot that is the End of Snapshot, and at whose number the joiner joins
+-- a message of a snapshot that is the End of Snapshot, at whose number the joiner joins
 pub record Joins (o o' : Option Position) (result : Result Snap JoinFault) : Type 0 where
   pub apart : o ≡ None
   pub now : Position
@@ -91,7 +91,7 @@ abbrev pub IsJoined : Result Snap JoinFault → Type 0
 IsJoined (Ok (snap.Joined next)) = Unit {0}
 IsJoined other = ⊥
 
--- one that leaves the position as it was
+-- a message of a snapshot that does not change the position
 pub record Rests (o o' : Option Position) (result : Result Snap JoinFault) : Type 0 where
   pub same : o' ≡ o
   pub unjoined : IsJoined result → ⊥
@@ -178,7 +178,7 @@ module _ (R : Rules) where
   snapshot_moves feed s now payload (Err fault) (SnapTakes taken m) low is fits (memory, takes, same) =
       inl (record { same = ap (λ (t : State). t.joined) same; unjoined = λ joined. joined })
 
--- the first message recorded ------------------------------------------------------------
+-- the first recorded message -------------------------------------------------------
 
 or_else_none : (o r : Option ℕ) → r ≡ None → or_else o r ≡ o
 or_else_none None r h = h
@@ -197,7 +197,7 @@ module _ {W : Type 0} where
   first_joined None did past n h joins = ap (λ x. or_else x (joined_by did)) h ∙ joins
   first_joined (Some j) did past n h joins = absurd (cc)
 
--- one message more
+-- one more message
 pub between_more : (number next : ℕ) (feed : List (List ℕ)) (p : List ℕ) → 0 < number → number ≤ next → slice_get feed (next - 1) ≡ Some p → between number (next + 1) feed ≡ between number next feed ++ p ∷ []
 between_more number next feed p some low there =
     let within = slice_get_within feed (next - 1) p there in
@@ -215,7 +215,7 @@ appends_nothing : (o : Option (List ℕ)) → Appends o o []
 appends_nothing None = tt
 appends_nothing (Some xs) = sym (append-nil xs)
 
--- what was not applied is not recorded
+-- a message that was not applied is not recorded
 unrecorded : {W : Type 0} (contents : W → Option (List ℕ)) (failures : W → Failures) (payload : List ℕ) (result : Result Live JoinFault) (old new : W) (told : News) → (IsApplied result → ⊥)
     → Records contents failures payload result old told new → (joined_in told ≡ None) × (new ≡ old)
 unrecorded contents failures payload (Ok (live.Applied next)) old new told none records = absurd (none tt)
@@ -223,7 +223,7 @@ unrecorded contents failures payload (Ok live.Kept) old new told none (is, same)
 unrecorded contents failures payload (Ok live.Old) old new told none (is, same) = (ap joined_in is, same)
 unrecorded contents failures payload (Err fault) old new told none (is, same) = (ap joined_in is, same)
 
--- what was applied is recorded
+-- a message that was applied is recorded
 recorded : {W : Type 0} (contents : W → Option (List ℕ)) (failures : W → Failures) (payload : List ℕ) (result : Result Live JoinFault) (next : ℕ) (old new : W) (told : News) → result ≡ Ok (live.Applied next)
     → Records contents failures payload result old told new → IsWritten told → (joined_in told ≡ None) × Appends (contents old) (contents new) (block payload)
 recorded contents failures payload result next old new told is records written =
@@ -251,7 +251,7 @@ module _ {W : Type 0} (contents : W → Option (List ℕ)) (failures : W → Fai
   step_of f joining call calls j =
       subst (λ c. Step R c f.joining.state call joining.state) j.cap_is (subst (λ s. Step (rules_of (has s)) f.joining.cap f.joining.state call joining.state) j.set_is calls.0)
 
-  -- nothing is recorded, and the position stays
+  -- nothing is recorded, and the position does not change
   unchanged : (past : List (Did W)) (did : Did W) (f g : Following) (old new : W) → joined_by did ≡ None → new ≡ old → g.joining.state.joined ≡ f.joining.state.joined → Kept past f old → Kept (did ∷ past) g new
   unchanged past did f g old new none same stays k =
       subst (λ o. RecordsUpTo contents feed (first_recorded begun.joining.state.joined (did ∷ past)) first_record new o) (sym stays)
@@ -272,7 +272,7 @@ module _ {W : Type 0} (contents : W → Option (List ℕ)) (failures : W → Fai
             (Appends-same (contents first_record) (contents old) [] (blocks (between now.next now.next feed)) (ap blocks (sym (between_none now.next feed))) before.1),
       )
 
-  -- the next message is applied, and recorded
+  -- the next message is applied and recorded
   moves : (past : List (Did W)) (did : Did W) (f g : Following) (old new : W) (payload : List ℕ) (was now : Position) → joined_by did ≡ None → f.joining.state.joined ≡ Some was
       → g.joining.state.joined ≡ Some now → now.next ≡ was.next + 1 → slice_get feed (was.next - 1) ≡ Some payload → Appends (contents old) (contents new) (block payload) → Kept past f old
       → Kept (did ∷ past) g new
@@ -334,7 +334,7 @@ module _ {W : Type 0} (contents : W → Option (List ℕ)) (failures : W → Fai
   heard past piece now result old new f g (held, took, inr (none, said, same, is)) honest j written k =
       unchanged past (Hears piece now result old new) f g old new (ap joined_in said) same (ap (λ x. x.joining.state.joined) is) k
 
-  -- where the calls began
+  -- the record when the calls began
   began : (o : Option Position) → ((j : Position) → o ≡ Some j → 0 < j.next) → RecordsUpTo contents feed (first_recorded {W = W} o []) first_record first_record o
   began None positive = (refl, appends_nothing (contents first_record))
   began (Some j) positive =

@@ -25,7 +25,7 @@ use Rattle.itch_live.specs.Desks as desks
 use Rattle.itch_live.specs.Desks.{Desk, shot_for, with_shot, answered_with, Call, Event, History}
 use Rattle.itch_live.specs.FeedDesks.{GoesOn}
 
--- what holds of the position then: it is of no fewer messages, and the same one if it is of as many
+-- the position then: it has no fewer messages, and is the same one if it has equally many
 pub record Advanced (was : Position) (o : Option Position) : Type 0 where
   pub position : Position
   pub is : o ≡ Some position

@@ -1,4 +1,4 @@
--- No call adds a place to a desk, or takes one away.
+-- No call adds a place to a desk, or removes one.
 use Rattle.std.proofs.Common.{◌≡◌, ℕ, ◌++◌, List, [], ◌∷◌, length, map, take, drop, Option, None, Some, Ok, Err, refl, ap, ◌∙◌, arith, length-append, length-drop}
 use Rattle.std.proofs.lemmas.List.{length-set, length-map, length-take}
 use Rattle.itch_frame.specs.declared.tally.Failures.{Failures}

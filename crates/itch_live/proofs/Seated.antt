@@ -1,4 +1,4 @@
--- What stays true of each client and the snapshot that it is sent, over every call of a desk.
+-- The invariant of each client and its snapshot, over every call of a desk.
 use Rattle.std.proofs.Common.{◌≡◌, ℕ, ◌==◌, nat_lt, nat_le, ◌&&◌, ◌||◌, ◌-◌, ◌+◌, Bool, true, false, cond, if◌then◌else◌, List, [], ◌∷◌, ◌++◌, length, map, take, drop, Option, None, Some, option_map, refl, sym, ◌∙◌, subst, ◌⊎◌, inl, inr, set}
 use Rattle.itch_soup.specs.declared.packet.LoginRequest.{LoginRequest}
 use Rattle.itch_soup.specs.declared.server.ServerAct.{ServerAct}
@@ -10,7 +10,7 @@ use Rattle.itch_live.specs.Guests.{Guest, is_waiting, login_in, after_act, moved
 use Rattle.itch_live.specs.Seats.{Seats, guest_at, HearsBy, took_by, answered_seat, ticked_seat}
 use Rattle.itch_live.proofs.Places.{at_mapped, at_first, no_guest, set_cases}
 
--- P is true of the snapshot's number and of what the client is told
+-- P holds of the snapshot's number and bytes of a client
 abbrev pub Holds : (P : Option ℕ → Option (List ℕ) → Type 0) → Guest → Type 0
 Holds P g = P g.snapshot g.told
 
@@ -20,7 +20,7 @@ AllHold P seats = (k : ℕ) (g : Guest) → guest_at seats k ≡ Some g → Hold
 pub one_guest : {g h : Guest} → Some g ≡ Some h → g ≡ h
 one_guest {g} {h} same = cc
 
--- where it is true of one that is sent no snapshot, it stays true
+-- if P holds of clients without a snapshot, it continues to hold
 module _ (P : Option ℕ → Option (List ℕ) → Type 0) (none : (told : Option (List ℕ)) → P None told) where
   by_act : (a : ServerAct) (login : Option LoginRequest) (now : ℕ) (g : Guest) → Holds P g → Holds P (after_act a login now g)
   by_act (act.Accept n) login now g holds = holds

@@ -1,4 +1,4 @@
--- What a packet of a feed brings, where its connection may be another session's.
+-- The outcome of a packet of a feed whose connection may belong to another session.
 use Rattle.std.proofs.Common.{◌≡◌, ℕ, not, List, [], Option, None, Some, is_some, refl, sym, ap, subst, ◌∙◌, inl, inr, if◌then◌else◌}
 use Rattle.std.specs.Option.{option_or}
 use Rattle.itch_frame.specs.Blocks.{IsBlockOf}
@@ -16,7 +16,7 @@ use Rattle.itch_live.specs.declared.sessions.Sessions.{Sessions}
 use Rattle.itch_live.specs.Sessions.{expected, other_name, known_after}
 use Rattle.itch_live.specs.Follows.{Following, Means, ActsOn, HearsPacket, HearsFeed, accepted_as, news_or, shut_if}
 
--- what names no session names no other one
+-- a packet that names no session does not name another one
 pub unnamed : (wanted : Option (List ℕ)) → other_name wanted None ≡ None
 unnamed (Some session) = refl
 unnamed None = refl
@@ -24,7 +24,7 @@ unnamed None = refl
 absurd_other : {A : Type 0} (wanted : Option (List ℕ)) (other : List ℕ) → other_name wanted None ≡ Some other → A
 absurd_other wanted other is = let e = sym (unnamed wanted) ∙ is in absurd (cc)
 
--- the feed's session stays as it is where no session is named, or another one than this
+-- the feed's session does not change if no session is named, or one that does not count
 or_none : (feed : Option (List ℕ)) → option_or feed None ≡ feed
 or_none (Some session) = refl
 or_none None = refl
@@ -51,7 +51,7 @@ known_same known source.Glimpse named other is = by_own known.glimpse is where
   by_own (Some session) is = refl
 
 module _ {W : Type 0} (contents : W → Option (List ℕ)) (failures : W → Failures) where
-  -- an acceptance in another name takes nothing
+  -- an acceptance under another name has no effect on the joiner and the record
   nothing_taken : (wanted named : Option (List ℕ)) (from : Source) (answer : ClientAct) (other : List ℕ) (old new : Joining) (record_old record_new : W) (told : News)
       → other_name wanted (accepted_as answer named) ≡ Some other → ActsOn contents failures from answer old record_old told record_new new → (record_new ≡ record_old) × (new ≡ old)
   nothing_taken wanted named from (act.Accepted next) other old new record_old record_new told is acts = (acts.1, acts.2)
@@ -74,7 +74,7 @@ module _ {W : Type 0} (contents : W → Option (List ℕ)) (failures : W → Fai
       let news_is : told ≡ result.0 = sym (ap (λ (r : News × Sessions). r.0) result_is) in
       (answer, named, heard, means, inr (is, t_is, (subst (λ n. ActsOn contents failures from answer old record_old n record_new new) news_is acts, ap (λ (r : News × Sessions). r.1) result_is)))
 
-  -- a whole packet is heard, and what was held of it is dropped
+  -- a complete packet arrives, and its held bytes are dropped
   pub hears_whole : (inside f : Following) (piece held payload dropped : List ℕ) (now n : ℕ) (told : News) (known : Sessions) (session : Client) (joining : Joining) (record_old record_new : W)
       → inside ≡ f → IsTake inside.held piece n held → IsBlockOf payload held
       → HearsPacket contents failures inside.source inside.sessions inside.session inside.joining payload now record_old (told, known) record_new session joining → dropped ≡ []

@@ -1,4 +1,4 @@
--- What stays true of a client, and of what was sent to it.
+-- The invariant of a client and of the bytes sent to it.
 use Rattle.std.proofs.Common.{◌≡◌, ℕ, ◌+◌, ◌≤◌, Bool, true, false, List, [], ◌++◌, length, take, drop, Option, None, Some, refl, sym, ap, subst, ◌∙◌, inl, inr, arith, append-nil, if◌then◌else◌, is_some, ◌&&◌, not, nat_lt, nat_le, ◌||◌, ◌==◌, ◌-◌, suc, ◌∷◌}
 use Rattle.std.proofs.Math.Seq.{take-nil, drop-nil}
 use Rattle.std.proofs.lemmas.List.{append_assoc, take-append-drop, drop-drop}
@@ -18,24 +18,24 @@ use Rattle.itch_live.specs.Guests.{Guest, welcome, heartbeat, with_heartbeat, se
 use Rattle.itch_live.specs.Stories.{Happening, Hears, Answers, Takes, Ticks, Leaves, Becomes, sent_by, IsLogin, greeting}
 use Rattle.itch_live.proofs.Logins.{IsBefore, IsAcceptance, IsDecision, decides, stays_past, accepts_first}
 
--- what may be told: the rejection of a login by this code, the acceptance of one, and the snapshot that answers it
+-- the kinds of answers: the rejection of a login with this code, the acceptance of a login, and the snapshot that answers it
 pub data Kind : Type 0 where
   Refused : (code : ℕ) → Kind
   Greeted : Kind
   Answered : (bytes : List ℕ) → Kind
 
--- all that is told so far to one that asked, was rejected, or is answered so
+-- all bytes so far for a client with this login, rejection and answer
 abbrev pub IsWhole : ServerConfig → (Kind → Type 0) → Option LoginRequest → Option ℕ → Option (List ℕ) → List ℕ → Type 0
 IsWhole config P None None told bytes = bytes ≡ []
 IsWhole config P None (Some code) told bytes = P (Refused code) × (bytes ≡ refusal code)
 IsWhole config P (Some login) rejection None bytes = (beats : ℕ) × P Greeted × (bytes ≡ greeting config beats)
 IsWhole config P (Some login) rejection (Some rest) bytes = (beats : ℕ) × P (Answered rest) × (bytes ≡ greeting config beats ++ rest)
 
--- what is still to be sent, were it not gone
+-- the bytes still to be sent, if the client is not gone
 abbrev pub rest_of : Guest → List ℕ
 rest_of g = g.notes ++ drop g.taken (bytes_of g.told)
 
--- a client to whom these bytes were sent, where P is true of what it is told
+-- a client that was sent these bytes, where P holds of each kind of answer
 pub record IsSound (config : ServerConfig) (P : Kind → Type 0) (so_far : List ℕ) (g : Guest) : Type 0 where
   pub config_is : g.session.config ≡ config
   pub total_is : g.session.total ≡ 0
@@ -101,7 +101,7 @@ either config P so_far false g h s t = t refl
 at_config : (c config : ServerConfig) (t : ℕ) (login : LoginRequest) (a : ServerAct) → c ≡ config → t ≡ 0 → (judged c t login).0 ≡ a → (judged config 0 login).0 ≡ a
 at_config c config t login a e f h = subst (λ x. (judged x 0 login).0 ≡ a) e (subst (λ y. (judged c y login).0 ≡ a) f h)
 
--- to one that has not asked, and is not rejected, nothing was told
+-- a client that has not logged in and was not rejected was sent nothing
 none_told : (config : ServerConfig) (P : Kind → Type 0) (asked : Option LoginRequest) (rejection : Option ℕ) (told : Option (List ℕ)) (bytes : List ℕ) → asked ≡ None → rejection ≡ None
     → IsWhole config P asked rejection told bytes → bytes ≡ []
 none_told config P None None told bytes a r is = is
@@ -113,7 +113,7 @@ empty_front [] ys h = refl
 empty_front (x ∷ xs) ys h = absurd (cc)
 
 module _ (config : ServerConfig) (P : Kind → Type 0) (so_far : List ℕ) (g : Guest) where
-  -- what asks and is told the same, and is in no earlier stage
+  -- a client with the same login and answers, in no earlier stage
   kept : (h : Guest) → h.session.config ≡ g.session.config → h.session.total ≡ g.session.total → (IsBefore h.session.connection.stage → IsBefore g.session.connection.stage)
       → h.asked ≡ g.asked → h.rejection ≡ g.rejection → h.told ≡ g.told → h.taken ≡ g.taken → h.notes ≡ g.notes → IsSound config P so_far g → IsSound config P so_far h
   kept h config_same total_same stage_same asked_same rejection_same told_same taken_same notes_same s =
@@ -133,11 +133,11 @@ module _ (config : ServerConfig) (P : Kind → Type 0) (so_far : List ℕ) (g : 
             (subst (λ r. IsWhole config P g.asked g.rejection g.told (so_far ++ r)) rest_same s.whole)));
       }
 
-  -- a change of what is held, of the moments, or of why it is gone
+  -- a change of the held bytes, of the times, or of the reason why it is gone
   idle : (held : List ℕ) (gone : Option Gone) (moved marked : ℕ) → IsSound config P so_far g → IsSound config P so_far (record g { held = held; gone = gone; moved = moved; marked = marked })
   idle held gone moved marked s = kept (record g { held = held; gone = gone; moved = moved; marked = marked }) refl refl (λ b. b) refl refl refl refl refl s
 
--- notes for one to whom nothing was told: then these are all
+-- a packet for a client that was sent nothing before: it is everything then
 noted : (config : ServerConfig) (P : Kind → Type 0) (so_far notes : List ℕ) (g : Guest) → g.asked ≡ None → g.rejection ≡ None → IsSound config P so_far g
     → so_far ++ (notes ++ drop g.taken (bytes_of g.told)) ≡ notes
 noted config P so_far notes g unasked unrejected s =
@@ -145,7 +145,7 @@ noted config P so_far notes g unasked unrejected s =
     let untold : drop g.taken (bytes_of g.told) ≡ [] = ap (λ o. drop g.taken (bytes_of o)) (s.fresh unasked) ∙ drop-nil {A = ℕ} g.taken in
     ap (λ xs. xs ++ (notes ++ drop g.taken (bytes_of g.told))) none ∙ ap (λ xs. notes ++ xs) untold ∙ append-nil notes
 
--- the acceptance of one that has asked now, and nothing was told
+-- the acceptance of a client that logs in now, and was sent nothing before
 greets : (config : ServerConfig) (P : Kind → Type 0) (asked : Option LoginRequest) (login : LoginRequest) (rejection : Option ℕ) (told : Option (List ℕ)) (bytes : List ℕ) → asked ≡ Some login → told ≡ None
     → P Greeted → bytes ≡ welcome config 1 → IsWhole config P asked rejection told bytes
 greets config P None login rejection told bytes is untold may all = absurd (none_some is)
@@ -155,7 +155,7 @@ greets config P (Some other) login rejection None bytes is untold may all = (0, 
 one_number : {n k : ℕ} → act.Accept n ≡ act.Accept k → n ≡ k
 one_number {n} {k} same = cc
 
--- a packet
+-- a packet arrives
 heard_by : (config : ServerConfig) (P : Kind → Type 0) (so_far : List ℕ) (g : Guest) (packet : Packet) (now moved : ℕ) (a : ServerAct) → server_answer g.session packet ≡ a
     → ((login : LoginRequest) (code : ℕ) → login_in packet ≡ Some login → (judged config 0 login).0 ≡ act.Reject code → P (Refused code))
     → ((login : LoginRequest) → login_in packet ≡ Some login → (judged config 0 login).0 ≡ act.Accept 1 → P Greeted) → IsSound config P so_far g
@@ -196,7 +196,7 @@ heard_by config P so_far g packet now moved act.Nothing is refused greeted s = k
 heard_by config P so_far g packet now moved act.Close is refused greeted s = kept config P so_far g _ refl refl (stays_past _ _ _ packet) refl refl refl refl refl s
 heard_by config P so_far g packet now moved (act.Fault fault) is refused greeted s = kept config P so_far g _ refl refl (stays_past _ _ _ packet) refl refl refl refl refl s
 
--- a client that waits has asked, and is told nothing yet
+-- a waiting client has logged in, and has no snapshot yet
 abbrev pub IsYes : Bool → Type 0
 IsYes true = Unit {0}
 IsYes false = ⊥
@@ -260,7 +260,7 @@ beaten config P so_far g now none waiting s =
           s.whole;
     }
 
--- what the socket takes is what was the next to be sent
+-- the socket accepts the bytes that were next
 moves : (config : ServerConfig) (P : Kind → Type 0) (so_far more notes : List ℕ) (g : Guest) (taken moved marked : ℕ) → (g.told ≡ None → taken ≡ 0)
     → more ++ (notes ++ drop taken (bytes_of g.told)) ≡ rest_of g → IsSound config P so_far g → IsSound config P (so_far ++ more) (record g { notes = notes; taken = taken; moved = moved; marked = marked })
 moves config P so_far more notes g taken moved marked none goes s = record {
@@ -281,7 +281,7 @@ none_at told taken count false untold none fits =
     let short : count ≤ length {A = ℕ} [] = subst (λ xs. count ≤ length xs) nothing fits in
     omega (arith, none, short)
 
--- of the snapshot
+-- bytes of the snapshot
 goes_on : (bytes : List ℕ) (taken count : ℕ) (gone : Bool) → count ≤ length (if gone then [] else drop taken bytes)
     → take count (if gone then [] else drop taken bytes) ++ drop (taken + count) bytes ≡ drop taken bytes
 goes_on bytes taken count true fits =
@@ -291,7 +291,7 @@ goes_on bytes taken count true fits =
 goes_on bytes taken count false fits =
     ap (λ xs. take count (drop taken bytes) ++ xs) (sym (drop-drop count taken bytes)) ∙ take-append-drop count (drop taken bytes)
 
--- of the notes
+-- bytes of the waiting packet
 notes_go : (notes rest : List ℕ) (count : ℕ) (gone : Bool) → count ≤ length (if gone then [] else notes)
     → take count (if gone then [] else notes) ++ (drop count notes ++ rest) ≡ notes ++ rest
 notes_go notes rest count true fits =
@@ -322,12 +322,12 @@ took_by config P so_far g count now (b ∷ notes) some fits s =
 nothing_more : (config : ServerConfig) (P : Kind → Type 0) (so_far : List ℕ) (g : Guest) → IsSound config P so_far g → IsSound config P (so_far ++ []) g
 nothing_more config P so_far g s = subst (λ all. IsSound config P all g) (sym (append-nil so_far)) s
 
--- what is handed in may be told
+-- the snapshot that is passed in is permitted
 abbrev pub Permits : ServerConfig → (Kind → Type 0) → Guest → Happening → Type 0
 Permits config P g (Answers m next now) = (login : LoginRequest) → g.asked ≡ Some login → (judged config 0 login).0 ≡ act.Accept 1 → P (Answered (session_bytes m next))
 Permits config P g other = Unit {0}
 
--- what is rejected may be told, and what is accepted
+-- a rejection is permitted, and so is an acceptance
 abbrev pub Rejects : ServerConfig → (Kind → Type 0) → Guest → Happening → Type 0
 Rejects config P g (Hears piece now count) = (login : LoginRequest) (code : ℕ) → IsLogin g.held piece count login → (judged config 0 login).0 ≡ act.Reject code → P (Refused code)
 Rejects config P g other = Unit {0}
@@ -336,7 +336,7 @@ abbrev pub Greets : ServerConfig → (Kind → Type 0) → Guest → Happening �
 Greets config P g (Hears piece now count) = (login : LoginRequest) → IsLogin g.held piece count login → (judged config 0 login).0 ≡ act.Accept 1 → P Greeted
 Greets config P g other = Unit {0}
 
--- the packet that a login is
+-- the packet of a login
 pub login_packet : (packet : Packet) (login : LoginRequest) → login_in packet ≡ Some login → packet ≡ is.LoginRequest login
 login_packet (is.Debug text) login h = absurd (none_some h)
 login_packet (is.LoginAccepted accepted) login h = absurd (none_some h)

@@ -1,4 +1,4 @@
--- What a client is sent.
+-- The bytes sent to a client.
 use Rattle.std.proofs.Common.{ℕ, List, [], ◌∷◌, ◌++◌, Option, None, Some, refl, sym, ap, subst, inl, inr}
 use Rattle.itch_soup.specs.declared.login.ServerConfig.{ServerConfig}
 use Rattle.itch_soup.specs.declared.packet.LoginRequest.{LoginRequest}
@@ -6,7 +6,7 @@ use Rattle.itch_live.specs.Guests.{Guest, refusal}
 use Rattle.itch_live.specs.Stories.{Happening, Hears, Answers, Takes, Ticks, Leaves, Story, IsAnswer, IsRefusal, IsWelcome, IsTold, IsSentRight}
 use Rattle.itch_live.proofs.Sound.{Kind, Refused, Greeted, Answered, IsWhole, rest_of, IsSound, Permits, Rejects, Greets, new_sound, weaken, step}
 
--- what a client may be told
+-- the bytes that may be sent to a client
 abbrev pub MayBeTold : ServerConfig → ℕ → List Happening → Kind → Type 0
 MayBeTold config begun past (Refused code) = IsRefusal config begun past (refusal code)
 MayBeTold config begun past Greeted = IsWelcome config begun past
@@ -59,7 +59,7 @@ still_told config begun e past (Answered bytes) a = record {
   is = a.is;
 }
 
--- an answer that is handed in now
+-- an answer that is passed in now
 permitted : (config : ServerConfig) (begun : ℕ) (past : List Happening) (g : Guest) (so_far : List ℕ) (e : Happening) → Story config begun past g so_far
     → Permits config (MayBeTold config begun (e ∷ past)) g e
 permitted config begun past g so_far (Hears piece now n) story = tt

@@ -1,4 +1,4 @@
--- What is counted once for each number of a list.
+-- A sum in which each number of a list counts once.
 use Rattle.std.proofs.Common.{◌≡◌, ℕ, ◌+◌, ◌≤◌, ◌||◌, ◌==◌, Bool, true, false, if◌then◌else◌, List, [], ◌∷◌, map, Option, None, Some, refl, sym, ap, ◌∙◌, arith}
 use Rattle.std.proofs.lemmas.Bool.{eqb-true}
 use Rattle.itch_live.specs.Guests.{is_at}
@@ -31,7 +31,7 @@ in_rest o os n there = ap (λ b. is_at o n || b) there ∙ or_true (is_at o n)
 pub in_first : (n : ℕ) (os : List (Option ℕ)) → is_in (Some n ∷ os) n ≡ true
 in_first n os = ap (λ b. b || is_in os n) (is_at_true n)
 
--- what a number counts that stands before these: nothing, if it is among them
+-- the share of a number before these: nothing, if it is among them
 abbrev pub own : (ℕ → ℕ) → Option ℕ → List (Option ℕ) → ℕ
 own f None os = 0
 own f (Some n) os = if is_in os n then 0 else f n
@@ -41,7 +41,7 @@ abbrev pub total : (ℕ → ℕ) → List (Option ℕ) → ℕ
 total f [] = 0
 total f (o ∷ os) = own f o os + total f os
 
--- only the numbers that are there matter
+-- only the numbers in the list matter
 pub total_same : (f g : ℕ → ℕ) (os : List (Option ℕ)) → ((n : ℕ) → is_in os n ≡ true → f n ≡ g n) → total f os ≡ total g os
 total_same f g [] all = refl
 total_same f g (None ∷ os) all = let rest = total_same f g os all in omega (arith, rest)
@@ -58,7 +58,7 @@ without n o = if is_at o n then None else o
 pub without_itself : (n : ℕ) → without n (Some n) ≡ None
 without_itself n = ap (λ b. if b then None else Some n) (is_at_true n)
 
--- the others are still there
+-- the others are still in the list
 other_in : (n m : ℕ) (os : List (Option ℕ)) → (m ≡ n → ⊥) → is_in (map (without n) os) m ≡ is_in os m
 other_in n m [] apart = refl
 other_in n m (None ∷ os) apart = other_in n m os apart
@@ -68,7 +68,7 @@ other_in n m (Some k ∷ os) apart = by_test (k == n) refl (other_in n m os apar
   by_test true same rest = rest ∙ ap (λ b. b || is_in os m) (sym (unequal k m (λ h. apart (sym h ∙ eqb-true k n same))))
   by_test false other rest = ap (λ b. is_at (Some k) m || b) rest
 
--- the count of all numbers is that of the others and, if it is there, of this one
+-- the total is the total of the others, plus the share of this number if it is in the list
 pub split : (f : ℕ → ℕ) (n : ℕ) (os : List (Option ℕ)) → total f os ≡ total f (map (without n) os) + (if is_in os n then f n else 0)
 split f n [] = omega arith
 split f n (None ∷ os) = let rest = split f n os in omega (arith, rest)
@@ -95,7 +95,7 @@ at_most : (b : Bool) (v : ℕ) → (if b then v else 0) ≤ v
 at_most true v = omega arith
 at_most false v = omega arith
 
--- where the others are the same, at most this one counts more
+-- if the others are the same, the total grows by at most the share of this number
 pub one_more : (f : ℕ → ℕ) (n : ℕ) (old new : List (Option ℕ)) → map (without n) new ≡ map (without n) old → total f new ≤ total f old + f n
 one_more f n old new same =
     let before = split f n old in
@@ -104,7 +104,7 @@ one_more f n old new same =
     let most = at_most (is_in new n) (f n) in
     omega (arith, before, after, others, most)
 
--- and none, if it was there
+-- and it does not grow if the number was in the list
 pub none_more : (f : ℕ → ℕ) (n : ℕ) (old new : List (Option ℕ)) → map (without n) new ≡ map (without n) old → is_in old n ≡ true → total f new ≤ total f old
 none_more f n old new same there =
     let before = split f n old ∙ ap (λ b. total f (map (without n) old) + (if b then f n else 0)) there in

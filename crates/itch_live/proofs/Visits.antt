@@ -1,4 +1,4 @@
--- What happens to one client of a desk is what would happen to it alone.
+-- The events of one client of a desk are the same as if it were alone.
 use Rattle.std.proofs.Common.{◌≡◌, ℕ, ◌<◌, ◌≤◌, ◌++◌, ◌==◌, nat_lt, Bool, true, false, cond, if◌then◌else◌, List, [], ◌∷◌, length, take, Option, None, Some, Result, Ok, Err, option_map, refl, sym, ap, ◌∙◌, subst, append-nil, set, ◌&&◌, is_some}
 use Rattle.std.specs.declared.alloc.AllocError.{AllocError}
 use Rattle.std.proofs.Math.Seq.{take-nil}
@@ -18,7 +18,7 @@ use Rattle.itch_live.specs.Visits.{Visit, with, answers, visit_by, visit_at, IsV
 use Rattle.itch_live.proofs.Places.{within, at_mapped, at_first, none_seated}
 use Rattle.itch_live.proofs.Present.{AreFitting, right_shot, all_fit}
 
--- one happening more to the client of a visit
+-- one more event of the client of a visit
 more : (visit : Option Visit) (g h : Guest) (so_far sent : List ℕ) (happening : Happening) → IsVisit visit (Some g) so_far
     → ((config : ServerConfig) → Becomes config g happening h) → sent ≡ so_far ++ stories.sent_by g happening → IsVisit (with happening visit) (Some h) sent
 more None g h so_far sent happening is becomes sends = absurd is
@@ -28,7 +28,7 @@ more (Some v) g h so_far sent happening is becomes sends = (g, so_far, is, becom
 along : (visit : Option Visit) (seat other : Option Guest) (sent : List ℕ) → other ≡ seat → IsVisit visit seat sent → IsVisit visit other sent
 along visit seat other sent same is = subst (λ s. IsVisit visit s sent) (sym same) is
 
--- something that happens to a client, if there is one
+-- an event of a client, if there is one
 happens : (visit : Option Visit) (seat : Option Guest) (f : Guest → Guest) (so_far : List ℕ) (happening : Happening) → IsVisit visit seat so_far
     → ((config : ServerConfig) (g : Guest) → Becomes config g happening (f g)) → ((g : Guest) → stories.sent_by g happening ≡ []) → IsVisit (with happening visit) (option_map f seat) so_far
 happens None None f so_far happening is becomes silent = is
@@ -41,11 +41,11 @@ module _ {W : Type 0} (contents : W → Option (List ℕ)) (failures : W → Fai
   abbrev Stands : Option Visit → Desk → List ℕ → Type 0
   Stands visit d sent = IsVisit visit (guest_at d.seats k) sent
 
-  -- the seats are others, and at this place is the same client
+  -- the seats change, but not the client at this place
   unmoved : (visit : Option Visit) (d e : Desk) (sent : List ℕ) → guest_at e.seats k ≡ guest_at d.seats k → Stands visit d sent → Stands visit e sent
   unmoved visit d e sent same is = along visit (guest_at d.seats k) (guest_at e.seats k) sent same is
 
-  -- a place is another one
+  -- a change at another place
   other_place : (seats : Seats) (place : ℕ) (seat : Option Guest) → (place == k) ≡ false → guest_at (set seats place seat) k ≡ guest_at seats k
   other_place seats place seat is = get_or-set_other seats place k seat None (λ same. eqb-false place k is (sym same))
 
@@ -107,11 +107,11 @@ module _ {W : Type 0} (contents : W → Option (List ℕ)) (failures : W → Fai
       (this_place d.seats place (Some (guests.took g count now)) here (within d.seats place g there))
       (more visit g (guests.took g count now) so_far _ (stories.Takes count now) (along visit (guest_at d.seats k) (Some g) so_far (sym some) is) (λ config. (fits, refl)) refl)
 
-  -- what is handed in is the present market's snapshot
+  -- an answer contains the snapshot of the current market
   abbrev IsRight : Desk → Type 0
   IsRight d = (limit : ℕ) (j : Position) → d.following.joining.state.joined ≡ Some j → (bytes : List ℕ) → shot_for limit d.seats j.market j.next ≡ Some bytes → bytes ≡ session_bytes j.market j.next
 
-  -- an answer, where there is a market
+  -- an answer, if there is a market
   handed : (visit : Option Visit) (d : Desk) (so_far : List ℕ) (limit now count : ℕ) (joined : Option Position) → d.following.joining.state.joined ≡ joined → IsRight d
       → Stands visit d so_far → IsVisit (answers joined d limit (nat_lt k count) now visit) (guest_at (answered_with joined d limit count now).seats k) so_far
   handed visit d so_far limit now count None there right is = is

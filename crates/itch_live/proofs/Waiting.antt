@@ -1,4 +1,4 @@
--- How a wait goes on.
+-- How a client continues to wait.
 use Rattle.std.proofs.Common.{◌≡◌, ℕ, ◌+◌, ◌&&◌, true, false, not, Bool, List, [], ◌∷◌, Option, None, Some, is_some, refl, sym, ap, subst, ◌∙◌, inl, inr, if◌then◌else◌}
 use Rattle.std.specs.Option.{option_or}
 use Rattle.itch_soup.specs.declared.login.ServerConfig.{ServerConfig}
@@ -16,7 +16,7 @@ use Rattle.itch_live.specs.Fairness.{MayBecome}
 use Rattle.itch_live.proofs.Logins.{IsBefore, IsDecision, decides}
 use Rattle.itch_live.proofs.Stories.{sound}
 
--- one that waits has asked, is told nothing yet, and is not gone
+-- a waiting client has logged in, has no snapshot yet, and is not gone
 record Waits (g : Guest) : Type 0 where
   login : LoginRequest
   asked : g.asked ≡ Some login
@@ -35,7 +35,7 @@ waits g h = by_parts g.asked refl g.gone refl h where
 no_login : {login : LoginRequest} → None ≡ Some login → ⊥
 no_login {login} h = cc
 
--- what a packet makes of one that waits
+-- the effect of a packet on a waiting client
 by_act : (g : Guest) (packet : Packet) (now : ℕ) (a : ServerAct) → server_answer g.session packet ≡ a → (IsBefore g.session.connection.stage → g.asked ≡ None) → is_waiting g ≡ true
     → MayBecome g (Hears [] now 0) (after_act a (login_in packet) now (record g { held = []; session = server_after_packet g.session packet now; moved = moved_by_words g now }))
 by_act g packet now (act.Accept n) is unasked h =

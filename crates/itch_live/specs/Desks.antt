@@ -14,7 +14,7 @@ use Rattle.itch_live.specs.Kept.{has_room, kept_bytes}
 use Rattle.itch_live.specs.Follows.{Following}
 use Rattle.itch_live.specs.Feeds.{Did, Does}
 
--- what follows the feed, and the places of clients
+-- the follower of the feed, and the places of clients
 pub record Desk : Type 0 where
   pub following : Following
   pub seats : Seats
@@ -22,19 +22,20 @@ pub record Desk : Type 0 where
 abbrev pub new_desk : Following → ℕ → Desk
 new_desk following places = record { following = following; seats = replicate places None }
 
--- a client is given a free place, where its login will be judged by this configuration, or there is none; where memory is refused nothing changes
+-- a client is given a free place, where its login will be judged by this configuration, or all places are taken; or memory is refused, and
+-- nothing changes
 abbrev pub Accepts : ServerConfig → Desk → ℕ → Result (Option ℕ) AllocError → Desk → Type 0
 Accepts config d now (Ok (Some place)) e =
     IsFree d.seats place × (e ≡ record d { seats = slice_set d.seats place (Some (new_guest config now)) })
 Accepts config d now (Ok None) e = AreTaken d.seats × (e ≡ d)
 Accepts config d now (Err error) e = e ≡ d
 
--- what those who wait are handed at this number: the snapshot of the number that is kept, or else the market's, where there is room for it
+-- the snapshot for the waiting clients at this number: the kept one with this number, or else that of the market, if there is room for it
 abbrev pub shot_for : ℕ → Seats → Content → ℕ → Option (List ℕ)
 shot_for limit seats market next =
     option_or (kept_bytes seats next) (if has_room limit seats market then Some (session_bytes market next) else None)
 
--- those at the first `count` places are handed it
+-- the waiting clients at the first `count` places receive this snapshot, if there is one
 abbrev pub with_shot : Option (List ℕ) → Desk → ℕ → ℕ → ℕ → Desk
 with_shot shot d next count now = record d { seats = seating.handed shot next now count d.seats }
 
@@ -42,11 +43,11 @@ abbrev pub answered_with : Option Position → Desk → ℕ → ℕ → ℕ → 
 answered_with None d limit count now = d
 answered_with (Some j) d limit count now = with_shot (shot_for limit d.seats j.market j.next) d j.next count now
 
--- those who wait at the first `count` places are answered, once there is a market, if the snapshots may have `limit` bytes
+-- the waiting clients at the first `count` places are answered, if there is a market, with a limit of `limit` bytes for all snapshots
 abbrev pub answered : Desk → ℕ → ℕ → ℕ → Desk
 answered d limit count now = answered_with d.following.joining.state.joined d limit count now
 
--- a call, with its result; of an answer, how many bytes the snapshots may have, and at how many places it was handed in
+-- a call, with its result; an answer has the limit of the snapshots in bytes, and the number of places that it reached
 pub data Call (W : Type 0) : Type 0 where
   Feeds : (did : Did W) → Call W
   Admits : (config : ServerConfig) (now : ℕ) (result : Result (Option ℕ) AllocError) → Call W
@@ -56,13 +57,13 @@ pub data Call (W : Type 0) : Type 0 where
   Ticks : (now : ℕ) → Call W
   Leaves : (place : ℕ) → Call W
 
--- a call, and the desk at which it was made
+-- a call, and the desk before it
 pub record Event (W : Type 0) : Type 0 where
   pub before : Desk
   pub call : Call W
 
 module _ {W : Type 0} (contents : W → Option (List ℕ)) (failures : W → Failures) where
-  -- what a call makes of a desk
+  -- the effect of a call on a desk
   abbrev pub Step : Desk → Call W → Desk → Type 0
   Step d (Feeds did) e = (f : Following) × Does contents failures d.following did f × (e ≡ record d { following = f })
   Step d (Admits config now result) e = Accepts config d now result e
@@ -72,22 +73,22 @@ module _ {W : Type 0} (contents : W → Option (List ℕ)) (failures : W → Fai
   Step d (Ticks now) e = e ≡ record d { seats = seating.ticked now d.seats }
   Step d (Leaves place) e = e ≡ record d { seats = slice_set d.seats place None }
 
-  -- a desk that was new, after these calls; the latest stands first
+  -- a desk that began as a new one, after these calls; the latest comes first
   abbrev pub History : Following → List (Event W) → Desk → Type 0
   History begun [] d = (places : ℕ) × (d ≡ new_desk begun places)
   History begun (x ∷ past) d = Step x.before x.call d × History begun past x.before
 
--- a client came to this place, or left it
+-- a client was given this place, or left it
 abbrev pub changes : {W : Type 0} → ℕ → Call W → Bool
 changes k (Admits config now (Ok (Some place))) = place == k
 changes k (Leaves place) = place == k
 changes k other = false
 
--- the client at this place stayed there in these calls, and no other came
+-- the client at this place stayed there during these calls, and no other one arrived
 abbrev pub Stays : {W : Type 0} → ℕ → List (Event W) → Type 0
 Stays k past = AllByRecursion (λ x. changes k x.call ≡ false) past
 
--- the bytes that the socket of the present client at this place took
+-- the bytes that the socket of the current client at this place has accepted
 abbrev pub sent_by : {W : Type 0} → Call W → Desk → ℕ → List ℕ → List ℕ
 sent_by (Admits config now (Ok (Some place))) d k so_far = if place == k then [] else so_far
 sent_by (Takes place count now) d k so_far = if place == k then so_far ++ take count (pending_of (guest_at d.seats k)) else so_far

@@ -1,4 +1,4 @@
--- What the clients of a desk are sent, where what follows the feed is sent one feed.
+-- The bytes sent to the clients of a desk whose follower receives one feed.
 use Rattle.std.specs.Prelude.{◌≡◌, ℕ, ◌-◌, ◌<◌, ◌≤◌, ◌⊎◌, List, [], ◌∷◌, ◌++◌, take, Some, None, Option}
 use Rattle.itch_join.specs.Positions.{Position}
 use Rattle.itch_join.specs.Rules.{Rules, run, bad}
@@ -21,7 +21,7 @@ abbrev pub fed : {W : Type 0} → List (Event W) → List (Did W)
 fed [] = []
 fed (x ∷ past) = fed_by x.call (fed past)
 
--- what servers send is of one feed
+-- the servers send messages of one feed only
 abbrev pub IsHonestCall : {W : Type 0} → Rules → List (List ℕ) → Desk → Call W → Type 0
 IsHonestCall R feed d (Feeds did) = IsHonest R feed d.following did
 IsHonestCall R feed d other = Unit {0}
@@ -30,9 +30,9 @@ abbrev pub AreHonest : {W : Type 0} → Rules → List (List ℕ) → List (Even
 AreHonest R feed [] = Unit {0}
 AreHonest R feed (x ∷ past) = IsHonestCall R feed x.before x.call × AreHonest R feed past
 
--- The answer to the login of the present client at this place, whose visit is this. It was handed in by one of these calls, after this client's login had come, since when
--- it has stayed at its place, and is the snapshot of the market after exactly the messages of the feed before the one that was the next then, with that
--- one's number.
+-- The answer to the login of the current client at this place, with this visit. One of these calls passed it in after this client's login had
+-- arrived, and the client has kept its place since. It is the snapshot of the market after exactly the messages of the feed before the next
+-- one at that time, with the number of that next one.
 pub record IsFeedAnswer {W : Type 0} (R : Rules) (feed : List (List ℕ)) (k : ℕ) (past : List (Event W)) (visit : Visit) (bytes : List ℕ) : Type 0 where
   pub later : List (Event W)
   pub at : Event W
@@ -58,28 +58,28 @@ pub record IsFeedAnswer {W : Type 0} (R : Rules) (feed : List (List ℕ)) (k : �
   pub to_bad : joined.next ≤ bad R feed
   pub is : bytes ≡ session_bytes (run R (take (joined.next - 1) feed)) joined.next
 
--- the rejection of a login that the client at this place has sent
+-- the rejection of a login sent by the client at this place
 abbrev pub IsRefusalAt : {W : Type 0} → ℕ → List (Event W) → List ℕ → Type 0
 IsRefusalAt k past bytes = (visit : Visit) × (visit_at k past ≡ Some visit) × IsRefusal visit.begun.config visit.begun.now visit.past bytes
 
--- the acceptance of a login that the client at this place has sent, and heartbeats
+-- the acceptance of a login sent by the client at this place, and heartbeats
 abbrev pub IsGreetingAt : {W : Type 0} → ℕ → List (Event W) → List ℕ → Type 0
 IsGreetingAt k past bytes = (visit : Visit) × (visit_at k past ≡ Some visit) × IsGreeting visit.begun.config visit.begun.now visit.past bytes
 
--- the same, and then the answer to it
+-- the same, followed by the answer to the login
 abbrev pub IsGreetingAndFeedAnswer : {W : Type 0} → Rules → List (List ℕ) → ℕ → List (Event W) → List ℕ → Type 0
 IsGreetingAndFeedAnswer R feed k past bytes =
     (visit : Visit) × (beats : ℕ) × (rest : List ℕ) × IsFeedAnswer R feed k past visit rest × (bytes ≡ greeting visit.begun.config beats ++ rest)
 
--- what a client is told in all: nothing, the rejection of its login, its acceptance and heartbeats, or those and then the answer to it
+-- all bytes for a client: none, the rejection of its login, or its acceptance and heartbeats, with or without the answer after them
 abbrev pub IsToldOfFeed : {W : Type 0} → Rules → List (List ℕ) → ℕ → List (Event W) → List ℕ → Type 0
 IsToldOfFeed R feed k past bytes = (bytes ≡ []) ⊎ IsRefusalAt k past bytes ⊎ IsGreetingAt k past bytes ⊎ IsGreetingAndFeedAnswer R feed k past bytes
 
--- what was sent is the beginning of that, and no more
+-- the bytes sent so far are a prefix of these
 abbrev pub IsSentOfFeed : {W : Type 0} → Rules → List (List ℕ) → ℕ → List (Event W) → List ℕ → Type 0
 IsSentOfFeed R feed k past sent = (bytes : List ℕ) × IsToldOfFeed R feed k past bytes × IsBeginning sent bytes
 
--- once there is a market, there is one from then on, of no fewer messages
+-- if there is a market, there is one from then on, of at least as many messages
 abbrev pub GoesOn : Option Position → Option Position → Type 0
 GoesOn None now = Unit {0}
 GoesOn (Some i) None = ⊥

@@ -1,4 +1,4 @@
--- One client of a live server: what it has said, what it is told, and how much of that its socket took.
+-- One client of a live server: what it has sent, what it is to receive, and how many of these bytes its socket has accepted.
 use Rattle.std.specs.Prelude.{◌≡◌, ℕ, ◌+◌, ◌-◌, ◌&&◌, ◌||◌, nat_le, nat_lt, ◌==◌, ◌⊎◌, true, false, Bool, not, List, [], ◌∷◌, map, length, drop, Option, None, Some, is_some, if◌then◌else◌}
 use Rattle.std.specs.Option.{option_or}
 use Rattle.itch_frame.specs.Blocks.{IsBlock, IsBlockOf, block, blocks}
@@ -22,11 +22,11 @@ use Rattle.itch_live.specs.declared.login.Login.TheVariants as login
 use Rattle.itch_live.specs.declared.told.Told.{Told}
 use Rattle.itch_live.specs.declared.told.Told.TheVariants as told
 
--- the bytes that accept a login from this number on
+-- the block of the Login Accepted packet, with this number
 abbrev pub welcome : ServerConfig → ℕ → List ℕ
 welcome config n = block (packet_spelling (is.LoginAccepted (acceptance config n)))
 
--- those that answer it after that: the market's snapshot with its End of Snapshot, and the end of the session
+-- the bytes that follow it: the market's snapshot with its End of Snapshot, and the end of the session
 abbrev pub session_bytes : Content → ℕ → List ℕ
 session_bytes m next = blocks (map packet_spelling (session_packets (messages_from 1 m next)))
 
@@ -34,13 +34,14 @@ session_bytes m next = blocks (map packet_spelling (session_packets (messages_fr
 abbrev pub heartbeat : List ℕ
 heartbeat = block (packet_spelling is.ServerHeartbeat)
 
--- the block that rejects a login: J and the code
+-- the block of a Login Rejected packet: J and the code
 abbrev pub refusal : ℕ → List ℕ
 refusal code = 0 ∷ 2 ∷ 74 ∷ code ∷ []
 
--- a client: the bytes held of an unfinished packet, its session, the login that was accepted, what waits for its socket of the acceptance, of a heartbeat
--- or of the rejection, the code of its rejection, the snapshot that it is told, the number of the next message at which that was encoded, how many of its
--- bytes the socket took, why it is gone if it is, when it last moved on, how many bytes of the snapshot were taken then, and when something was last sent
+-- a client of a live server: the bytes of an incomplete packet; its session; the accepted login; the unsent bytes of the Login Accepted
+-- packet, of a heartbeat or of the rejection; the code of its rejection; its snapshot; the number of the next message at which the snapshot
+-- was encoded; how many bytes of the snapshot the socket has accepted; why the client is gone, if it is; the time of its last progress; how
+-- many bytes of the snapshot were accepted then; and when something was last sent
 pub record Guest : Type 0 where
   pub held : List ℕ
   pub session : Server
@@ -55,7 +56,7 @@ pub record Guest : Type 0 where
   pub marked : ℕ
   pub sent : ℕ
 
--- the bytes of the snapshot that the code tells a client
+-- the bytes of the snapshot in the program's type
 abbrev pub told_of : {A : Type 0} → Told A → Option (List ℕ)
 told_of told.Nothing = None
 told_of (told.Whole shot next) = Some shot.value.items
@@ -69,11 +70,11 @@ abbrev pub is_at : Option ℕ → ℕ → Bool
 is_at None number = false
 is_at (Some next) number = next == number
 
--- the bytes of a snapshot, if it is that of this number
+-- the bytes of a snapshot, if it has this number
 abbrev pub shot_in : Option ℕ → Option (List ℕ) → ℕ → Option (List ℕ)
 shot_in snapshot bytes number = if is_at snapshot number then bytes else None
 
--- the login that was accepted, and the code with which one was rejected
+-- the accepted login, and the code of a rejected one
 abbrev pub asked_of : Login → Option LoginRequest
 asked_of (login.Accepted request) = Some request
 asked_of other = None
@@ -82,7 +83,7 @@ abbrev pub rejection_of : Login → Option ℕ
 rejection_of (login.Rejected code) = Some code
 rejection_of other = None
 
--- where a login was rejected with this code, what waits is the rest of the block that says so
+-- if a login was rejected with this code, the waiting bytes are the rest of the block with this rejection
 abbrev pub IsOneRefusal : Option ℕ → List ℕ → Type 0
 IsOneRefusal None notes = Unit {0}
 IsOneRefusal (Some code) notes = (taken : ℕ) × (notes ≡ drop taken (refusal code))
@@ -94,11 +95,11 @@ bytes_of (Some bytes) = bytes
 abbrev pub is_gone : Guest → Bool
 is_gone g = is_some g.gone
 
--- it is gone for this reason, unless it was gone before
+-- the client is gone for this reason, unless it was gone before
 abbrev pub gone_for : Gone → Guest → Guest
 gone_for why g = record g { gone = option_or g.gone (Some why) }
 
--- what is still to be written: what waits of the notes, or else the snapshot
+-- the bytes to be written next: those of the waiting packet, or else those of the snapshot
 abbrev pub first_of : List ℕ → List ℕ → List ℕ
 first_of [] rest = rest
 first_of (b ∷ notes) rest = b ∷ notes
@@ -106,7 +107,7 @@ first_of (b ∷ notes) rest = b ∷ notes
 abbrev pub pending : Guest → List ℕ
 pending g = if is_gone g then [] else first_of g.notes (drop g.taken (bytes_of g.told))
 
--- a login was accepted
+-- a login was accepted, and the client is not gone
 abbrev pub is_accepted : Guest → Bool
 is_accepted g = is_some g.asked && not (is_gone g)
 
@@ -118,19 +119,19 @@ abbrev pub is_none : List ℕ → Bool
 is_none [] = true
 is_none (b ∷ bytes) = false
 
--- nothing is told after a rejection, nor after the snapshot
+-- nothing follows a rejection or a snapshot
 abbrev pub is_last : Guest → Bool
 is_last g = is_some g.rejection || (is_some g.told && g.taken == length (bytes_of g.told))
 
--- its socket took all that it is told
+-- the socket has accepted all bytes for the client
 abbrev pub has_all : Guest → Bool
 has_all g = is_none g.notes && is_last g
 
--- it has all, and the connection is to be closed once it closes it
+-- the client has received everything, and its connection is closed when it closes its half
 abbrev pub is_closing : Guest → Bool
 is_closing g = not (is_gone g) && has_all g
 
--- what it says no longer matters: it is gone, it was refused, or it has all
+-- bytes from the client are ignored: it is gone, was rejected, or has received everything
 abbrev pub is_deaf : Guest → Bool
 is_deaf g = is_gone g || is_some g.rejection || has_all g
 
@@ -141,7 +142,7 @@ abbrev pub login_in : Packet → Option LoginRequest
 login_in (is.LoginRequest login) = Some login
 login_in packet = None
 
--- what the session's answer to a packet makes of the client: it is told at once that its login is accepted, or rejected
+-- the effect of the session's answer on the client: the acceptance or rejection of its login is sent at once
 abbrev pub after_act : ServerAct → Option LoginRequest → ℕ → Guest → Guest
 after_act (act.Accept n) login now g = record g { asked = login; notes = welcome g.session.config n; rejection = None; sent = now }
 after_act (act.Reject code) login now g = record g { asked = None; notes = refusal code; rejection = Some code; sent = now }
@@ -149,29 +150,30 @@ after_act act.Nothing login now g = g
 after_act act.Close login now g = gone_for reason.Left g
 after_act (act.Fault fault) login now g = gone_for reason.Fault g
 
--- once its login is accepted, a client moves on by what its socket takes alone
+-- once its login is accepted, only bytes accepted by its socket are progress
 abbrev pub moved_by_words : Guest → ℕ → ℕ
 moved_by_words g now = if is_some g.asked then g.moved else now
 
--- a packet was heard
+-- a packet has arrived
 abbrev pub heard : Guest → Packet → ℕ → Guest
 heard g packet now =
     after_act (server_answer g.session packet) (login_in packet) now
     (record g { held = []; session = server_after_packet g.session packet now; moved = moved_by_words g now })
 
--- a block was heard that is no packet
+-- a block has arrived that is not a packet
 abbrev pub faulted : Guest → ℕ → Guest
 faulted g now = gone_for reason.Fault (record g { held = []; moved = moved_by_words g now })
 
--- the answer is handed in: a snapshot that was encoded at this number
+-- the answer is passed in: a snapshot that was encoded at this number
 abbrev pub answered : Guest → List ℕ → ℕ → ℕ → Guest
 answered g bytes next now = record g { told = Some bytes; snapshot = Some next; moved = now }
 
--- one that waits is answered
+-- the client is answered if it waits
 abbrev pub answered_if : List ℕ → ℕ → ℕ → Guest → Guest
 answered_if bytes next now g = if is_waiting g then answered g bytes next now else g
 
--- Its socket took the next bytes of the notes, or of the snapshot. Of that, it is moving on where it took 65,536 since it last moved on, or has all now.
+-- The socket has accepted the next bytes of the waiting packet, or of the snapshot. For the snapshot it is progress if the socket has
+-- accepted 65,536 bytes since the last progress, or all of them.
 abbrev pub took_of : List ℕ → Guest → ℕ → ℕ → Guest
 took_of [] g count now =
     if nat_lt 0 count && (nat_le 65536 (g.taken + count - g.marked) || g.taken + count == length (bytes_of g.told))
@@ -181,48 +183,48 @@ took_of (b ∷ notes) g count now = record g { notes = drop count (b ∷ notes);
 abbrev pub took : Guest → ℕ → ℕ → Guest
 took g count now = took_of g.notes g count now
 
--- it waits, and took all that it was told so far
+-- the client waits, and its socket has accepted everything sent so far
 abbrev pub is_patient : Guest → Bool
 is_patient g = is_waiting g && is_none g.notes
 
--- a client is silent where it is not patient, and has not moved on for 15,000 ms
+-- a client is silent if it is not patient, and has made no progress for 15,000 ms
 abbrev pub is_silent : Guest → ℕ → Bool
 is_silent g now = not (is_patient g) && nat_le 15000 (now - g.moved)
 
--- one that waits, and was sent nothing for more than 1,000 ms, is sent a heartbeat
+-- a client that waits and was sent nothing for more than 1,000 ms is due for a heartbeat
 abbrev pub is_idle : Guest → ℕ → Bool
 is_idle g now = is_none g.notes && is_waiting g && nat_lt 1000 (now - g.sent)
 
--- a heartbeat waits for its socket, which has from now on to take it
+-- a heartbeat waits for the socket, which must accept bytes of it from now on
 abbrev pub with_heartbeat : Guest → ℕ → Guest
 with_heartbeat g now = record g { notes = heartbeat; moved = now; sent = now }
 
--- one that is silent is cut off
+-- a silent client is disconnected
 abbrev pub ticked : Guest → ℕ → Guest
 ticked g now = if is_silent g now then gone_for reason.Silent g else (if is_idle g now then with_heartbeat g now else g)
 
 abbrev pub left : Guest → Guest
 left g = gone_for reason.Left g
 
--- the session's answer to a payload, and the login that this is: those of its packet, or its fault
+-- the answer of the session to a payload, and its login: those of its packet, or its fault
 abbrev pub Judges : Server → List ℕ → ℕ → ServerAct × Option LoginRequest → Server → Type 0
 Judges s payload now answer t =
     ((packet : Packet) × PacketSpells packet payload Client × (answer ≡ (server_answer s packet, login_in packet)) × (t ≡ server_after_packet s packet now))
     ⊎ ((fault : SoupFault) × (packet_fault payload Client ≡ Some fault) × (answer ≡ (act.Fault fault, None)) × (t ≡ s))
 
--- the packet of a payload was heard, or its fault
+-- the packet of a payload has arrived, or its fault
 abbrev pub HearsPayload : Guest → List ℕ → ℕ → Guest → Type 0
 HearsPayload g payload now h =
     ((packet : Packet) × PacketSpells packet payload Client × (h ≡ heard g packet now))
     ⊎ ((fault : SoupFault) × (packet_fault payload Client ≡ Some fault) × (h ≡ faulted g now))
 
--- the bytes held and those taken are a whole packet, which is heard, or less than one
+-- the held and consumed bytes are a complete packet, which is handled, or less than one
 abbrev pub HearsHeld : Guest → List ℕ → ℕ → Guest → Type 0
 HearsHeld g held now h =
     ((payload : List ℕ) × IsBlockOf payload held × HearsPayload g payload now h)
     ⊎ ((IsBlock held → ⊥) × (h ≡ record g { held = held }))
 
--- some bytes of a piece are heard; where what it says no longer matters, all are passed over
+-- some bytes of a piece are consumed; if bytes from the client are ignored, all of them are
 abbrev pub Hears : Guest → List ℕ → ℕ → ℕ → Guest → Type 0
 Hears g piece now n h =
     ((is_deaf g ≡ true) × (n ≡ length piece) × (h ≡ g))

@@ -1,4 +1,4 @@
--- Of which session the messages are that a follower takes.
+-- The session of the messages that a follower takes.
 use Rattle.std.specs.Prelude.{◌≡◌, ℕ, List, [], ◌∷◌, ◌++◌, Option, Some}
 use Rattle.std.specs.List.{AllByRecursion}
 use Rattle.itch_frame.specs.Blocks.{IsBlockOf}
@@ -14,18 +14,18 @@ use Rattle.itch_live.specs.Sessions.{expected}
 use Rattle.itch_live.specs.Follows.{Following}
 use Rattle.itch_live.specs.Feeds.{Did, Connects, Hears, Does}
 
--- no connection is begun
+-- the call does not begin a connection
 abbrev pub StaysConnected : {W : Type 0} → Did W → Type 0
 StaysConnected (Connects credentials now) = ⊥
 StaysConnected other = Unit {0}
 
 module _ {W : Type 0} (contents : W → Option (List ℕ)) (failures : W → Failures) where
-  -- these calls have led from one to the other; the latest stands first
+  -- these calls lead from one state to the other; the latest comes first
   abbrev pub Led : Following → List (Did W) → Following → Type 0
   Led begun [] f = f ≡ begun
   Led begun (did ∷ past) f = (e : Following) × Does contents failures e did f × Led begun past e
 
-  -- the login of the latest connection was accepted in this name
+  -- the login of the latest connection was accepted under this name
   pub record IsAcceptedIn (begun : Following) (past : List (Did W)) (name : List ℕ) : Type 0 where
     pub later : List (Did W)
     pub before : List (Did W)
@@ -46,7 +46,7 @@ module _ {W : Type 0} (contents : W → Option (List ℕ)) (failures : W → Fai
     pub spelled : PacketSpells (is.LoginAccepted login) payload Server
     pub named : login.session ≡ name
 
-  -- the same, and that is the name of the session that is expected of its server
+  -- the same, and this is the name of the session that is expected of its server
   pub record IsInSession (begun : Following) (past : List (Did W)) (f : Following) : Type 0 where
     pub name : List ℕ
     pub accepted : IsAcceptedIn begun past name

@@ -1,4 +1,4 @@
--- What a desk holds in bytes, beside the market of its feed and the words of its places.
+-- The bytes that a desk holds, without the market of its feed and the fixed size of its places.
 use Rattle.std.specs.Prelude.{◌≡◌, ℕ, ◌+◌, ◌*◌, max, List, [], ◌∷◌, length, Option, None, Some}
 use Rattle.itch_codec.specs.Widths.{IsSequence}
 use Rattle.itch_market.specs.GoodMarkets.{IsGood}
@@ -8,11 +8,11 @@ use Rattle.itch_live.specs.Seats.{Seats}
 use Rattle.itch_live.specs.Kept.{length_or, snapshot_bytes}
 use Rattle.itch_live.specs.Desks.{Desk, shot_for, Call, Answers, Event}
 
--- what a splitter holds: the longest block
+-- the bytes of a splitter: the longest block
 abbrev pub splitter_bytes : ℕ
 splitter_bytes = 65537
 
--- how many places have a client
+-- the number of clients
 abbrev pub clients : Seats → ℕ
 clients [] = 0
 clients (None ∷ seats) = clients seats
@@ -22,11 +22,11 @@ clients (Some g ∷ seats) = 1 + clients seats
 abbrev pub held_bytes : Desk → ℕ
 held_bytes d = splitter_bytes + clients d.seats * splitter_bytes + snapshot_bytes d.seats
 
--- the most that a desk of so many places holds, where its snapshots have at most so many bytes together
+-- the most bytes that a desk with `places` places holds, if its snapshots have at most `most` bytes together
 abbrev pub most_bytes : ℕ → ℕ → ℕ
 most_bytes places most = splitter_bytes + places * splitter_bytes + most
 
--- how many bytes those who wait are handed, once there is a market
+-- the number of bytes that waiting clients are to receive, if there is a market
 abbrev pub handed_at : Option Position → ℕ → Desk → ℕ
 handed_at None limit d = 0
 handed_at (Some j) limit d = length_or (shot_for limit d.seats j.market j.next)
@@ -35,22 +35,22 @@ abbrev pub handed_by : {W : Type 0} → Desk → Call W → ℕ
 handed_by d (Answers limit now count) = handed_at d.following.joining.state.joined limit d
 handed_by d other = 0
 
--- the bytes of the longest snapshot that was handed in
+-- the size in bytes of the longest snapshot that was passed in
 abbrev pub longest : {W : Type 0} → List (Event W) → ℕ
 longest [] = 0
 longest (x ∷ past) = max (handed_by x.before x.call) (longest past)
 
--- how many bytes the snapshots might have
+-- the limit of the snapshots in bytes, in a call that answers
 abbrev pub limit_by : {W : Type 0} → Call W → ℕ
 limit_by (Answers limit now count) = limit
 limit_by other = 0
 
--- the largest of these limits
+-- the greatest of these limits
 abbrev pub largest_limit : {W : Type 0} → List (Event W) → ℕ
 largest_limit [] = 0
 largest_limit (x ∷ past) = max (limit_by x.call) (largest_limit past)
 
--- how many messages the snapshot of the present market has
+-- the number of messages in the snapshot of the current market
 abbrev pub messages_at : Option Position → ℕ
 messages_at None = 0
 messages_at (Some j) = length (snap j.market)
@@ -59,12 +59,12 @@ abbrev pub messages_by : {W : Type 0} → Desk → Call W → ℕ
 messages_by d (Answers limit now count) = messages_at d.following.joining.state.joined
 messages_by d other = 0
 
--- the most messages of a snapshot that was handed in
+-- the most messages in a snapshot that was passed in
 abbrev pub most_messages : {W : Type 0} → List (Event W) → ℕ
 most_messages [] = 0
 most_messages (x ∷ past) = max (messages_by x.before x.call) (most_messages past)
 
--- what is handed in is of a market, and has a number, as each `Market` and each `Seq` does
+-- the market and the number of each answer satisfy the invariants of `Market` and `Seq`
 abbrev pub IsOfMarket : {W : Type 0} → Desk → Call W → Type 0
 IsOfMarket d (Answers limit now count) = (j : Position) → d.following.joining.state.joined ≡ Some j → IsGood j.market × IsSequence j.next
 IsOfMarket d other = Unit {0}

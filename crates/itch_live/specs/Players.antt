@@ -1,4 +1,4 @@
--- One client of a feed that is played: what it has said, how far it has come, and what waits for its socket.
+-- One client of a played feed: what it has sent, its progress, and the bytes that wait for its socket.
 use Rattle.std.specs.Prelude.{◌≡◌, ℕ, ◌+◌, ◌-◌, ◌&&◌, ◌||◌, nat_le, nat_lt, ◌==◌, ◌⊎◌, true, false, Bool, not, List, [], ◌++◌, length, drop, Option, None, Some, is_some, if◌then◌else◌}
 use Rattle.std.specs.Option.{option_or}
 use Rattle.itch_frame.specs.Blocks.{IsBlock, IsBlockOf, block}
@@ -16,8 +16,8 @@ use Rattle.itch_live.specs.declared.progress.Progress.{Progress}
 use Rattle.itch_live.specs.declared.progress.Progress.TheVariants.{Waiting, Refused, Playing, Ended}
 use Rattle.itch_live.specs.Guests.{Judges}
 
--- a client: the bytes held of an unfinished packet, its session, how far it has come, the number of the next message, what waits for its socket,
--- why it is gone if it is, when it last said or took something, and when something was last sent
+-- a client of a played feed: the bytes of an incomplete packet; its session; its progress; the number of the next message; the bytes that
+-- wait for its socket; why it is gone, if it is; when it last sent or accepted something; and when something was last sent to it
 pub record Player : Type 0 where
   pub held : List ℕ
   pub session : Server
@@ -31,11 +31,11 @@ pub record Player : Type 0 where
 abbrev pub is_empty : List ℕ → Bool
 is_empty bytes = length bytes == 0
 
--- any packet has room beside so many bytes
+-- there is room for any packet after these bytes
 abbrev pub has_room : List ℕ → Bool
 has_room bytes = nat_le (length bytes) 65536
 
--- how many bytes may wait: what has room, a message, and then the end of the session
+-- the most bytes that may wait: those that leave room for a packet, a message, and then the end of the session
 abbrev pub most_pending : Progress → ℕ
 most_pending (Ended first) = 131076
 most_pending progress = 131073
@@ -43,11 +43,11 @@ most_pending progress = 131073
 abbrev pub is_gone : Player → Bool
 is_gone p = is_some p.gone
 
--- it is gone for this reason, unless it was gone before
+-- the client is gone for this reason, unless it was gone before
 abbrev pub gone_for : Gone → Player → Player
 gone_for why p = record p { gone = option_or p.gone (Some why) }
 
--- what is still to be written
+-- the bytes still to be written
 abbrev pub pending : Player → List ℕ
 pending p = if is_gone p then [] else p.outbox
 
@@ -59,41 +59,41 @@ abbrev pub was_refused : Progress → Bool
 was_refused (Refused code) = true
 was_refused progress = false
 
--- nothing is sent after a refusal, nor after the end of the session
+-- nothing follows a rejection or the end of the session
 abbrev pub is_last : Progress → Bool
 is_last (Refused code) = true
 is_last (Ended first) = true
 is_last progress = false
 
--- the code with which its login was rejected
+-- the code with which the login was rejected
 abbrev pub rejection_of : Progress → Option ℕ
 rejection_of (Refused code) = Some code
 rejection_of progress = None
 
--- the number from which its login was accepted
+-- the number from which the login was accepted
 abbrev pub first_of : Progress → Option ℕ
 first_of (Playing first) = Some first
 first_of (Ended first) = Some first
 first_of progress = None
 
--- the session is ended, if it goes on
+-- the progress after the end of the session, if the session has not ended yet
 abbrev pub after_end : Progress → Progress
 after_end (Playing first) = Ended first
 after_end progress = progress
 
--- its login was accepted, the session goes on, and it is not gone
+-- the login was accepted, the session has not ended, and the client is not gone
 abbrev pub is_playing : Player → Bool
 is_playing p = plays p.progress && not (is_gone p)
 
--- its socket took all, and nothing comes after it
+-- the socket has accepted everything, and nothing follows
 abbrev pub has_all : Player → Bool
 has_all p = is_last p.progress && is_empty p.outbox
 
--- it has all, and the connection is to be closed once it closes it
+-- the client has received everything, and its connection is closed when it closes its half
 abbrev pub is_closing : Player → Bool
 is_closing p = not (is_gone p) && has_all p
 
--- what it says no longer matters: it is gone, it was refused, or it has all
+-- bytes from the client are ignored: it is gone, was rejected, or has received everything
 abbrev pub is_deaf : Player → Bool
 is_deaf p = is_gone p || was_refused p.progress || has_all p
 
@@ -101,7 +101,7 @@ is_deaf p = is_gone p || was_refused p.progress || has_all p
 abbrev pub is_idle : Player → ℕ → Bool
 is_idle p now = is_playing p && is_empty p.outbox && nat_lt 1000 (now - p.sent)
 
--- the number of the message to hand in next, where one may be handed in
+-- the number of the message to pass in next, if one may be passed in
 abbrev pub wanted : Player → Option ℕ
 wanted p = if is_playing p && nat_le p.next p.session.total && has_room p.outbox then Some p.next else None
 
@@ -109,11 +109,11 @@ abbrev pub new_player : ServerConfig → ℕ → ℕ → Player
 new_player config total now =
     record { held = []; session = new_server config total now; progress = Waiting; next = 0; outbox = []; gone = None; moved = now; sent = now }
 
--- the client is told what its login has come to
+-- the client is sent the answer to its login
 abbrev pub told : Player → Progress → List ℕ → ℕ → Player
 told p progress packet now = record p { progress = progress; outbox = block packet; sent = now }
 
--- what the session's answer to a packet makes of the client
+-- the effect of the session's answer on the client
 abbrev pub after_act : ServerAct → ℕ → Player → Player
 after_act (act.Accept n) now p = told (record p { next = n }) (Playing n) (packet_spelling (is.LoginAccepted (acceptance p.session.config n))) now
 after_act (act.Reject code) now p = told p (Refused code) (packet_spelling (is.LoginRejected code)) now
@@ -121,18 +121,18 @@ after_act act.Nothing now p = p
 after_act act.Close now p = gone_for reason.Left p
 after_act (act.Fault fault) now p = gone_for reason.Fault p
 
--- a packet was heard, or a block that is none
+-- a packet has arrived, or a block that is not a packet
 abbrev pub heard : Player → Server → ServerAct → ℕ → Player
 heard p session answer now = after_act answer now (record p { held = []; session = session; moved = now })
 
--- the bytes held and those taken are a whole packet, which is heard, or less than one
+-- the held and consumed bytes are a complete packet, which is handled, or less than one
 abbrev pub HearsHeld : Player → List ℕ → ℕ → Player → Type 0
 HearsHeld p held now q =
     ((payload : List ℕ) × (answer : ServerAct × Option LoginRequest) × (session : Server) × IsBlockOf payload held × Judges p.session payload now answer session
     × (q ≡ heard p session answer.0 now))
     ⊎ ((IsBlock held → ⊥) × (q ≡ record p { held = held }))
 
--- some bytes of a piece are heard; where what it says no longer matters, all are passed over
+-- some bytes of a piece are consumed; if bytes from the client are ignored, all of them are
 abbrev pub Hears : Player → List ℕ → ℕ → ℕ → Player → Type 0
 Hears p piece now n q =
     ((is_deaf p ≡ true) × (n ≡ length piece) × (q ≡ p))
@@ -142,26 +142,26 @@ Hears p piece now n q =
 abbrev pub message_packet : List ℕ → List ℕ
 message_packet message = packet_spelling (is.SequencedData message)
 
--- the message that is wanted is handed in
+-- the requested message is passed in
 abbrev pub played : Player → List ℕ → ℕ → Player
 played p message now = record p { outbox = p.outbox ++ block (message_packet message); next = p.next + 1; sent = now }
 
--- all messages were handed in, and the session is not ended yet
+-- all messages were passed in, and the session has not ended yet
 abbrev pub is_played : Player → Bool
 is_played p = is_playing p && nat_lt p.session.total p.next
 
--- the session is ended, once all messages were handed in
+-- the session ends, if all messages were passed in
 abbrev pub ended : Player → ℕ → Player
 ended p now = if is_played p then record p { outbox = p.outbox ++ block (packet_spelling is.EndOfSession); progress = after_end p.progress; sent = now } else p
 
--- its socket took the next bytes
+-- the socket has accepted the next bytes
 abbrev pub took : Player → ℕ → ℕ → Player
 took p count now = if nat_lt 0 count then record p { outbox = drop count p.outbox; moved = now; sent = now } else p
 
 abbrev pub left : Player → Player
 left p = gone_for reason.Left p
 
--- one that has said nothing and taken nothing for 15,000 ms is cut off; another is sent a heartbeat where one is due
+-- a client that has sent nothing and accepted nothing for 15,000 ms is disconnected; any other client is sent a heartbeat if one is due
 abbrev pub ticked : Player → ℕ → Player
 ticked p now =
     if nat_le 15000 (now - p.moved) then gone_for reason.Silent p else (

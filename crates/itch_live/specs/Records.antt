@@ -14,7 +14,7 @@ abbrev pub IsWritten : News → Type 0
 IsWritten (news.Unrecorded fault) = ⊥
 IsWritten other = Unit {0}
 
--- there is one record, which each call is given as the one before it left it, and no write to it failed; it was replayed before these calls
+-- there is one record, which each call continues where the one before it ended, and no write to it failed; it was replayed before these calls
 abbrev pub IsOneRecord : {W : Type 0} → W → List (Did W) → W → Type 0
 IsOneRecord begun [] record_now = record_now ≡ begun
 IsOneRecord begun (Connects credentials now ∷ past) record_now = IsOneRecord begun past record_now
@@ -22,7 +22,7 @@ IsOneRecord begun (Ticks now ∷ past) record_now = IsOneRecord begun past recor
 IsOneRecord begun (Replays number payload result ∷ past) record_now = ⊥
 IsOneRecord begun (Hears piece now result old new ∷ past) record_now = (record_now ≡ new) × IsWritten result.1 × IsOneRecord begun past old
 
--- the number with which this call has joined
+-- the number at which this call completed a snapshot
 abbrev pub joined_in : News → Option ℕ
 joined_in (news.Joined next) = Some next
 joined_in other = None
@@ -33,7 +33,7 @@ joined_by (Ticks now) = None
 joined_by (Replays number payload result) = None
 joined_by (Hears piece now result old new) = joined_in result.1
 
--- the number of the first message that is recorded: the next one when the calls began, or that with which the joiner has joined since
+-- the number of the first message that is recorded: the next one when the calls began, or the one at which the joiner has joined since
 abbrev pub first_recorded : {W : Type 0} → Option Position → List (Did W) → Option ℕ
 first_recorded (Some j) past = Some j.next
 first_recorded None [] = None
@@ -49,7 +49,7 @@ module _ {W : Type 0} (contents : W → Option (List ℕ)) where
   RecordsUpTo feed first begun record_now (Some j) =
       (number : ℕ) × (first ≡ Some number) × (0 < number) × (number ≤ j.next) × Appends (contents begun) (contents record_now) (blocks (between number j.next feed))
 
-  -- what was added to the record are the blocks of the feed's messages from the first one up to the one before the next, each once
+  -- the bytes added to the record are the blocks of the feed's messages from the first recorded one up to the one before the next, each once
   abbrev pub IsRecord : List (List ℕ) → Following → List (Did W) → W → Following → W → Type 0
   IsRecord feed begun past record_begun f record_now =
       RecordsUpTo feed (first_recorded begun.joining.state.joined past) record_begun record_now f.joining.state.joined

@@ -1,4 +1,4 @@
--- The places of clients, each of which is free or has one.
+-- The places of clients. Each is free or has a client.
 use Rattle.std.specs.Prelude.{◌≡◌, ℕ, ◌<◌, ◌++◌, Bool, false, List, [], length, map, take, drop, Option, None, Some, IsSome, option_map, get_or, slice_set}
 use Rattle.itch_live.specs.Guests as guests
 use Rattle.itch_live.specs.Guests.{Guest, Hears, pending, is_waiting}
@@ -21,11 +21,11 @@ abbrev pub HearsBy : Option Guest → Seats → ℕ → List ℕ → ℕ → ℕ
 HearsBy None seats place piece now count new = (count ≡ length piece) × (new ≡ seats)
 HearsBy (Some g) seats place piece now count new = (h : Guest) × Hears g piece now count h × (new ≡ slice_set seats place (Some h))
 
--- the client at a place hears some bytes; where there is none, all are passed over
+-- the client at a place consumes some bytes; if there is no client, all are ignored
 abbrev pub HearsAt : Seats → ℕ → List ℕ → ℕ → ℕ → Seats → Type 0
 HearsAt seats place piece now count new = HearsBy (guest_at seats place) seats place piece now count new
 
--- what is still to be written to a client, if there is one
+-- the bytes still to be written to a client, if there is one
 abbrev pub pending_of : Option Guest → List ℕ
 pending_of None = []
 pending_of (Some g) = pending g
@@ -34,18 +34,18 @@ abbrev pub took_by : Option Guest → Seats → ℕ → ℕ → ℕ → Seats
 took_by None seats place count now = seats
 took_by (Some g) seats place count now = slice_set seats place (Some (guests.took g count now))
 
--- the socket of the client at a place took the next bytes
+-- the socket of the client at a place has accepted the next bytes
 abbrev pub took_at : Seats → ℕ → ℕ → ℕ → Seats
 took_at seats place count now = took_by (guest_at seats place) seats place count now
 
 abbrev pub answered_seat : List ℕ → ℕ → ℕ → Option Guest → Option Guest
 answered_seat bytes next now seat = option_map (guests.answered_if bytes next now) seat
 
--- those who wait at the first `count` places are answered with a snapshot of this number
+-- the waiting clients at the first `count` places are answered with a snapshot of this number
 abbrev pub answered : List ℕ → ℕ → ℕ → ℕ → Seats → Seats
 answered bytes next now count seats = map (answered_seat bytes next now) (take count seats) ++ drop count seats
 
--- those who wait at the first `count` places are handed a snapshot of this number, if there is one
+-- the waiting clients at the first `count` places receive a snapshot of this number, if there is one
 abbrev pub handed : Option (List ℕ) → ℕ → ℕ → ℕ → Seats → Seats
 handed None next now count seats = seats
 handed (Some bytes) next now count seats = answered bytes next now count seats

@@ -1,4 +1,4 @@
--- What a client is sent, over every list of what may happen to it.
+-- The bytes sent to a client, over every list of events.
 use Rattle.std.specs.Prelude.{◌≡◌, ℕ, ◌≤◌, List, [], ◌∷◌, ◌++◌, length, take, Some, ◌⊎◌, suc, zero}
 use Rattle.itch_frame.specs.Blocks.{IsBlockOf}
 use Rattle.itch_frame.specs.Cuts.{IsTake}
@@ -13,8 +13,8 @@ use Rattle.itch_soup.specs.Servers.{judged}
 use Rattle.itch_live.specs.Guests as guests
 use Rattle.itch_live.specs.Guests.{Guest, welcome, heartbeat, session_bytes, refusal, pending, new_guest}
 
--- what may happen to a client: some bytes of a piece are heard; the answer with the snapshot of a market, and the number of the next message, is
--- handed to it if it waits; its socket takes so many bytes; time passes; it is gone
+-- an event of a client: some bytes of a piece are consumed; the snapshot of a market with the number of the next message is passed in, if the
+-- client waits; its socket accepts `count` bytes; the time is reported; the client is gone
 pub data Happening : Type 0 where
   Hears : (piece : List ℕ) (now count : ℕ) → Happening
   Answers : (m : Content) (next now : ℕ) → Happening
@@ -22,7 +22,7 @@ pub data Happening : Type 0 where
   Ticks : (now : ℕ) → Happening
   Leaves : Happening
 
--- what this makes of a client
+-- the effect of an event on a client
 abbrev pub Becomes : ServerConfig → Guest → Happening → Guest → Type 0
 Becomes config g (Hears piece now count) h = guests.Hears g piece now count h
 Becomes config g (Answers m next now) h = h ≡ guests.answered_if (session_bytes m next) next now g
@@ -30,22 +30,22 @@ Becomes config g (Takes count now) h = (count ≤ length (pending g)) × (h ≡ 
 Becomes config g (Ticks now) h = h ≡ guests.ticked g now
 Becomes config g Leaves h = h ≡ guests.left g
 
--- the bytes that its socket takes
+-- the bytes that its socket accepts
 abbrev pub sent_by : Guest → Happening → List ℕ
 sent_by g (Takes count now) = take count (pending g)
 sent_by g other = []
 
--- A client that has connected then is this one after all this, and these bytes were sent to it. The latest stands first.
+-- A client that connected at time `begun`, after all these events, and the bytes sent to it. The latest event comes first.
 abbrev pub Story : ServerConfig → ℕ → List Happening → Guest → List ℕ → Type 0
 Story config begun [] g sent = (g ≡ new_guest config begun) × (sent ≡ [])
 Story config begun (happening ∷ past) g sent =
     (f : Guest) × (so_far : List ℕ) × Story config begun past f so_far × Becomes config f happening g × (sent ≡ so_far ++ sent_by f happening)
 
--- bytes are the beginning of others
+-- bytes are a prefix of others
 abbrev pub IsBeginning : List ℕ → List ℕ → Type 0
 IsBeginning front bytes = (rest : List ℕ) × (bytes ≡ front ++ rest)
 
--- the bytes that were held of a client, with those taken of a piece, are a login
+-- the held bytes of a client, with those consumed of a piece, are a login
 pub record IsLogin (before piece : List ℕ) (count : ℕ) (login : LoginRequest) : Type 0 where
   pub held : List ℕ
   pub takes : IsTake before piece count held
@@ -85,7 +85,7 @@ pub record IsWelcome (config : ServerConfig) (begun : ℕ) (past : List Happenin
   pub came : IsLogin hearing.held piece count login
   pub accepted : (judged config 0 login).0 ≡ act.Accept 1
 
--- the snapshot of a market that answers the client's login, which was handed in after the login had come
+-- the snapshot of a market that answers the client's login, and was passed in after the login had arrived
 pub record IsAnswer (config : ServerConfig) (begun : ℕ) (past : List Happening) (bytes : List ℕ) : Type 0 where
   pub later : List Happening
   pub before : List Happening
@@ -101,7 +101,7 @@ pub record IsAnswer (config : ServerConfig) (begun : ℕ) (past : List Happening
   pub accepted : (judged config 0 login).0 ≡ act.Accept 1
   pub is : bytes ≡ session_bytes m next
 
--- the acceptance of a login, and so many heartbeats after it
+-- the acceptance of a login, and `beats` heartbeats after it
 abbrev pub greeting : ServerConfig → ℕ → List ℕ
 greeting config zero = welcome config 1
 greeting config (suc beats) = greeting config beats ++ heartbeat
@@ -112,10 +112,10 @@ IsGreeting config begun past bytes = (beats : ℕ) × IsWelcome config begun pas
 abbrev pub IsGreetingAndAnswer : ServerConfig → ℕ → List Happening → List ℕ → Type 0
 IsGreetingAndAnswer config begun past bytes = (beats : ℕ) × (rest : List ℕ) × IsAnswer config begun past rest × (bytes ≡ greeting config beats ++ rest)
 
--- what a client is told in all: nothing, the rejection of its login, its acceptance and heartbeats, or those and then the answer to it
+-- all bytes for a client: none, the rejection of its login, or its acceptance and heartbeats, with or without the answer after them
 abbrev pub IsTold : ServerConfig → ℕ → List Happening → List ℕ → Type 0
 IsTold config begun past bytes = (bytes ≡ []) ⊎ IsRefusal config begun past bytes ⊎ IsGreeting config begun past bytes ⊎ IsGreetingAndAnswer config begun past bytes
 
--- what a client was sent is the beginning of what it is told, and no more
+-- the bytes sent to a client are a prefix of these
 abbrev pub IsSentRight : ServerConfig → ℕ → List Happening → List ℕ → Type 0
 IsSentRight config begun past sent = (bytes : List ℕ) × IsTold config begun past bytes × IsBeginning sent bytes

@@ -1,4 +1,4 @@
--- What happens to one client of a desk.
+-- The events of one client of a desk.
 use Rattle.std.specs.Prelude.{◌≡◌, ℕ, ◌==◌, nat_lt, ◌&&◌, Bool, is_some, List, [], ◌∷◌, Option, None, Some, Ok, Err, if◌then◌else◌}
 use Rattle.itch_join.specs.Positions.{Position}
 use Rattle.itch_soup.specs.declared.login.ServerConfig.{ServerConfig}
@@ -7,12 +7,12 @@ use Rattle.itch_live.specs.Stories as stories
 use Rattle.itch_live.specs.Stories.{Happening, Story}
 use Rattle.itch_live.specs.Desks.{Desk, shot_for, Call, Feeds, Admits, Hears, Answers, Takes, Ticks, Leaves, Event}
 
--- how a client came: by which configuration its login is judged, and when
+-- how a client arrived: the configuration that judges its login, and the time
 pub record Arrival : Type 0 where
   pub config : ServerConfig
   pub now : ℕ
 
--- how a client came, and what has happened to it since; the latest stands first
+-- how a client arrived, and its events since; the latest comes first
 pub record Visit : Type 0 where
   pub begun : Arrival
   pub past : List Happening
@@ -21,12 +21,12 @@ abbrev pub with : Happening → Option Visit → Option Visit
 with happening None = None
 with happening (Some v) = Some (record v { past = happening ∷ v.past })
 
--- the present market is handed in, once there is one, where a snapshot is, if this is one of the first places
+-- the current market is passed in, if there is one with a snapshot and this place is among the first ones
 abbrev pub answers : Option Position → Desk → ℕ → Bool → ℕ → Option Visit → Option Visit
 answers None d limit here now visit = visit
 answers (Some j) d limit here now visit = if is_some (shot_for limit d.seats j.market j.next) && here then with (stories.Answers j.market j.next now) visit else visit
 
--- Of a call at another place nothing is seen.
+-- Calls at other places are not part of the visit.
 abbrev pub visit_by : {W : Type 0} → Call W → Desk → ℕ → Option Visit → Option Visit
 visit_by (Feeds did) d k visit = visit
 visit_by (Admits config now (Ok (Some place))) d k visit = if place == k then Some (record { begun = record { config = config; now = now }; past = [] }) else visit
@@ -38,12 +38,13 @@ visit_by (Takes place count now) d k visit = if place == k then with (stories.Ta
 visit_by (Ticks now) d k visit = with (stories.Ticks now) visit
 visit_by (Leaves place) d k visit = if place == k then None else visit
 
--- what has happened to the present client at this place
+-- the events of the current client at this place
 abbrev pub visit_at : {W : Type 0} → ℕ → List (Event W) → Option Visit
 visit_at k [] = None
 visit_at k (x ∷ past) = visit_by x.call x.before k (visit_at k past)
 
--- the client of a visit is the one that it makes, and was sent these bytes, as if there were no other client; where there is none, nothing was sent
+-- the client at a place is the one that its visit leads to, and was sent these bytes, as if there were no other client; at a free place,
+-- nothing was sent
 abbrev pub IsVisit : Option Visit → Option Guest → List ℕ → Type 0
 IsVisit None None sent = sent ≡ []
 IsVisit (Some v) (Some g) sent = Story v.begun.config v.begun.now v.past g sent

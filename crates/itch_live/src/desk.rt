@@ -1,4 +1,4 @@
-//! A follower and its clients.
+//! A follower of a feed, with its clients.
 ghost use Rattle.std.specs.Prelude.{◌≡◌, ℕ, ◌≤◌, ◌-◌, ◌^◌, None, IfOk, OnOk, OnErr, true, length, min, option_map, replicate, slice_set};
 ghost use Rattle.std.specs.Option.{option_copied};
 ghost use Rattle.std.specs.List.{list_any};
@@ -22,10 +22,10 @@ use std::alloc::{AllocError, Allocator};
 use std::marker::Model;
 use std::rc::Rc;
 
-/// A live server without its sockets: a feed that is followed, and a number of places for clients.
+/// A live server without its sockets: it follows a feed, and has a fixed number of places for clients.
 ///
-/// A caller hands in the bytes that come, writes [`Desk::pending`] as far as each socket takes it, and says by [`Desk::took`] how
-/// much that was. What is done for one client changes nothing of any other.
+/// The caller passes in the bytes that arrive, writes [`Desk::pending`] as far as each socket accepts it, and calls [`Desk::took`] with the
+/// number of bytes written. A call for one client does not affect the others.
 #[derive(Drop)]
 pub struct Desk<B: OrderBook> {
     alloc: B::Alloc,
@@ -46,8 +46,12 @@ impl<B: OrderBook> Model for Desk<B> {
 }
 
 impl<B: OrderBook> Desk<B> {
-    /// A desk with this many places, all of them free. The memory of the places is taken here, that of a client in
-    /// [`Desk::admit`].
+    /// Creates a desk with this number of places, all of them free. The memory of the places is allocated here; [`Desk::admit`] allocates the
+    /// memory of a client.
+    ///
+    /// # Errors
+    ///
+    /// [`AllocError`] if there is no memory for the places.
     pub fn new(
         alloc: B::Alloc,
         follower: Follower<B>,
@@ -62,14 +66,14 @@ impl<B: OrderBook> Desk<B> {
         })
     }
 
-    /// What follows the feed.
+    /// Returns the follower of the feed.
     pub fn follower(&self) -> &Follower<B>
         ensures { result.now ≡ self.now.following }
     {
         &self.follower
     }
 
-    /// What follows the feed, to connect it, and to hand it what the feed sends.
+    /// Returns the follower of the feed, to connect it and to pass in the bytes that the feed sends.
     pub fn follower_mut(&mut self) -> &mut Follower<B>
         ensures* writes_back { sem 𝓛 (Lends (the_row B.row B.Alloc.row B.OrderBook B.Alloc.Allocator) (follower_row B.row B.Alloc.row B.OrderBook B.Alloc.Allocator) self.entry result (λ w. record self.old { following = w })) }
         ensures value { result.now ≡ self.old.following }
@@ -77,8 +81,12 @@ impl<B: OrderBook> Desk<B> {
         &mut self.follower
     }
 
-    /// Gives a client that has connected a free place, where its login will be judged by this configuration, and returns its number;
-    /// `None` where there is none.
+    /// Gives a new client a free place and returns its number, or `None` if all places are taken. The client's login will be judged by this
+    /// configuration.
+    ///
+    /// # Errors
+    ///
+    /// [`AllocError`] if there is no memory for the client. Nothing changes then.
     pub fn admit(&mut self, config: ServerConfig, now_ms: u64) -> Result<Option<usize>, AllocError>
         ensures accepts { desks.Accepts config self.old now_ms result self.new }
         ensures refused { OnErr result ((place : ℕ) × places.IsFree self.old.seats place) }
@@ -91,7 +99,8 @@ impl<B: OrderBook> Desk<B> {
         Ok(Some(place))
     }
 
-    /// Takes bytes of the client at a place, as [`Guest::hear`] does. Where there is none, all are passed over.
+    /// Passes in bytes from the client at a place and returns how many were consumed, as [`Guest::hear`] does. If the place is free, all
+    /// bytes are ignored.
     pub fn hear(&mut self, place: usize, piece: &[u8], now_ms: u64) -> usize
         ensures seats { places.HearsAt self.old.seats place piece.now now_ms result self.new.seats }
         ensures rest { self.new ≡ record self.old { seats = self.new.seats } }
@@ -99,10 +108,16 @@ impl<B: OrderBook> Desk<B> {
         hear_at(&mut self.seats, place, piece, now_ms)
     }
 
-    /// Answers all who wait with the snapshot of the present market, once there is one. It is encoded once for all clients that
-    /// are sent it, and kept while one of them has its place. All that are kept may have `limit` bytes together: where this one
-    /// might exceed that, it is not encoded, and they go on waiting; but one is always encoded where none is kept. It may be called
-    /// again after an error: then some were answered, and the others still wait.
+    /// Answers all waiting clients with the snapshot of the current market, if there is one yet. The snapshot is encoded once for all clients
+    /// that receive it, and kept while one of them has its place.
+    ///
+    /// All kept snapshots together may have `limit` bytes. If a new one could exceed this limit, it is not encoded, and the clients continue
+    /// to wait. If no snapshot is kept, one is encoded regardless of the limit.
+    ///
+    /// # Errors
+    ///
+    /// [`AllocError`] if there is no memory for the snapshot. Some of the clients may have been answered then; the others continue to wait,
+    /// and the call can be repeated.
     pub fn answer(&mut self, limit: u64, now_ms: u64) -> Result<(), AllocError>
         ensures after { (count : ℕ) × OnOk result (length self.old.seats ≤ count) × (self.new ≡ desks.answered self.old limit count now_ms) }
         ensures refused { OnErr result (list_any places.waits self.old.seats ≡ true) }
@@ -113,7 +128,7 @@ impl<B: OrderBook> Desk<B> {
         let (Some(next), Some(market)) = (self.follower.next(), self.follower.market()) else {
             return Ok(());
         };
-        // No End of Snapshot has a number that is none; the joiner does not say so.
+        // No End of Snapshot can contain a number outside the range of `Seq`. The joiner's contract does not exclude one.
         let Some(next) = Seq::new(next) else {
             return Err(AllocError);
         };
@@ -121,14 +136,14 @@ impl<B: OrderBook> Desk<B> {
         hand_in(&mut self.seats, shot, next.value(), now_ms)
     }
 
-    /// The bytes of the snapshots that are kept for clients, each of them once; no more than a `u64` holds.
+    /// Returns the total size in bytes of the snapshots that are kept for clients. Each is counted once. The result is at most `u64::MAX`.
     pub fn snapshot_bytes(&self) -> u64
         ensures { result ≡ min (kept.snapshot_bytes self.now.seats) (2 ^ 64 - 1) }
     {
         snapshot_bytes(&self.seats)
     }
 
-    /// What is still to be written to the client at a place.
+    /// Returns the bytes still to be written to the client at a place; none if the place is free.
     pub fn pending(&self, place: usize) -> &[u8]
         ensures { result.now ≡ places.pending_of (places.guest_at self.now.seats place) }
     {
@@ -138,7 +153,7 @@ impl<B: OrderBook> Desk<B> {
         }
     }
 
-    /// Takes note that the socket of the client at a place took the first `count` of the pending bytes at this moment.
+    /// Records that the socket of the client at a place accepted the first `count` of the pending bytes at this time.
     pub fn took(&mut self, place: usize, count: usize, now_ms: u64)
         requires { count ≤ length (places.pending_of (places.guest_at self.old.seats place)) }
         ensures { self.new ≡ record self.old { seats = places.took_at self.old.seats place count now_ms } }
@@ -146,14 +161,14 @@ impl<B: OrderBook> Desk<B> {
         took_at(&mut self.seats, place, count, now_ms)
     }
 
-    /// Takes note of the moment: a client that has not moved on for 15 seconds is cut off, as [`Guest::tick`] says.
+    /// Checks the timeouts of all clients at this time. A client without progress for 15 seconds is disconnected; see [`Guest::tick`].
     pub fn tick(&mut self, now_ms: u64)
         ensures { self.new ≡ record self.old { seats = places.ticked now_ms self.old.seats } }
     {
         tick_all(&mut self.seats, now_ms)
     }
 
-    /// Frees a place, as is to be done once the connection of its client is closed.
+    /// Frees a place. Call this once the connection of its client is closed.
     pub fn leave(&mut self, place: usize)
         ensures { self.new ≡ record self.old { seats = slice_set self.old.seats place None } }
     {
@@ -162,7 +177,7 @@ impl<B: OrderBook> Desk<B> {
         }
     }
 
-    /// The client at a place: whether its connection is closing, or is to be closed.
+    /// Returns the client at a place, if there is one. The client reports whether its connection is closing, or must be closed.
     pub fn guest(&self, place: usize) -> Option<&Guest<B::Alloc>>
         ensures { option_copied result ≡ places.guest_at self.now.seats place }
     {
@@ -170,7 +185,8 @@ impl<B: OrderBook> Desk<B> {
     }
 }
 
-// The snapshot to hand in: that of this number which is kept, or else one of this market; none where there is no room for it.
+// Returns the snapshot for the waiting clients: the kept one with this number, or else a new one of this market. Returns `None` if there is
+// no room for a new one.
 fn shot_for<B: OrderBook>(
     alloc: B::Alloc,
     limit: u64,
@@ -190,7 +206,7 @@ fn shot_for<B: OrderBook>(
     Ok(Some(Rc::new(alloc, bytes)?))
 }
 
-// Free places for this many clients.
+// Returns this number of free places.
 fn free_places<A: Allocator>(alloc: A, count: usize) -> Result<Vec<Seat<A>, A>, AllocError>
     ensures { IfOk result (λ seats. seats.items ≡ replicate count None) }
 {

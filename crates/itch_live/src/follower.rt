@@ -1,4 +1,4 @@
-//! The feed of a live server.
+//! The feed side of a live server.
 ghost use Rattle.std.specs.Prelude.{◌≡◌, IfOk, option_map};
 ghost use Rattle.std.specs.Option.{option_copied};
 ghost use Rattle.itch_day.specs.Sinks.{Decodes};
@@ -20,9 +20,9 @@ use std::marker::Model;
 
 /// Keeps the market of a feed, over any number of connections to its server.
 ///
-/// A feed that is lost is asked again for the next message, in the same session: another day's has other messages under the same
-/// numbers, so of a server that accepts a login in another name nothing is taken. The session is known beforehand, or is the one
-/// that the first acceptance names, whether it is the feed's or that of a server of snapshots.
+/// After a lost connection, the next one asks for the next message in the same session. Another day's session has different messages under
+/// the same numbers. For this reason, nothing is taken from a server that accepts a login under another session name. The session is known in
+/// advance, or is the one named in the first Login Accepted packet, whether it comes from the feed or from a snapshot server.
 #[derive(Drop)]
 pub struct Follower<B: OrderBook> {
     sessions: Sessions,
@@ -45,8 +45,12 @@ impl<B: OrderBook> Model for Follower<B> {
 }
 
 impl<B: OrderBook> Follower<B> {
-    /// Follows a feed with this joiner, which may have a snapshot already, and with the sessions that are known beforehand. A
-    /// connection is begun by [`Follower::connect`], which asks for the session of the credentials while none is known.
+    /// Creates a follower with this joiner, which may have a snapshot already, and with the sessions that are known in advance.
+    /// [`Follower::connect`] begins a connection; while no session is known, it asks for the session of the credentials.
+    ///
+    /// # Errors
+    ///
+    /// [`AllocError`] if there is no memory for a packet.
     pub fn new(
         alloc: B::Alloc,
         credentials: Credentials,
@@ -65,9 +69,9 @@ impl<B: OrderBook> Follower<B> {
         })
     }
 
-    /// Begins a connection at this moment with these credentials, and returns the login to send, without the length in front. While there is no
-    /// market it asks for the whole of a snapshot, which is read from its beginning, and from then on for the messages of the
-    /// feed from the next number on.
+    /// Begins a connection at this time with these credentials, and returns the login packet to send, without its two bytes of length. While
+    /// there is no market, the login asks for a complete snapshot, from its first message on. Afterwards it asks for the messages of the feed
+    /// from the next number on.
     pub fn connect(&mut self, credentials: Credentials, now_ms: u64) -> [u8; 47]
         ensures after { self.new ≡ follows.connected self.old credentials now_ms }
         ensures login { result ≡ packet_spelling (Packet.LoginRequest (login_of self.new.session)) }
@@ -84,8 +88,8 @@ impl<B: OrderBook> Follower<B> {
         self.session.login()
     }
 
-    /// Takes bytes of the feed, up to the end of the packet at hand, and returns how many, and what they brought. A message
-    /// that is taken is written to `record`.
+    /// Passes in bytes of the feed, up to the end of the current packet. Returns how many were consumed, and their outcome. A message that is
+    /// applied is also written to `record`.
     pub fn hear<W: CountedWrite>(
         &mut self,
         piece: &[u8],
@@ -111,7 +115,7 @@ impl<B: OrderBook> Follower<B> {
         (count, news)
     }
 
-    /// Takes the message of the feed with this number from its record, which has it already.
+    /// Applies the message of the feed with this number, which is read from the record and so is not recorded again.
     pub fn replay(
         &mut self,
         number: u64,
@@ -124,7 +128,7 @@ impl<B: OrderBook> Follower<B> {
         self.joiner.live_decoded(number, payload, message)
     }
 
-    /// What is to be sent, or done, at this moment.
+    /// Returns the action that is due at this time towards the server.
     pub fn tick(&mut self, now_ms: u64) -> Tick
         ensures answer { result ≡ tick_answer self.old.session.connection now_ms }
         ensures after { self.new ≡ follows.ticked self.old now_ms }
@@ -132,21 +136,21 @@ impl<B: OrderBook> Follower<B> {
         self.session.tick(now_ms)
     }
 
-    /// The feed's session, once it is known.
+    /// Returns the feed's session, if it is known.
     pub fn session(&self) -> Option<Alpha<10>>
         ensures { result ≡ self.now.sessions.feed }
     {
         self.sessions.feed
     }
 
-    /// The number of the next message, once there is a market.
+    /// Returns the number of the next message, if there is a market.
     pub fn next(&self) -> Option<u64>
         ensures { result ≡ option_map (λ j. j.next) self.now.joining.state.joined }
     {
         self.joiner.next()
     }
 
-    /// The market of the messages before the next one, once there is one.
+    /// Returns the market after all messages before the next one, if there is a market.
     pub fn market(&self) -> Option<&Market<B>>
         ensures { option_copied result ≡ option_map (λ j. j.market) self.now.joining.state.joined }
     {
@@ -154,7 +158,7 @@ impl<B: OrderBook> Follower<B> {
     }
 }
 
-// What a connection logs in with, where this session is expected.
+// Returns these credentials with the expected session, if there is one.
 fn asking(credentials: Credentials, expected: Option<Alpha<10>>) -> Credentials
     ensures { result ≡ follows.asking credentials expected }
 {
@@ -168,7 +172,7 @@ fn asking(credentials: Credentials, expected: Option<Alpha<10>>) -> Credentials
     }
 }
 
-// The session that a packet names where it accepts a login.
+// Returns the session named by a packet, if it is a Login Accepted packet.
 fn named_in(packet: &Packet<'_>) -> Option<Alpha<10>>
     ensures { result ≡ follows.named_in packet.now }
 {
@@ -178,7 +182,7 @@ fn named_in(packet: &Packet<'_>) -> Option<Alpha<10>>
     }
 }
 
-// The same, where the login was to be accepted.
+// Returns the named session if the protocol allowed an acceptance at this point.
 fn accepted_as(act: &ClientAct<'_>, named: Option<Alpha<10>>) -> Option<Alpha<10>>
     ensures { result ≡ follows.accepted_as act.now named }
 {
@@ -188,7 +192,7 @@ fn accepted_as(act: &ClientAct<'_>, named: Option<Alpha<10>>) -> Option<Alpha<10
     }
 }
 
-// Closes the session of a connection that is this other session's: whatever comes later in it is a fault.
+// Closes the session of a connection if it belongs to another session. Any later packet on it is a fault.
 fn shut_if(other: Option<Alpha<10>>, session: &mut ClientSession, news: News, now_ms: u64) -> News
     ensures news { result ≡ follows.news_or other news }
     ensures session { session.new ≡ follows.shut_if other session.old now_ms }
@@ -202,7 +206,7 @@ fn shut_if(other: Option<Alpha<10>>, session: &mut ClientSession, news: News, no
     }
 }
 
-// Takes the packet of a payload, and returns what it brought.
+// Handles the packet of a payload, and returns the outcome.
 fn hear_packet<B: OrderBook, W: CountedWrite>(
     session: &mut ClientSession,
     joiner: &mut Joiner<B>,
@@ -228,7 +232,7 @@ fn hear_packet<B: OrderBook, W: CountedWrite>(
     }
 }
 
-// Does what a packet means.
+// Acts on the meaning of a packet.
 fn act_on<B: OrderBook, W: CountedWrite>(
     act: ClientAct<'_>,
     joiner: &mut Joiner<B>,
@@ -250,7 +254,7 @@ fn act_on<B: OrderBook, W: CountedWrite>(
     }
 }
 
-// Delivers a message of the snapshot.
+// Delivers a message of the snapshot to the joiner.
 fn take_snapshot<B: OrderBook>(joiner: &mut Joiner<B>, payload: &[u8]) -> News
     ensures { follows.TakesSnapshot joiner.old payload.now result joiner.new }
 {
@@ -261,7 +265,7 @@ fn take_snapshot<B: OrderBook>(joiner: &mut Joiner<B>, payload: &[u8]) -> News
     }
 }
 
-// Delivers a message of the feed, and records it where it is applied.
+// Delivers a message of the feed to the joiner, and records it if it is applied.
 fn take_live<B: OrderBook, W: CountedWrite>(
     joiner: &mut Joiner<B>,
     number: u64,

@@ -1,12 +1,12 @@
-//! Why a client is gone.
+//! The reasons why a client is gone.
 
-/// Why a client is gone. Of several reasons the first one counts.
+/// The reason why a client is gone. If there are several, the first one counts.
 #[derive(Clone, Copy, Debug, PartialEq, Eq)]
 pub enum Gone {
-    /// It logged out (SoupBinTCP 3.00), or a caller took note that it is gone.
+    /// The client sent a Logout Request (SoupBinTCP 3.00), or the caller reported that it is gone.
     Left,
-    /// It broke the protocol: it sent what is no packet, or what a client may not send then.
+    /// The client broke the protocol: it sent an invalid packet, or a packet that a client may not send at that point.
     Fault,
-    /// It was cut off, since it had not moved on for 15 seconds.
+    /// The client was disconnected because it made no progress for 15 seconds.
     Silent,
 }

@@ -16,20 +16,20 @@ use itch_soup::{
 use std::alloc::{AllocError, Allocator};
 use std::marker::Model;
 
-/// A client that does not move on for so long is cut off.
+/// A client without progress for this long is disconnected.
 const SILENCE_MS: u64 = 15_000;
 
-/// A server that has sent nothing for longer sends a heartbeat.
+/// A server that has been silent for longer than this sends a heartbeat.
 const IDLE_MS: u64 = 1_000;
 
-/// So many bytes taken, or all that are left, are moving on.
+/// Accepting this many bytes, or all remaining ones, counts as progress.
 const SHARE: usize = 65_536;
 
-/// One client of a live server: what it has said, and what it is told.
+/// One client of a live server: what it has sent, and what it is to receive.
 ///
-/// Its login is judged as at a server that has no message yet: it has to ask for all of them. It is accepted or rejected at once. An
-/// accepted one waits until [`Guest::answer`] hands in the snapshot, and meanwhile is sent a heartbeat a second. The memory of a
-/// guest is what [`Guest::new`] takes, and its share of that snapshot.
+/// Its login is judged as if the server had no messages yet: it must ask for all of them. The login is accepted or rejected at once. An
+/// accepted client waits until [`Guest::answer`] passes in the snapshot, and receives one heartbeat per second meanwhile. The memory of a
+/// guest is the memory allocated by [`Guest::new`], and its share of that snapshot.
 #[derive(Drop)]
 pub struct Guest<A: Allocator> {
     splitter: Splitter<A>,
@@ -56,7 +56,11 @@ impl<A: Allocator> Model for Guest<A> {
 }
 
 impl<A: Allocator> Guest<A> {
-    /// A client that has connected at this moment, in milliseconds. All its own memory is taken here.
+    /// Creates a client that has connected at this time, in milliseconds. All its own memory is allocated here.
+    ///
+    /// # Errors
+    ///
+    /// [`AllocError`] if there is no memory for a packet.
     pub fn new(alloc: A, config: ServerConfig, now_ms: u64) -> Result<Guest<A>, AllocError>
         ensures { IfOk result (λ g. g ≡ guests.new_guest config now_ms) }
     {
@@ -76,9 +80,9 @@ impl<A: Allocator> Guest<A> {
 }
 
 impl<A: Allocator> Guest<A> {
-    /// Takes bytes that have come at this moment, up to the end of the packet at hand, and returns how many.
+    /// Passes in bytes that have arrived at this time, up to the end of the current packet, and returns how many were consumed.
     ///
-    /// Of a client that is gone, was refused, or has all that it is told, all bytes are passed over.
+    /// Bytes from a client that is gone, was rejected or has received everything are ignored: all of them count as consumed.
     pub fn hear(&mut self, piece: &[u8], now_ms: u64) -> usize
         ensures { guests.Hears self.old piece.now now_ms result self.new }
     {
@@ -97,7 +101,7 @@ impl<A: Allocator> Guest<A> {
         count
     }
 
-    // When it last moved on, where it says something at this moment.
+    // Returns the time of its last progress, if it sends a packet at this time.
     fn moved_by_words(&self, now_ms: u64) -> u64
         ensures { result ≡ guests.moved_by_words self.now now_ms }
     {
@@ -129,7 +133,7 @@ impl<A: Allocator> Guest<A> {
         }
     }
 
-    // This packet waits for the client's socket, before anything else.
+    // Queues this packet for the client's socket, ahead of everything else.
     fn note(&mut self, packet: &[u8], now_ms: u64)
         requires fits { length packet.now ≤ 31 }
         requires open { self.old.rejection ≡ None }
@@ -139,21 +143,22 @@ impl<A: Allocator> Guest<A> {
         self.sent = now_ms;
     }
 
-    /// Whether a login was accepted, and the client is not gone.
+    /// Returns whether a login was accepted and the client is not gone.
     pub fn is_accepted(&self) -> bool
         ensures { result ≡ guests.is_accepted self.now }
     {
         self.login.is_accepted() && !self.is_gone()
     }
 
-    /// Whether a login was accepted, and its snapshot is not there yet.
+    /// Returns whether a login was accepted and its snapshot has not been passed in yet.
     pub fn is_waiting(&self) -> bool
         ensures { result ≡ guests.is_waiting self.now }
     {
         self.login.is_accepted() && matches!(self.told, Told::Nothing) && !self.is_gone()
     }
 
-    /// Hands in the bytes that answer the login, at this moment: the snapshot of the market before the message of number `next`.
+    /// Passes in the snapshot that answers the login, at this time: the bytes of the snapshot of the market before the message with number
+    /// `next`.
     pub fn answer(&mut self, shot: Shot<A>, next: u64, now_ms: u64)
         requires { guests.is_waiting self.old ≡ true }
         ensures { self.new ≡ guests.answered self.old shot.value.items next now_ms }
@@ -162,7 +167,7 @@ impl<A: Allocator> Guest<A> {
         self.moved = now_ms;
     }
 
-    /// What is still to be written to the client next. There may be more once it has taken that.
+    /// Returns the bytes to be written to the client next. There may be more after them.
     pub fn pending(&self) -> &[u8]
         ensures { result.now ≡ guests.pending self.now }
     {
@@ -175,7 +180,7 @@ impl<A: Allocator> Guest<A> {
         self.note.bytes()
     }
 
-    /// Takes note that the client's socket took the first `count` of the pending bytes at this moment.
+    /// Records that the client's socket accepted the first `count` of the pending bytes at this time.
     pub fn took(&mut self, count: usize, now_ms: u64)
         requires { count ≤ length (guests.pending self.old) }
         ensures { self.new ≡ guests.took self.old count now_ms }
@@ -195,12 +200,12 @@ impl<A: Allocator> Guest<A> {
         }
     }
 
-    /// Takes note of the moment: a client that has not moved on for 15 seconds is cut off, and one that waits for its snapshot is
-    /// sent a heartbeat where it was sent nothing for more than a second.
+    /// Checks the timeouts at this time. A client without progress for 15 seconds is disconnected. A client that waits for its snapshot and
+    /// was sent nothing for more than a second is sent a heartbeat.
     ///
-    /// Until it has logged in, it moves on by each packet that it sends. While it waits, it is cut off only if its socket takes
-    /// nothing of its acceptance or of a heartbeat for so long. Of the snapshot, it moves on by each 65,536 bytes that its socket
-    /// takes, and by the last one.
+    /// Until the login is accepted, each packet from the client is progress. A waiting client is disconnected only if its socket accepts
+    /// nothing of the Login Accepted packet or of a heartbeat for 15 seconds. After that, progress means that the socket accepted another
+    /// 65,536 bytes of the snapshot, or its last byte.
     pub fn tick(&mut self, now_ms: u64)
         ensures { self.new ≡ guests.ticked self.old now_ms }
     {
@@ -212,28 +217,28 @@ impl<A: Allocator> Guest<A> {
         }
     }
 
-    // Whether it waits, and took all that it was told so far.
+    // Returns whether it waits, and its socket has accepted everything sent so far.
     fn is_patient(&self) -> bool
         ensures { result ≡ guests.is_patient self.now }
     {
         self.is_waiting() && self.note.is_empty()
     }
 
-    // Whether a heartbeat is due.
+    // Returns whether a heartbeat is due.
     fn is_idle(&self, now_ms: u64) -> bool
         ensures { result ≡ guests.is_idle self.now now_ms }
     {
         self.note.is_empty() && self.is_waiting() && now_ms.saturating_sub(self.sent) > IDLE_MS
     }
 
-    /// Takes note that the client is gone: it has left, unless it was gone before.
+    /// Records that the client is gone. The reason is [`Gone::Left`], unless it was gone before.
     pub fn leave(&mut self)
         ensures { self.new ≡ guests.left self.old }
     {
         self.go(Gone::Left);
     }
 
-    // The client is gone, for this reason unless it was gone before.
+    // Marks the client as gone for this reason, unless it was gone before.
     fn go(&mut self, reason: Gone)
         ensures { self.new ≡ guests.gone_for reason self.old }
     {
@@ -242,30 +247,30 @@ impl<A: Allocator> Guest<A> {
         }
     }
 
-    /// Whether the client has all that it is told: the sending half of its connection is to be shut down, and what it still
-    /// sends to be read, until it closes its own or [`Guest::is_gone`].
+    /// Returns whether the client has received everything. The caller then shuts down the sending half of the connection, and continues to
+    /// read until the client closes its half or [`Guest::is_gone`].
     pub fn is_closing(&self) -> bool
         ensures { result ≡ guests.is_closing self.now }
     {
         !self.is_gone() && self.has_all()
     }
 
-    /// Whether the client is gone: its connection is to be closed.
+    /// Returns whether the client is gone. The caller then closes its connection.
     pub fn is_gone(&self) -> bool
         ensures { result ≡ guests.is_gone self.now }
     {
         self.why_gone().is_some()
     }
 
-    /// Why the client is gone, if it is: the first reason that there was.
+    /// Returns why the client is gone, if it is: the first reason that occurred.
     pub fn why_gone(&self) -> Option<Gone>
         ensures { result ≡ self.now.gone }
     {
         self.gone
     }
 
-    /// The code of the Login Rejected packet (SoupBinTCP 3.00) that the client is told, if its login was rejected: `A` where it is
-    /// not authorised, and `S` where what it asks for is not available.
+    /// Returns the code of the Login Rejected packet (SoupBinTCP 3.00) for the client, if its login was rejected: `A` if it is not
+    /// authorised, `S` if the requested session or message is not available.
     pub fn rejection_code(&self) -> Option<u8>
         ensures code { result ≡ self.now.rejection }
         ensures told { guests.IsOneRefusal result self.now.notes }
@@ -273,14 +278,14 @@ impl<A: Allocator> Guest<A> {
         self.login.rejection()
     }
 
-    /// The number of the next message at which the snapshot that the client is sent was encoded.
+    /// Returns the number of the next message at which the client's snapshot was encoded.
     pub fn snapshot(&self) -> Option<u64>
         ensures { result ≡ self.now.snapshot }
     {
         self.told.snapshot()
     }
 
-    /// The snapshot that the client is sent, if it is that of this number.
+    /// Returns the client's snapshot, if it has this number.
     pub(crate) fn shot(&self, number: u64) -> Option<&Shot<A>>
         ensures { option_map (λ shot. shot.value.items) (option_copied result) ≡ guests.shot_in self.now.snapshot self.now.told number }
     {
@@ -293,14 +298,14 @@ impl<A: Allocator> Guest<A> {
         self.note.is_empty() && self.is_last()
     }
 
-    // Whether what the client says no longer matters.
+    // Returns whether bytes from the client are ignored.
     fn is_deaf(&self) -> bool
         ensures { result ≡ guests.is_deaf self.now }
     {
         self.is_gone() || self.login.rejection().is_some() || self.has_all()
     }
 
-    // Whether nothing more is told after the notes.
+    // Returns whether nothing follows the queued packet.
     fn is_last(&self) -> bool
         ensures { result ≡ guests.is_last self.now }
     {
@@ -309,7 +314,7 @@ impl<A: Allocator> Guest<A> {
     }
 }
 
-/// What the session answers to a payload, and the login that this is.
+/// Returns the answer of the session to a payload, and its login, if it is a Login Request.
 pub(crate) fn hear_payload(
     session: &mut ServerSession,
     payload: &[u8],
@@ -326,7 +331,7 @@ pub(crate) fn hear_payload(
     }
 }
 
-// The login that a packet is.
+// Returns the login of a packet, if it is a Login Request.
 fn login_in(packet: &Packet<'_>) -> Option<LoginRequest>
     ensures { result ≡ guests.login_in packet.now }
 {

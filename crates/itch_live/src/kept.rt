@@ -9,7 +9,7 @@ use itch_book::OrderBook;
 use itch_market::Market;
 use std::alloc::Allocator;
 
-/// The number of the next message at which the snapshot of the client at a place was encoded.
+/// Returns the number of the next message at which the snapshot of the client at a place was encoded.
 fn number_of<A: Allocator>(seat: &Seat<A>) -> Option<u64>
     ensures { result ≡ kept.number_of seat.now }
 {
@@ -19,7 +19,7 @@ fn number_of<A: Allocator>(seat: &Seat<A>) -> Option<u64>
     }
 }
 
-/// The snapshot of the client at a place, if it is that of this number.
+/// Returns the snapshot of the client at a place, if it has this number.
 fn shot_at<A: Allocator>(seat: &Seat<A>, number: u64) -> Option<&Shot<A>>
     ensures { option_map (λ shot. shot.value.items) (option_copied result) ≡ kept.bytes_at seat.now number }
 {
@@ -29,7 +29,7 @@ fn shot_at<A: Allocator>(seat: &Seat<A>, number: u64) -> Option<&Shot<A>>
     }
 }
 
-/// The snapshot of this number, if it is kept for a client.
+/// Returns the snapshot with this number, if it is kept for a client.
 pub(crate) fn kept_shot<A: Allocator>(seats: &[Seat<A>], number: u64) -> Option<&Shot<A>>
     ensures { option_map (λ shot. shot.value.items) (option_copied result) ≡ kept.kept_bytes seats.now number }
 {
@@ -41,7 +41,7 @@ pub(crate) fn kept_shot<A: Allocator>(seats: &[Seat<A>], number: u64) -> Option<
     None
 }
 
-/// Whether the snapshot of a market may be encoded, where all that are kept may have `limit` bytes together.
+/// Returns whether the snapshot of a market may be encoded, with a limit of `limit` bytes for all kept snapshots together.
 pub(crate) fn has_room<B: OrderBook>(
     limit: u64,
     seats: &[Seat<B::Alloc>],
@@ -52,15 +52,15 @@ pub(crate) fn has_room<B: OrderBook>(
     fits(limit, snapshot_bytes(seats), longest_snapshot(market))
 }
 
-/// Whether so many bytes may be added to those in use: all are within the limit, or none are in use. So a market whose snapshot is
-/// larger than the limit is served too.
+/// Returns whether `more` bytes may be added to those in use: either the total is within the limit, or none are in use. The second case lets
+/// a market be served whose snapshot is larger than the limit.
 fn fits(limit: u64, used: u64, more: u64) -> bool
     ensures { result ≡ kept.fits limit used more }
 {
     used == 0 || u128::from(used) + u128::from(more) <= u128::from(limit)
 }
 
-/// The bytes of the snapshots that are kept, each of them once; no more than a `u64` holds.
+/// Returns the total size in bytes of the kept snapshots. Each is counted once. The result is at most `u64::MAX`.
 pub(crate) fn snapshot_bytes<A: Allocator>(seats: &[Seat<A>]) -> u64
     ensures { result ≡ min (kept.snapshot_bytes seats.now) (2 ^ 64 - 1) }
 {
@@ -73,7 +73,7 @@ pub(crate) fn snapshot_bytes<A: Allocator>(seats: &[Seat<A>]) -> u64
     total
 }
 
-// The number of the snapshot of the client at a place, if it is kept for none of the others.
+// Returns the number of the snapshot of the client at a place, if it is kept for none of the others.
 fn number_alone<A: Allocator>(seat: &Seat<A>, others: &[Seat<A>]) -> Option<u64>
     ensures { result ≡ kept.number_alone (kept.number_of seat.now) others.now }
 {
@@ -84,7 +84,7 @@ fn number_alone<A: Allocator>(seat: &Seat<A>, others: &[Seat<A>]) -> Option<u64>
     }
 }
 
-// How many bytes the snapshot of this number has, if it is kept.
+// Returns the size in bytes of the snapshot with this number, or 0 if it is not kept.
 fn bytes_under<A: Allocator>(seats: &[Seat<A>], number: Option<u64>) -> u64
     ensures { result ≡ kept.bytes_under seats.now number }
 {
@@ -97,7 +97,7 @@ fn bytes_under<A: Allocator>(seats: &[Seat<A>], number: Option<u64>) -> u64
     }
 }
 
-// Whether a snapshot is kept for a client, and for none of the others.
+// Returns whether a snapshot is kept for a client, and for none of the others.
 fn keeps_alone<A: Allocator>(seat: &Seat<A>, others: &[Seat<A>]) -> bool
     ensures { result ≡ kept.keeps_alone (kept.number_of seat.now) others.now }
 {

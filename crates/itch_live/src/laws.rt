@@ -1,7 +1,7 @@
-//! What holds of every client of a live server, of its feed and of its record.
+//! The laws of a live server: of each client, of the feed and of the record.
 //!
-//! Each function here does nothing: its clauses are the laws, over every list of calls. They do not say that a peer sends or takes
-//! anything, that it is served before another one, or how long anything takes.
+//! Each function here does nothing; its clauses are the laws. They hold for every sequence of calls. They do not say that a peer sends or
+//! accepts anything, that a client is served before another one, or how long anything takes.
 ghost use Rattle.std.specs.Prelude.{◌≡◌, ℕ, ◌+◌, ◌-◌, ◌*◌, ◌≤◌, List, ◌∷◌, ◌++◌, true, length, max, take, Some};
 ghost use Rattle.std.specs.List.{AllByRecursion};
 ghost use Rattle.itch_codec.specs.Fields.{AreBytes};
@@ -33,24 +33,23 @@ ghost use Rattle.itch_live.specs.Plays as plays;
 
 use itch_frame::CountedWrite;
 
-/// Whatever happens to a client, in whatever order, and however little its socket takes at a time: what it was sent is the
-/// beginning of nothing, of the rejection of its login, or of its acceptance, heartbeats, and then exactly one snapshot of one
-/// market, which was handed in after the login had come, with the end of the session. No heartbeat comes after the snapshot has begun.
+/// Whatever happens to a client, in any order, and however few bytes its socket accepts at a time: the bytes sent to it are empty, or a
+/// prefix of the rejection of its login, or a prefix of its acceptance, heartbeats, exactly one snapshot of one market and the end of the
+/// session. That snapshot was passed in after the login had arrived. No heartbeat is sent after the snapshot has begun.
 #[tactic(auto, using(crate::proofs::Stories::sent_right))]
 pub fn sent_in_order()
     ensures { (config : ServerConfig) → (begun : ℕ) → (past : List Happening) → (g : Guest) → (sent : List ℕ) → Story config begun past g sent → IsSentRight config begun past sent }
 {}
 
-/// Over any number of connections to servers that send one feed and snapshots of it, cut into whatever pieces, and lost
-/// wherever: the joiner stands where the calls of this feed leave it, so the market is that of the feed's messages before the
-/// next one.
+/// Over any number of connections to servers that send one feed and snapshots of it, in pieces of any size, and lost at any point: the
+/// joiner's state is the one that the calls of this feed lead to, so the market is the result of the feed's messages before the next one.
 pub fn market_of_the_feed<W: CountedWrite>()
     ensures { (set : Wanted) → (cap : ℕ) → (feed : List (List ℕ)) → (begun : Following) → (past : List (Did W)) → (f : Following) → AllByRecursion AreBytes feed
         → IsJoining set cap feed begun → Followed W.contents W.failures (rules_of (has set)) feed begun past f → StandsJoined set cap feed f }
 {}
 
-/// What becomes of a client at a desk, and what it is sent, is what would become of it alone: a call for another client is no
-/// part of its visit. And that alone decides what it is sent, at whichever desk and place.
+/// The state of a client at a desk, and the bytes sent to it, are the same as if it were alone: calls for other clients are not part of its
+/// visit. The visit alone determines the bytes sent, at any desk and any place.
 pub fn clients_apart<W: CountedWrite>()
     ensures alone { (begun : Following) → (past : List (Event W)) → (d : Desk) → (k : ℕ) → History W.contents W.failures begun past d
         → IsVisit (visit_at k past) (guest_at d.seats k) (sent_at k past) }
@@ -59,72 +58,72 @@ pub fn clients_apart<W: CountedWrite>()
         → visit_at k past ≡ visit_at i other → sent_at k past ≡ sent_at i other }
 {}
 
-/// Whoever waits is answered by the next [`Desk::answer`](crate::Desk::answer) that is refused no memory, once there is a market,
-/// if the snapshot of its number is kept, or there is room for one more in the bytes that are allowed: with the snapshot of the
-/// market of that moment. No other client can change that.
+/// The next successful call of [`Desk::answer`](crate::Desk::answer) answers each waiting client with the snapshot of the current market, if
+/// there is a market, and the snapshot with its number is kept or there is room for one more within the limit. No other client can change
+/// that.
 pub fn who_waits_is_answered<W: CountedWrite>()
     ensures { (begun : Following) → (past : List (Event W)) → (at : Event W) → (d : Desk) → (limit now count k : ℕ) → (j : Position) → (g : Guest)
         → History W.contents W.failures begun (at ∷ past) d → at.call ≡ Answers limit now count → length at.before.seats ≤ count → at.before.following.joining.state.joined ≡ Some j
         → HasRoom limit at.before j → guest_at at.before.seats k ≡ Some g → is_waiting g ≡ true → guest_at d.seats k ≡ Some (answered g (session_bytes j.market j.next) j.next now) }
 {}
 
-/// A client that waits goes on waiting until it is answered, whatever else happens: unless it logs out or breaks the protocol itself,
-/// its socket takes nothing of what it is told for 15 seconds, or its connection is given up.
+/// A waiting client continues to wait until it is answered, whatever else happens, unless it logs out, breaks the protocol, accepts none of
+/// the bytes sent to it for 15 seconds, or its connection is given up.
 pub fn waiting_goes_on()
     ensures { (config : ServerConfig) → (begun : ℕ) → (past : List Happening) → (g : Guest) → (sent : List ℕ) → (happening : Happening) → (h : Guest)
         → Story config begun past g sent → Becomes config g happening h → is_waiting g ≡ true → MayBecome g happening h }
 {}
 
-/// A client that was cut off for its silence was told a moment at which it had not moved on for 15 seconds, and did not wait for its
-/// snapshot or had not taken all that it was told so far.
+/// A client that was disconnected for silence had made no progress for 15 seconds at a time that was reported to it. At that time it was not
+/// waiting for its snapshot, or had not accepted all bytes sent to it so far.
 #[tactic(auto, using(crate::proofs::Fairness::cut_off))]
 pub fn only_the_silent_are_cut_off()
     ensures { (config : ServerConfig) → (begun : ℕ) → (past : List Happening) → (g : Guest) → (sent : List ℕ) → Story config begun past g sent → g.gone ≡ Some reason.Silent → IsCutOff config begun past }
 {}
 
-/// The same markets are answered with the same bytes: it is their snapshot lists alone that count, which are equal exactly if
-/// the markets are the same.
+/// Equal markets are answered with the same bytes. The bytes depend only on the snapshot list, and two lists are equal exactly if the markets
+/// are equal.
 #[tactic(auto, using(crate::proofs::Same::same_bytes))]
 pub fn same_answers()
     ensures { (m n : Content) → (next : ℕ) → snap m ≡ snap n → session_bytes m next ≡ session_bytes n next }
 {}
 
-/// A desk's market never goes back: what was there when a login came is in each snapshot that is handed in after it.
+/// A desk's market never goes back: the market at the time of a login is contained in each snapshot that is passed in later.
 pub fn market_goes_on<W: CountedWrite>()
     ensures { (begun : Following) → (later : List (Event W)) → (at : Event W) → (before : List (Event W)) → (d : Desk)
         → History W.contents W.failures begun (later ++ at ∷ before) d → GoesOn at.before.following.joining.state.joined d.following.joining.state.joined }
 {}
 
-/// Once the session of a desk's feed is known, it stays the same.
+/// The session of a desk's feed does not change once it is known.
 pub fn session_stays<W: CountedWrite>()
     ensures { (begun : Following) → (later : List (Event W)) → (at : Event W) → (before : List (Event W)) → (d : Desk) → (session : List ℕ)
         → History W.contents W.failures begun (later ++ at ∷ before) d → at.before.following.sessions.feed ≡ Some session → d.following.sessions.feed ≡ Some session }
 {}
 
-/// What follows a feed takes a message, and its market changes, only in a connection whose login a server has accepted in the name
-/// of the session that was expected of it: the feed's, or the name of its own that a server of snapshots was said to have.
+/// A follower takes a message, and its market changes, only on a connection whose login was accepted under the name of the expected session:
+/// the feed's, or the separate name that was configured for the snapshot server.
 pub fn taken_in_session<W: CountedWrite>()
     ensures { (begun : Following) → (past : List (Did W)) → (f g : Following) → (piece : List ℕ) → (now : ℕ) → (result : ℕ × News) → (old new : W) → begun.session.connection.stage ≡ stage.Before
         → Led W.contents W.failures begun past f → HearsFeed W.contents W.failures f piece now old result new g → (g.joining ≡ f.joining → ⊥) → IsInSession W.contents W.failures begun past f }
 {}
 
-/// A desk has the places that it was made with, so there are never more clients, nor more snapshots kept for them, than those.
+/// A desk keeps the number of places that it was created with. There are never more clients than places, nor more kept snapshots.
 pub fn places_stay<W: CountedWrite>()
     ensures { (begun : Following) → (later : List (Event W)) → (at : Event W) → (before : List (Event W)) → (d : Desk)
         → History W.contents W.failures begun (later ++ at ∷ before) d → length d.seats ≡ length at.before.seats }
 {}
 
-/// Where no message may wait out of order, and no write to the record fails, what is added to it are exactly the blocks of the
-/// feed's messages from the first one up to the one before the next, over any number of connections.
+/// If no message may wait out of order, and no write to the record fails, the bytes added to the record are exactly the blocks of the feed's
+/// messages from the first recorded one up to the one before the next, over any number of connections.
 pub fn record_of_the_feed<W: CountedWrite>()
     ensures { (set : Wanted) → (feed : List (List ℕ)) → (begun : Following) → (past : List (Did W)) → (f : Following) → (record_begun record_now : W) → AllByRecursion AreBytes feed
         → IsJoining set 0 feed begun → Followed W.contents W.failures (rules_of (has set)) feed begun past f → IsOneRecord record_begun past record_now
         → IsRecord W.contents feed begun past record_begun f record_now }
 {}
 
-/// One process after another may append to a record: one that begins where the record's messages end, which have come from the feed,
-/// leaves a record that has exactly the blocks of the feed's messages before its next one. Where it begins does not matter: with a
-/// snapshot of the feed and the messages of the record after it, or with all of these.
+/// Several processes may append to a record one after the other. A process that begins where the record's messages end, all of them from the
+/// feed, leaves a record of exactly the blocks of the feed's messages before its next one. It does not matter where the process begins: with
+/// a snapshot of the feed and the messages of the record after it, or with all messages of the record.
 pub fn record_goes_on<W: CountedWrite>()
     ensures { (set : Wanted) → (feed : List (List ℕ)) → (begun : Following) → (past : List (Did W)) → (f : Following) → (i j : Position) → (record_begun record_now : W) → AllByRecursion AreBytes feed
         → IsJoining set 0 feed begun → begun.joining.state.joined ≡ Some i → W.contents record_begun ≡ Some (blocks (take (i.next - 1) feed))
@@ -132,10 +131,10 @@ pub fn record_goes_on<W: CountedWrite>()
         → W.contents record_now ≡ Some (blocks (take (j.next - 1) feed)) }
 {}
 
-/// All of this of a desk whose follower is sent one feed: what the present client at a place was sent is the beginning of nothing, of
-/// the rejection of its login, or of its acceptance, heartbeats, and then the snapshot of the market after exactly the first n
-/// messages of the feed, the End of Snapshot with n + 1, and the end of the session, for an n at which the feed stood once this
-/// client's login had come.
+/// All of these laws together, for a desk whose follower receives one feed: the bytes sent to the current client at a place are empty, or a
+/// prefix of the rejection of its login, or a prefix of its acceptance, heartbeats, the snapshot of the market after exactly the first n
+/// messages of the feed, the End of Snapshot with n + 1, and the end of the session. The number n is the feed's position at some time after
+/// this client's login had arrived.
 pub fn snapshots_of_the_feed<W: CountedWrite>()
     ensures only { (set : Wanted) → (cap : ℕ) → (feed : List (List ℕ)) → (begun : Following) → (past : List (Event W)) → (d : Desk) → (k : ℕ)
         → AllByRecursion AreBytes feed → IsJoining set cap feed begun → History W.contents W.failures begun past d → AreHonest (rules_of (has set)) feed past
@@ -145,17 +144,17 @@ pub fn snapshots_of_the_feed<W: CountedWrite>()
         → AreHonest market_rules feed past → IsSentOfFeed market_rules feed k past (sent_at k past) }
 {}
 
-/// A desk keeps the snapshots that its clients are sent, by the numbers of the next messages at which they were encoded: one that is
-/// kept under the number of the present market is its snapshot.
+/// A desk keeps the snapshots that are being sent to clients, by the numbers of the next messages at which they were encoded. If one is kept
+/// under the number of the current market, it is the snapshot of that market.
 pub fn snapshots_kept<W: CountedWrite>()
     ensures { (begun : Following) → (past : List (Event W)) → (d : Desk) → (j : Position) → (bytes : List ℕ)
         → History W.contents W.failures begun past d → d.following.joining.state.joined ≡ Some j → kept_bytes d.seats j.next ≡ Some bytes → bytes ≡ session_bytes j.market j.next }
 {}
 
-/// What a desk holds beside the market of its feed and the words of its places: at most 65,537 bytes for the feed and for each
-/// place, and for all snapshots the largest number of bytes that a caller has allowed, or those of the longest snapshot that was
-/// handed in, if these are more. That one has at most 43 bytes for each of its messages, and 128 for the rest. All this holds where
-/// the markets and their numbers are what the types of these say.
+/// The memory of a desk, without the market of its feed and the fixed size of its places: at most 65,537 bytes for the feed and for each
+/// place, and for all snapshots together the largest limit that a caller has passed in, or the size of the longest snapshot that was passed
+/// in, whichever is more. That snapshot has at most 43 bytes per message, and 128 more. All this requires that the markets and their numbers
+/// satisfy the invariants of their types.
 pub fn memory_of_a_desk<W: CountedWrite>()
     ensures held { (begun : Following) → (past : List (Event W)) → (d : Desk) → AreOfMarkets past
         → History W.contents W.failures begun past d → held_bytes d ≤ most_bytes (length d.seats) (max (largest_limit past) (longest past)) }
@@ -163,11 +162,11 @@ pub fn memory_of_a_desk<W: CountedWrite>()
         → History W.contents W.failures begun past d → longest past ≤ 43 * most_messages past + 128 }
 {}
 
-/// Whatever happens to a client of a played feed, in whatever order, and however little its socket takes at a time: what it was
-/// sent is the beginning of nothing, of the rejection of its login, or of the acceptance of its login from the number on that it
-/// asked for, the packet of each message that was handed in, once and in order, heartbeats between packets alone, and, after
-/// all messages, the end of the session. Where each message that is handed in is the file's with the number that is wanted, they
-/// are exactly those of the file from the number on that was asked for.
+/// Whatever happens to a client of a played feed, in any order, and however few bytes its socket accepts at a time: the bytes sent to it are
+/// empty, or a prefix of the rejection of its login, or a prefix of the acceptance of its login from the requested number on, the packet of
+/// each message that was passed in, once and in order, heartbeats only between packets, and, after all messages, the end of the session. If
+/// each message passed in is the file's message with the requested number, they are exactly the messages of the file from the number in the
+/// login on.
 pub fn played_in_order()
     ensures order { (config : ServerConfig) → (total begun : ℕ) → (past : List plays.Event) → (p : Player) → plays.History config total begun past p → plays.IsSentRight config total past p }
     ensures file { (config : ServerConfig) → (total begun : ℕ) → (file : List (List ℕ)) → (past : List plays.Event) → (p : Player) → plays.History config total begun past p

@@ -1,17 +1,16 @@
-//! The core of a live server: a [`Desk`] keeps the present market of a feed, and hands a snapshot of it to each client that asks.
+//! The core of a live server: a [`Desk`] keeps the current market of a feed, and sends a snapshot of it to each client that logs in.
 //!
-//! A [`Follower`] is its side to the feed, over any number of connections, and a [`Guest`] is one client's session.
+//! A [`Follower`] is the feed side, over any number of connections, and a [`Guest`] is one client's session.
 //!
-//! Nothing here reads a clock or opens a socket. A caller hands in the bytes that came and the moment, writes what is pending
-//! as far as the socket takes it, and says how much that was. In what order it does so is its own affair: [`laws`] are of every
-//! order.
+//! Nothing here reads a clock or opens a socket. The caller passes in the bytes that arrive and the time, writes the pending bytes as far as
+//! the socket accepts them, and reports how many it wrote. The order of the calls is up to the caller: [`laws`] hold for every order.
 //!
-//! A [`Player`] is one client of a feed that a day file is played as: it is handed the file's messages, and sends them on as a live
-//! feed does.
+//! A [`Player`] is one client of a day file that is played as a feed: the caller passes in the file's messages, and the player sends them as
+//! a live feed does.
 //!
-//! Memory is that of the market, 65,537 bytes for the feed and for each client, and 43 bytes for each message of a snapshot that
-//! is being sent, plus 128, once for all who are sent the same one. All that are kept have at most as many bytes as [`Desk::answer`] is
-//! allowed, or there is one alone. That of a player is 65,537 bytes for what it hears, and 131,076 for what it sends.
+//! The memory is the memory of the market, 65,537 bytes for the feed and for each client, and for each snapshot that is being sent 43 bytes
+//! per message and 128 more. Clients that receive the same snapshot share it. All kept snapshots together are within the limit passed to
+//! [`Desk::answer`], or there is only one. A player has 65,537 bytes for input and 131,076 for output.
 #![tactic(auto)]
 
 mod desk;

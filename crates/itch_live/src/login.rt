@@ -1,22 +1,22 @@
-//! What a client's login has come to.
+//! The state of a client's login.
 ghost use Rattle.std.specs.Prelude.{◌≡◌, None, is_some};
 ghost use Rattle.itch_live.specs.Guests as guests;
 
 use itch_soup::LoginRequest;
 
-/// What a client's login has come to.
+/// The state of a client's login.
 #[derive(Clone, Copy)]
 pub(crate) enum Login {
-    /// None was answered yet.
+    /// No login was answered yet.
     Awaited,
-    /// It was accepted.
+    /// The login was accepted.
     Accepted(LoginRequest),
-    /// It was rejected with this code.
+    /// The login was rejected with this code.
     Rejected { code: u8 },
 }
 
 impl Login {
-    /// The login that was accepted, if there is one.
+    /// Returns the state after this login was accepted, if there is one.
     pub(crate) fn accepted(login: Option<LoginRequest>) -> Login
         ensures asked { guests.asked_of result ≡ login }
         ensures rejection { guests.rejection_of result ≡ None }

@@ -1,36 +1,36 @@
-//! What the feed brings.
+//! The outcomes of bytes from the feed.
 use itch_codec::Alpha;
 use itch_frame::FrameFault;
 use itch_join::JoinFault;
 use itch_soup::SoupFault;
 
-/// What a piece of the feed's bytes has brought.
+/// The outcome of a piece of the feed's bytes.
 #[derive(Clone, Copy, Debug)]
 pub enum News {
-    /// Nothing that a caller has to act on.
+    /// Nothing for the caller to act on.
     Nothing,
-    /// The login was accepted from this number on.
+    /// The server accepted the login, starting at this number.
     Accepted { next: u64 },
-    /// The snapshot has ended, and the market is that of the messages before this number.
+    /// The snapshot is complete, and the market is the result of all messages before this number.
     Joined { next: u64 },
-    /// A message was taken, and the market is that of those before this number.
+    /// A message was applied, and the market is the result of all messages before this number.
     Taken { next: u64 },
-    /// The server has ended its session.
+    /// The server ended its session.
     Ended,
-    /// The login was rejected with this code.
+    /// The server rejected the login with this code.
     Rejected(u8),
-    /// The login was accepted in the name of this session, and another one was expected, as by the next day's server: its messages
-    /// are others under the same numbers. Nothing later in this connection is taken.
+    /// The server accepted the login under this session name, but another one was expected. This happens with the server of another day,
+    /// which has different messages under the same numbers. Nothing later on this connection is taken.
     OtherSession { named: Alpha<10> },
-    /// The server has broken the protocol.
+    /// The server broke the protocol.
     Broken(SoupFault),
-    /// The joiner did not take a message. Nothing later in this connection can be taken either: connect again.
+    /// The joiner did not accept a message. It accepts nothing later on this connection either: connect again.
     Refused(JoinFault),
-    /// A message was taken, and its record not written whole.
+    /// A message was applied, but could not be written to the record completely.
     Unrecorded(FrameFault),
 }
 
-/// What a connection is made to: a server of snapshots, or one of the live feed.
+/// The kind of server that a connection is made to: a snapshot server or a live feed.
 #[derive(Clone, Copy, Debug, PartialEq, Eq)]
 pub enum Source {
     Glimpse,

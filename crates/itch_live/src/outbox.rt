@@ -9,13 +9,13 @@ use byteorder::{BigEndian, ByteOrder};
 use std::alloc::{AllocError, Allocator};
 use std::marker::Model;
 
-/// An outbox that holds at most so many bytes has room for any packet.
+/// An outbox with at most this many bytes has room for any packet.
 const HALF: usize = 65_536;
 
-/// What an outbox can hold: so many bytes, the longest packet of 65,537 bytes, and the end of a session.
+/// The capacity of an outbox: the bytes above, the longest packet of 65,537 bytes, and the end of a session.
 const ROOM: usize = 131_076;
 
-/// Bytes that wait for a client's socket, in memory that is taken once.
+/// Bytes that wait for a client's socket, in memory that is allocated once.
 #[derive(Drop)]
 pub(crate) struct Outbox<A: Allocator> {
     bytes: Vec<u8, A>,
@@ -32,7 +32,7 @@ impl<A: Allocator> Model for Outbox<A> {
 }
 
 impl<A: Allocator> Outbox<A> {
-    /// An empty outbox. It allocates all its memory here, exactly 131,076 bytes.
+    /// Creates an empty outbox. It allocates all its memory here, exactly 131,076 bytes.
     pub(crate) fn new(alloc: A) -> Result<Outbox<A>, AllocError>
         ensures { IfOk result (λ o. o ≡ []) }
     {
@@ -41,7 +41,7 @@ impl<A: Allocator> Outbox<A> {
         })
     }
 
-    /// Whether any packet has room here.
+    /// Returns whether there is room for any packet.
     pub(crate) fn has_room(&self) -> bool
         ensures { result ≡ players.has_room self.now }
     {
@@ -60,14 +60,14 @@ impl<A: Allocator> Outbox<A> {
         self.bytes.as_slice()
     }
 
-    /// Drops everything that waits.
+    /// Drops all bytes.
     pub(crate) fn clear(&mut self)
         ensures { self.new ≡ [] }
     {
         self.bytes.clear();
     }
 
-    /// Adds the block of a packet.
+    /// Appends the block of a packet.
     pub(crate) fn push(&mut self, packet: &[u8])
         requires fits { length packet.now < 65536 }
         requires room { length self.old + (2 + length packet.now) ≤ 131076 }
@@ -79,7 +79,7 @@ impl<A: Allocator> Outbox<A> {
         append(&mut self.bytes, packet);
     }
 
-    /// Adds the sequenced data packet of a message.
+    /// Appends the sequenced data packet of a message.
     pub(crate) fn push_message(&mut self, message: &[u8])
         requires fits { length message.now < 65535 }
         requires room { length self.old + (3 + length message.now) ≤ 131076 }
@@ -100,7 +100,7 @@ impl<A: Allocator> Outbox<A> {
     }
 }
 
-// Adds bytes for which there is room.
+// Appends bytes for which there is room.
 pub(crate) fn append<A: Allocator>(bytes: &mut Vec<u8, A>, part: &[u8])
     requires { vec_len bytes.old + length part.now ≤ vec_capacity bytes.old }
     ensures items { bytes.new.items ≡ bytes.old.items ++ part.now }

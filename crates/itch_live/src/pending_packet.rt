@@ -8,11 +8,11 @@ use arrayvec::ArrayVec;
 use byteorder::{BigEndian, ByteOrder};
 use std::marker::Model;
 
-/// The longest is a login: 47 bytes, after their length in two.
+/// The longest packet is a login: 47 bytes, after two bytes of length.
 const LONGEST: usize = 49;
 
-/// A packet that waits for a socket, with its length in front: a login, the answer to one, or a heartbeat. Nothing waits once all of
-/// it was taken.
+/// A packet that waits for a socket, with its two bytes of length: a login, the answer to one, or a heartbeat. It is empty once the socket
+/// has accepted all of it.
 #[derive(Drop)]
 pub struct PendingPacket {
     bytes: ArrayVec<u8, LONGEST>,
@@ -31,7 +31,7 @@ impl Model for PendingPacket {
 }
 
 impl PendingPacket {
-    /// Nothing waits.
+    /// Creates an empty one.
     pub fn none() -> PendingPacket
         ensures { result ≡ [] }
     {
@@ -41,7 +41,7 @@ impl PendingPacket {
         }
     }
 
-    /// This packet, which is given without its length.
+    /// Creates one with this packet, which is passed without its length.
     pub fn of(packet: &[u8]) -> PendingPacket
         requires { length packet.now ≤ 47 }
         ensures { result ≡ block packet.now }
@@ -54,21 +54,21 @@ impl PendingPacket {
         PendingPacket { bytes, sent: 0 }
     }
 
-    /// Whether nothing waits.
+    /// Returns whether no bytes wait.
     pub fn is_empty(&self) -> bool
         ensures { result ≡ guests.is_none self.now }
     {
         self.bytes().is_empty()
     }
 
-    /// What is still to be written.
+    /// Returns the bytes still to be written.
     pub fn bytes(&self) -> &[u8]
         ensures { result.now ≡ self.now }
     {
         &self.bytes[self.sent..]
     }
 
-    /// Takes note that the first `count` of these bytes were taken.
+    /// Records that the socket accepted the first `count` of these bytes.
     pub fn took(&mut self, count: usize)
         requires { count ≤ length self.old }
         ensures { self.new ≡ drop count self.old }
@@ -77,7 +77,7 @@ impl PendingPacket {
     }
 }
 
-// Adds bytes for which there is room.
+// Appends bytes for which there is room.
 fn push(bytes: &mut ArrayVec<u8, LONGEST>, part: &[u8])
     requires { array_vec_len bytes.old + length part.now ≤ 49 }
     ensures { bytes.new.items ≡ bytes.old.items ++ part.now }

@@ -1,4 +1,4 @@
-//! One client of a feed that is played.
+//! One client of a played feed.
 ghost use Rattle.std.specs.Prelude.{◌≡◌, ◌≤◌, ◌<◌, ◌^◌, length, IfOk, IsSome};
 ghost use Rattle.itch_live.specs.Players as players;
 
@@ -11,17 +11,16 @@ use itch_soup::{ServerAct, ServerConfig, ServerSession};
 use std::alloc::{AllocError, Allocator};
 use std::marker::Model;
 
-/// A client that says nothing and takes nothing for so long is cut off.
+/// A client that sends nothing and accepts nothing for this long is disconnected.
 const SILENCE_MS: u64 = 15_000;
 
-/// A server that has sent nothing for longer sends a heartbeat.
+/// A server that has been silent for longer than this sends a heartbeat.
 const IDLE_MS: u64 = 1_000;
 
-/// One client of a live feed (SoupBinTCP 3.00): it is sent the messages of a day from the number on that its login asks for.
+/// One client of a live feed (SoupBinTCP 3.00): it receives the messages of a day, starting at the number in its login.
 ///
-/// A caller hands in message n while [`Player::wanted`] says n, writes [`Player::pending`] as far as the socket takes it, and says
-/// by [`Player::took`] how much that was. All memory is taken by [`Player::new`]: 65,537 bytes for what the client says, and
-/// 131,076 for what it is sent.
+/// The caller passes in message n while [`Player::wanted`] returns n, writes [`Player::pending`] as far as the socket accepts it, and calls
+/// [`Player::took`] with the number of bytes written. [`Player::new`] allocates all memory: 65,537 bytes for input and 131,076 for output.
 #[derive(Drop)]
 pub struct Player<A: Allocator> {
     total: u64,
@@ -47,10 +46,14 @@ impl<A: Allocator> Model for Player<A> {
 }
 
 impl<A: Allocator + Copy> Player<A> {
-    /// A client that has connected at this moment, in milliseconds, to a feed of `total` messages. Its login is judged as
-    /// [`ServerSession::on_packet`] says: it may ask for any of them, or for the one after the last.
+    /// Creates a client that has connected at this time, in milliseconds, to a feed of `total` messages. Its login is judged as in
+    /// [`ServerSession::on_packet`]: it may ask for any of the messages, or for the one after the last.
     ///
     /// `total` must be at most 10^19 - 1.
+    ///
+    /// # Errors
+    ///
+    /// [`AllocError`] if there is no memory for the input and the output.
     pub fn new(
         alloc: A,
         config: ServerConfig,
@@ -75,9 +78,10 @@ impl<A: Allocator + Copy> Player<A> {
 }
 
 impl<A: Allocator> Player<A> {
-    /// Takes bytes that have come at this moment, up to the end of the packet at hand, and returns how many.
+    /// Passes in bytes that have arrived at this time, up to the end of the current packet, and returns how many were consumed.
     ///
-    /// Of a client that is gone, was refused, or has all and the end of the session, all bytes are passed over.
+    /// Bytes from a client that is gone, was rejected, or has received all messages and the end of the session are ignored: all of them count
+    /// as consumed.
     pub fn hear(&mut self, piece: &[u8], now_ms: u64) -> usize
         ensures { players.Hears self.old piece.now now_ms result self.new }
     {
@@ -115,7 +119,7 @@ impl<A: Allocator> Player<A> {
         }
     }
 
-    // Tells the client what its login has come to, before anything else.
+    // Queues the answer to a login, ahead of everything else.
     fn tell(&mut self, progress: Progress, packet: &[u8], now_ms: u64)
         requires { length packet.now < 65536 }
         ensures { self.new ≡ players.told self.old progress packet.now now_ms }
@@ -126,8 +130,8 @@ impl<A: Allocator> Player<A> {
         self.sent = now_ms;
     }
 
-    /// The number of the message to hand in next: the login was accepted, not all messages are handed in, at most 65,536 bytes are
-    /// pending, and the client is not gone.
+    /// Returns the number of the message to pass in next. Returns `None` if no login was accepted, all messages were passed in, more than
+    /// 65,536 bytes are pending, or the client is gone.
     pub fn wanted(&self) -> Option<u64>
         ensures { result ≡ players.wanted self.now }
     {
@@ -138,7 +142,7 @@ impl<A: Allocator> Player<A> {
         }
     }
 
-    /// Hands in the message that is wanted, at this moment. It must have at most 65,534 bytes.
+    /// Passes in the requested message at this time. It must have at most 65,534 bytes.
     pub fn play(&mut self, message: &[u8], now_ms: u64)
         requires wanted { IsSome (players.wanted self.old) }
         requires fits { length message.now < 65535 }
@@ -149,7 +153,7 @@ impl<A: Allocator> Player<A> {
         self.sent = now_ms;
     }
 
-    /// Ends the session once all messages are handed in. Before that, and once the client is gone, it does nothing.
+    /// Ends the session, if all messages were passed in and the client is not gone. Otherwise does nothing.
     pub fn end(&mut self, now_ms: u64)
         ensures { self.new ≡ players.ended self.old now_ms }
     {
@@ -160,8 +164,8 @@ impl<A: Allocator> Player<A> {
         }
     }
 
-    /// Takes note of the moment. A client that has said nothing and taken nothing for 15 seconds is cut off. Another one is sent
-    /// a heartbeat where nothing is pending, and nothing was sent for more than a second.
+    /// Checks the timeouts at this time. A client that has sent nothing and accepted nothing for 15 seconds is disconnected. Any other client
+    /// is sent a heartbeat if nothing is pending and nothing was sent for more than a second.
     pub fn tick(&mut self, now_ms: u64)
         ensures { self.new ≡ players.ticked self.old now_ms }
     {
@@ -173,7 +177,7 @@ impl<A: Allocator> Player<A> {
         }
     }
 
-    /// What is still to be written to the client.
+    /// Returns the bytes still to be written to the client.
     pub fn pending(&self) -> &[u8]
         ensures { result.now ≡ players.pending self.now }
     {
@@ -183,7 +187,7 @@ impl<A: Allocator> Player<A> {
         self.outbox.bytes()
     }
 
-    /// Takes note that the client's socket took the first `count` of the pending bytes at this moment.
+    /// Records that the client's socket accepted the first `count` of the pending bytes at this time.
     pub fn took(&mut self, count: usize, now_ms: u64)
         requires { count ≤ length (players.pending self.old) }
         ensures { self.new ≡ players.took self.old count now_ms }
@@ -195,14 +199,14 @@ impl<A: Allocator> Player<A> {
         }
     }
 
-    /// Takes note that the client is gone: it has left, unless it was gone before.
+    /// Records that the client is gone. The reason is [`Gone::Left`], unless it was gone before.
     pub fn leave(&mut self)
         ensures { self.new ≡ players.left self.old }
     {
         self.go(Gone::Left);
     }
 
-    // The client is gone, for this reason unless it was gone before.
+    // Marks the client as gone for this reason, unless it was gone before.
     fn go(&mut self, reason: Gone)
         ensures { self.new ≡ players.gone_for reason self.old }
     {
@@ -211,30 +215,30 @@ impl<A: Allocator> Player<A> {
         }
     }
 
-    /// Whether the client has its refusal, or all messages and the end of the session: the sending half of its connection is to be
-    /// shut down, and what it still sends to be read, until it closes its own or [`Player::is_gone`].
+    /// Returns whether the client has received its rejection, or all messages and the end of the session. The caller then shuts down the
+    /// sending half of the connection, and continues to read until the client closes its half or [`Player::is_gone`].
     pub fn is_closing(&self) -> bool
         ensures { result ≡ players.is_closing self.now }
     {
         !self.is_gone() && self.has_all()
     }
 
-    /// Whether the client is gone: its connection is to be closed.
+    /// Returns whether the client is gone. The caller then closes its connection.
     pub fn is_gone(&self) -> bool
         ensures { result ≡ players.is_gone self.now }
     {
         self.why_gone().is_some()
     }
 
-    /// Why the client is gone, if it is: the first reason that there was.
+    /// Returns why the client is gone, if it is: the first reason that occurred.
     pub fn why_gone(&self) -> Option<Gone>
         ensures { result ≡ self.now.gone }
     {
         self.gone
     }
 
-    /// The code of the Login Rejected packet (SoupBinTCP 3.00) that the client is told, if its login was rejected: `A` where it is
-    /// not authorised, and `S` where what it asks for is not available.
+    /// Returns the code of the Login Rejected packet (SoupBinTCP 3.00) for the client, if its login was rejected: `A` if it is not
+    /// authorised, `S` if the requested session or message is not available.
     pub fn rejection_code(&self) -> Option<u8>
         ensures { result ≡ players.rejection_of self.now.progress }
     {
@@ -244,7 +248,7 @@ impl<A: Allocator> Player<A> {
         }
     }
 
-    /// The number of the first message that the client is sent, if its login was accepted: the one that it asked for.
+    /// Returns the number of the first message for the client, if its login was accepted: the number in the login.
     pub fn played_from(&self) -> Option<u64>
         ensures { result ≡ players.first_of self.now.progress }
     {
@@ -260,7 +264,7 @@ impl<A: Allocator> Player<A> {
         matches!(self.progress, Progress::Playing { .. }) && !self.is_gone()
     }
 
-    // Whether a heartbeat is due.
+    // Returns whether a heartbeat is due.
     fn is_idle(&self, now_ms: u64) -> bool
         ensures { result ≡ players.is_idle self.now now_ms }
     {
@@ -276,7 +280,7 @@ impl<A: Allocator> Player<A> {
         ) && self.outbox.is_empty()
     }
 
-    // Whether what the client says no longer matters.
+    // Returns whether bytes from the client are ignored.
     fn is_deaf(&self) -> bool
         ensures { result ≡ players.is_deaf self.now }
     {
@@ -284,7 +288,7 @@ impl<A: Allocator> Player<A> {
     }
 }
 
-// How far one has come whose session is ended.
+// Returns the progress after the end of the session was queued.
 fn after_end(progress: Progress) -> Progress
     ensures { result ≡ players.after_end progress }
 {

@@ -1,14 +1,14 @@
-//! How far a client of a played feed has come.
+//! The progress of a client of a played feed.
 
-/// How far a client of a played feed has come.
+/// The progress of a client of a played feed.
 #[derive(Clone, Copy, Debug)]
 pub(crate) enum Progress {
     /// No login was accepted yet.
     Waiting,
-    /// Its login was rejected with this code.
+    /// The login was rejected with this code.
     Refused { code: u8 },
-    /// Its login was accepted from this number on, and the session goes on.
+    /// The login was accepted from this number on, and the session has not ended.
     Playing { first: u64 },
-    /// The same, and all messages were handed in, and the end of the session after them.
+    /// The same, and all messages and the end of the session were queued.
     Ended { first: u64 },
 }

@@ -8,10 +8,10 @@ use crate::guest::Guest;
 use crate::shot::Shot;
 use std::alloc::{AllocError, Allocator};
 
-/// A free place, or one with a client.
+/// A place, which is free or has a client.
 pub(crate) type Seat<A> = Option<Guest<A>>;
 
-/// The first free place.
+/// Returns the first free place, if there is one.
 pub(crate) fn free_place<A: Allocator>(seats: &[Seat<A>]) -> Option<usize>
     ensures { MatchOption result (places.AreTaken seats.now) (places.IsFree seats.now) }
 {
@@ -23,7 +23,7 @@ pub(crate) fn free_place<A: Allocator>(seats: &[Seat<A>]) -> Option<usize>
     None
 }
 
-/// The client at a place.
+/// Returns the client at a place, if there is one.
 pub(crate) fn guest_at<A: Allocator>(seats: &[Seat<A>], place: usize) -> Option<&Guest<A>>
     ensures { option_copied result ≡ places.guest_at seats.now place }
 {
@@ -33,7 +33,7 @@ pub(crate) fn guest_at<A: Allocator>(seats: &[Seat<A>], place: usize) -> Option<
     }
 }
 
-/// The client at a place hears bytes of a piece, and takes so many of them.
+/// Passes bytes of a piece to the client at a place, and returns how many were consumed.
 pub(crate) fn hear_at<A: Allocator>(
     seats: &mut [Seat<A>],
     place: usize,
@@ -50,7 +50,7 @@ pub(crate) fn hear_at<A: Allocator>(
     piece.len()
 }
 
-/// The socket of the client at a place took the next bytes.
+/// Records that the socket of the client at a place accepted the next bytes.
 pub(crate) fn took_at<A: Allocator>(seats: &mut [Seat<A>], place: usize, count: usize, now_ms: u64)
     requires { count ≤ length (places.pending_of (places.guest_at seats.old place)) }
     ensures { seats.new ≡ places.took_at seats.old place count now_ms }
@@ -62,7 +62,7 @@ pub(crate) fn took_at<A: Allocator>(seats: &mut [Seat<A>], place: usize, count: 
     }
 }
 
-/// Each client is told the moment.
+/// Checks the timeouts of each client.
 pub(crate) fn tick_all<A: Allocator>(seats: &mut [Seat<A>], now_ms: u64)
     ensures { seats.new ≡ places.ticked now_ms seats.old }
 {
@@ -79,7 +79,7 @@ fn tick_one<A: Allocator>(seat: &mut Seat<A>, now_ms: u64)
     }
 }
 
-/// Whether some client waits.
+/// Returns whether any client waits.
 pub(crate) fn any_waits<A: Allocator>(seats: &[Seat<A>]) -> bool
     ensures { result ≡ list_any places.waits seats.now }
 {
@@ -95,7 +95,7 @@ fn waits<A: Allocator>(seat: &Seat<A>) -> bool
     }
 }
 
-/// Those who wait are handed a snapshot of this number, if there is one.
+/// Passes a snapshot with this number to all waiting clients, if there is one.
 pub(crate) fn hand_in<A: Allocator>(
     seats: &mut [Seat<A>],
     shot: Option<Shot<A>>,
@@ -110,7 +110,7 @@ pub(crate) fn hand_in<A: Allocator>(
     }
 }
 
-/// Those who wait are answered with a snapshot of this number. Where an `Rc` can have no more owners, the rest go on waiting.
+/// Answers all waiting clients with a snapshot of this number. If the `Rc` cannot have more owners, the remaining clients continue to wait.
 fn answer_all<A: Allocator>(
     seats: &mut [Seat<A>],
     shot: &Shot<A>,

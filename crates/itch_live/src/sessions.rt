@@ -1,4 +1,4 @@
-//! The sessions whose messages a follower takes.
+//! The sessions that a follower accepts.
 ghost use Rattle.std.specs.Prelude.{◌≡◌};
 ghost use Rattle.std.specs.Str.{bytes_eq};
 ghost use Rattle.itch_soup.specs.Names.{session_name};
@@ -10,19 +10,19 @@ use itch_codec::spaces::after_spaces;
 
 /// The sessions that are known by name.
 ///
-/// A market is of one session of its feed, since another day has other messages under the same numbers. A blank field names no
-/// session: a caller passes `None` for it.
+/// A market belongs to one session of its feed, because another day has different messages under the same numbers. A blank field does not
+/// name a session: pass `None` for it.
 #[derive(Clone, Copy)]
 pub struct Sessions {
-    /// The feed's session. Once it is known it stays the same.
+    /// The feed's session. It does not change once it is known.
     pub feed: Option<Alpha<10>>,
-    /// The name that the server of snapshots has for the session, if it is not the feed's name. Then the acceptance of that server
-    /// says nothing of the feed's session.
+    /// The snapshot server's name for the session, if it differs from the feed's name. In this case, the Login Accepted packet of that server
+    /// does not reveal the feed's session.
     pub glimpse: Option<Alpha<10>>,
 }
 
 impl Sessions {
-    /// The session that a server has to serve, once it is known.
+    /// Returns the session that a server must serve, if it is known.
     pub(crate) fn expected(&self, source: Source) -> Option<Alpha<10>>
         ensures { result ≡ sessions.expected self.now source }
     {
@@ -32,7 +32,7 @@ impl Sessions {
         }
     }
 
-    // Whether a server names the feed's session.
+    // Returns whether a server uses the feed's name for the session.
     fn names_feed(&self, source: Source) -> bool
         ensures { result ≡ sessions.names_feed self.now source }
     {
@@ -42,7 +42,7 @@ impl Sessions {
         }
     }
 
-    /// Takes note that a server has accepted a login in this name, if it did.
+    /// Learns the feed's session from the name under which a server accepted a login, if it did.
     pub(crate) fn learn(&mut self, source: Source, named: Option<Alpha<10>>)
         ensures { self.new ≡ sessions.known_after self.old source named }
     {
@@ -52,7 +52,7 @@ impl Sessions {
     }
 }
 
-/// The name in which a login was accepted, if another one was expected.
+/// Returns the name under which a login was accepted, if another one was expected.
 pub(crate) fn other_name(wanted: &Option<Alpha<10>>, named: &Option<Alpha<10>>) -> Option<Alpha<10>>
     ensures { result ≡ sessions.other_name wanted.now named.now }
 {
@@ -62,14 +62,14 @@ pub(crate) fn other_name(wanted: &Option<Alpha<10>>, named: &Option<Alpha<10>>) 
     }
 }
 
-// Whether these are the same session: a name may be padded at either end.
+// Returns whether these are the same session. A name may be padded at either end.
 fn is_same_session(session: &Alpha<10>, other: &Alpha<10>) -> bool
     ensures { result ≡ bytes_eq (session_name session.now) (session_name other.now) }
 {
     trimmed(session) == trimmed(other)
 }
 
-// A session's name without the spaces at both ends.
+// Returns a session's name without the spaces at both ends.
 fn trimmed(session: &Alpha<10>) -> &[u8]
     ensures { result.now ≡ session_name session.entry.now }
 {

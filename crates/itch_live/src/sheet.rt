@@ -1,4 +1,4 @@
-//! Memory for as many bytes as are to come.
+//! A buffer of fixed size.
 ghost use Rattle.std.specs.Prelude.{◌≡◌, ◌<◌, ◌≤◌, ◌∷◌, [], Some, vec_len, vec_capacity, IfOk};
 
 use crate::outbox::append;
@@ -7,7 +7,7 @@ use itch_frame::tally::Failures;
 use std::alloc::{AllocError, Allocator};
 use std::io;
 
-/// Bytes that are written into memory for so many. A write fails only once it is full.
+/// A buffer that is allocated for a known number of bytes. A write fails only if it is full.
 #[derive(Drop)]
 pub(crate) struct Sheet<A: Allocator> {
     bytes: Vec<u8, A>,
@@ -19,7 +19,7 @@ pub(crate) struct Sheet<A: Allocator> {
 }
 
 impl<A: Allocator> Sheet<A> {
-    /// An empty sheet, with memory for so many bytes.
+    /// Creates an empty sheet, with memory for `room` bytes.
     pub(crate) fn new(alloc: A, room: usize) -> Result<Sheet<A>, AllocError>
         ensures { IfOk result (λ sheet. (sheet.bytes.items ≡ []) × (sheet.room ≡ room)) }
     {
@@ -38,7 +38,7 @@ impl<A: Allocator> Sheet<A> {
 }
 
 impl<A: Allocator> CountedWrite for Sheet<A> {
-    // The room stands before the bytes, so that no write changes it.
+    // The contents begin with the room, so that a proof sees that no write changes it.
     ghost contents = { λ s. Some (s.room ∷ s.bytes.items) };
 
     ghost failures = { λ s. s.failures };

@@ -1,4 +1,4 @@
-//! The packets of a snapshot, encoded once for all clients that are sent it.
+//! The packets of a snapshot, encoded once for all clients that receive it.
 ghost use Rattle.std.specs.Prelude.{◌≡◌, ◌<◌, ◌≤◌, ◌+◌, ◌-◌, ◌*◌, ◌^◌, [], length, min, IfOk};
 ghost use Rattle.itch_snapshot.specs.Snapshot.{snap};
 ghost use Rattle.itch_live.specs.Guests.{session_bytes};
@@ -12,16 +12,17 @@ use itch_soup::write_answer;
 use std::alloc::AllocError;
 use std::rc::Rc;
 
-/// The encoded packets of a snapshot, shared by the clients that are sent it.
+/// The encoded packets of a snapshot, shared by the clients that receive it.
 pub type Shot<A> = Rc<Vec<u8, A>, A>;
 
-/// The longest packet of a snapshot's message: two bytes of length, the packet's type, and an attributed order.
+/// The longest packet of a message in a snapshot: two bytes of length, the packet type, and an order with attribution.
 const LONGEST: u128 = 43;
 
-/// Enough for the packets after those messages: the End of Snapshot and the session's end.
+/// Enough for the packets after those messages: the End of Snapshot and the end of the session.
 const AROUND: u128 = 128;
 
-/// How many bytes [`shoot`] takes for the snapshot of this market, and so how many it has at most; no more than a `u64` holds.
+/// Returns the number of bytes that [`shoot`] allocates for the snapshot of this market, which is also its greatest possible size. The result
+/// is at most `u64::MAX`.
 pub fn longest_snapshot<B: OrderBook>(market: &Market<B>) -> u64
     ensures { result ≡ min (43 * length (snap market.now) + 128) (2 ^ 64 - 1) }
 {
@@ -29,11 +30,14 @@ pub fn longest_snapshot<B: OrderBook>(market: &Market<B>) -> u64
     u64::try_from(LONGEST * messages + AROUND).unwrap_or(u64::MAX)
 }
 
-/// The bytes that a client is sent after the acceptance of its login: the market's snapshot with its End of Snapshot, and the end
-/// of the session.
+/// Returns the bytes that a client receives after the Login Accepted packet: the market's snapshot with its End of Snapshot, and the end of
+/// the session.
 ///
-/// Their memory is taken at once, 43 bytes for each message and 128 for the rest, which is always enough. A snapshot for which
-/// 2^64 bytes would not do is refused as one for which there is no memory.
+/// The memory is allocated at once, 43 bytes per message and 128 more, which is always enough.
+///
+/// # Errors
+///
+/// [`AllocError`] if this number of bytes exceeds `usize`, or there is no memory for them.
 pub fn shoot<B: OrderBook>(
     alloc: B::Alloc,
     market: &Market<B>,
@@ -51,7 +55,7 @@ pub fn shoot<B: OrderBook>(
     Ok(fill(sheet, market, next))
 }
 
-// Does nothing at run time. It tells a proof how many bytes there are at most.
+// Does nothing at run time. It recalls the greatest number of bytes for a proof.
 #[tactic(auto, using(crate::proofs::Lengths::session_within))]
 fn recall_length<B: OrderBook>(market: &Market<B>, next: Seq)
     ensures { length (session_bytes market.now next) ≤ 43 * length (snap market.now) + 128 }
@@ -60,7 +64,7 @@ fn recall_length<B: OrderBook>(market: &Market<B>, next: Seq)
     let _number = next.value();
 }
 
-// Fills a sheet that has room for all.
+// Fills a sheet that has room for all packets.
 fn fill<B: OrderBook>(
     mut sheet: Sheet<B::Alloc>,
     market: &Market<B>,

@@ -1,4 +1,4 @@
-//! What a client is told.
+//! The answer to a client's login.
 ghost use Rattle.std.specs.Prelude.{◌≡◌, option_map};
 ghost use Rattle.std.specs.Option.{option_copied};
 ghost use Rattle.itch_live.specs.Guests as guests;
@@ -6,11 +6,11 @@ ghost use Rattle.itch_live.specs.Guests as guests;
 use crate::shot::Shot;
 use std::alloc::Allocator;
 
-/// What a client is told.
+/// The answer to a client's login, after its acceptance.
 #[derive(Drop)]
 pub(crate) enum Told<A: Allocator> {
     Nothing,
-    /// Its login is answered with a whole snapshot: that of the market before the message of this number.
+    /// A complete snapshot: of the market before the message with this number.
     Whole { shot: Shot<A>, next: u64 },
 }
 
@@ -24,7 +24,7 @@ impl<A: Allocator> Told<A> {
         }
     }
 
-    /// The number of the next message at which the snapshot was encoded.
+    /// Returns the number of the next message at which the snapshot was encoded.
     pub(crate) fn snapshot(&self) -> Option<u64>
         ensures { result ≡ guests.snapshot_of self.now }
     {
@@ -34,7 +34,7 @@ impl<A: Allocator> Told<A> {
         }
     }
 
-    /// The snapshot, if it is that of this number.
+    /// Returns the snapshot, if it has this number.
     pub(crate) fn shot(&self, number: u64) -> Option<&Shot<A>>
         ensures { option_map (λ shot. shot.value.items) (option_copied result) ≡ guests.shot_in (guests.snapshot_of self.now) (guests.told_of self.now) number }
     {

@@ -1,4 +1,4 @@
--- What is known of a market where a message is not refused.
+-- The properties of a market in which a message is not refused.
 use Rattle.std.proofs.Common.{◌≡◌, ℕ, ◌<◌, Bool, true, false, List, Option, Some, None, IsSome, IsSomeAnd, is_some, ◌==◌, refl, arith}
 use Rattle.std.proofs.lemmas.Bool.Decides.{nat_tests}
 use Rattle.std.specs.FinMap as map
@@ -12,7 +12,7 @@ use Rattle.itch_market.specs.declared.refusal.Refusal.TheVariants.{StockMismatch
 use Rattle.itch_market.specs.Content.{Content, Listing}
 use Rattle.itch_market.specs.Reasons.{refuse, is_other_stock, is_live, security_reason, order_reason, add_reason, reason}
 
--- a check that gave no reason has not failed, nor have the later ones
+-- a check without a reason did not fail, and neither did the later ones
 pub passed : (fails : Bool) (why : Refusal) (later : Option Refusal) → refuse fails why later ≡ None → (fails ≡ false) × (later ≡ None)
 passed true why later none = cc
 passed false why later none = (refl, none)

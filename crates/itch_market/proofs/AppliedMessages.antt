@@ -12,19 +12,19 @@ use Rattle.itch_market.specs.Replays.{Fits, NoCause}
 use Rattle.itch_market.specs.Takings.{TakesMessage}
 use Rattle.itch_market.proofs.ReplayProgress.{taken_on}
 
--- these payloads were applied to a market, and leave this
+-- these payloads were applied to a market, with this result
 pub record AreApplied (m : Content) (ps : List (List ℕ)) (n : Content) : Type 0 where
   pub none : NoCause m ps
   pub fits : AllByRecursion Fits ps
   pub left : n ≡ laid (after m (map message_of ps))
   pub good : IsGood (after m (map message_of ps))
 
--- none has a cause, where the first has none and none after it has
+-- no payload has a cause if the first one has none, and none after it
 pub none_first : (m : Content) (p : List ℕ) (ps : List (List ℕ)) → cause m p ≡ None → NoCause (effect m (message_of p)) ps → NoCause m (p ∷ ps)
 none_first m p ps clean none zero within = clean
 none_first m p ps clean none (suc k) within = none k (omega arith)
 
--- what a market takes is applied
+-- payloads that a market takes are applied
 pub are_applied : (m n k : Content) (count : ℕ) (ps : List (List ℕ)) → IsGood m → n ≡ laid m → TakesAll TakesMessage n count ps k → AreApplied m ps k
 are_applied m n k count [] good same takes = record { none = λ j within. absurd (omega arith); fits = tt; left = takes ∙ same; good = good }
 are_applied m n k count (p ∷ ps) good same (next, (clean, fits, took), rest) =

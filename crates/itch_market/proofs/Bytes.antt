@@ -1,4 +1,4 @@
--- Bytes of an array, known by their places.
+-- Bytes of an array, by position.
 use Rattle.std.proofs.Common.{◌≡◌, ℕ, suc, ◌<◌, List, [], ◌∷◌, length, get_or, arith}
 use Rattle.std.specs.List.{AllByRecursion}
 use Rattle.itch_codec.specs.Fields.{IsBytes}

@@ -1,4 +1,4 @@
--- Why a payload is not taken: in a laid market, and after other payloads.
+-- The reason why a payload is not taken: in a laid market, and after other payloads.
 use Rattle.std.proofs.Common.{◌≡◌, ℕ, ◌<◌, zero, suc, Bool, List, [], ◌∷◌, ◌++◌, map, length, Option, None, Some, refl, ap, subst, ◌∙◌, inl, inr, arith, length-append}
 use Rattle.std.specs.Option.{option_map}
 use Rattle.std.specs.List.{AllByRecursion}
@@ -18,7 +18,7 @@ use Rattle.itch_market.specs.Stops.{cause_by, cause, cause_at}
 use Rattle.itch_market.specs.Replays.{NoCause, IsRefusal, Refuses, Halts}
 use Rattle.itch_market.proofs.LaidMarkets.{reason-laid, takes_memory-laid}
 
--- a laid market takes no payload for another reason
+-- a laid market has the same reason for a payload
 pub cause-laid : (m : Content) (p : List ℕ) → IsGood m → cause (laid m) p ≡ cause m p
 cause-laid m p good = by_fault (fault p) where
   by_fault : (f : Option CodecFault) → cause_by f (laid m) p ≡ cause_by f m p
@@ -42,7 +42,7 @@ halts-laid full m old new (Codec f) good h = h
 halts-laid full m old new (Rule why) good (p, off, some, refuses) = (p, off, some, refuses-laid m p why good refuses)
 halts-laid full m old new TooManyMessages good h = h
 
--- what is taken has no fault and no reason
+-- a payload that is taken has no fault and no reason
 pub no_fault : (m : Content) (p : List ℕ) → cause m p ≡ None → fault p ≡ None
 no_fault m p none = by_fault (fault p) none where
   by_fault : (f : Option CodecFault) → cause_by f m p ≡ None → f ≡ None
@@ -55,18 +55,18 @@ no_reason m p none = by_reason (reason m (message_of p)) (subst (λ f. cause_by 
   by_reason (Some r) some = cc
   by_reason None none = refl
 
--- the payload after others is asked in the market that those leave
+-- the payload after others is checked in the market after those
 pub cause_after : (m : Content) (ps : List (List ℕ)) (p : List ℕ) (qs : List (List ℕ)) → cause_at m (ps ++ p ∷ qs) (length ps) ≡ cause (after m (map message_of ps)) p
 cause_after m [] p qs = refl
 cause_after m (q ∷ ps) p qs = cause_after (effect m (message_of q)) ps p qs
 
--- payloads after it change nothing
+-- the payloads after it do not matter
 pub cause_before : (m : Content) (ps qs : List (List ℕ)) (k : ℕ) → k < length ps → cause_at m (ps ++ qs) k ≡ cause_at m ps k
 cause_before m [] qs k within = absurd (omega arith)
 cause_before m (p ∷ ps) qs zero within = refl
 cause_before m (p ∷ ps) qs (suc k) within = cause_before (effect m (message_of p)) ps qs k (omega arith)
 
--- one payload more that is taken
+-- one more payload that is taken
 pub none_more : (m : Content) (ps : List (List ℕ)) (p : List ℕ) → NoCause m ps → cause (after m (map message_of ps)) p ≡ None → NoCause m (ps ++ p ∷ [])
 none_more m ps p none clean k within =
     elim (cases_lt k (length ps)) [
@@ -74,7 +74,7 @@ none_more m ps p none clean k within =
       | inr following ↦ let last : k ≡ length ps = omega (arith, length-append ps (p ∷ [])) in ap (cause_at m (ps ++ p ∷ [])) last ∙ cause_after m ps p [] ∙ clean
     ]
 
--- the market after one message more
+-- the market after one more message
 pub after_more : (m : Content) (ps : List (List ℕ)) (p : List ℕ) → after m (map message_of (ps ++ p ∷ [])) ≡ effect (after m (map message_of ps)) (message_of p)
 after_more m [] p = refl
 after_more m (q ∷ ps) p = after_more (effect m (message_of q)) ps p

@@ -1,4 +1,4 @@
--- A replay of a day file ends if and only if the file has an end, and its payloads spell messages that follow the order rules.
+-- A replay reaches the end of a day file if and only if the file has an end, and its payloads are messages that follow the order rules.
 use Rattle.std.proofs.Common.{◌≡◌, ℕ, ◌-◌, ◌^◌, ◌<◌, ◌≤◌, List, [], ◌∷◌, ◌++◌, map, length, take, drop, suc, Option, Some, None, refl, sym, ap, subst, ◌∙◌, ◌⊎◌, inl, inr, append_assoc, arith}
 use Rattle.std.proofs.lemmas.List.{take-append-drop, length-take-le}
 use Rattle.std.specs.Prelude.{slice_get, option_map, option_and_then}
@@ -43,7 +43,7 @@ messages_fit m (p ∷ ps) none b = (
   messages_fit (effect m (message_of p)) ps (λ k within. none (suc k) (omega arith)) b.1,
 )
 
--- no payload ends a day
+-- a payload is not the end of a day
 no_end : (f : Option CodecFault) (r : Option Refusal) (m : Content) (p : List ℕ) → reason m (message_of p) ≡ r → cause_by f m p ≡ Some End → ⊥
 no_end (Some f) r m p is h = let no : ⊥ = cc in no
 no_end None None m p is h = let none : option_map Rule (reason m (message_of p)) ≡ None = ap (option_map Rule) is in let no : ⊥ = cc in no
@@ -53,7 +53,7 @@ no_end_at : (m : Content) (found : Option (List ℕ)) → option_and_then (cause
 no_end_at m None h = let no : ⊥ = cc in no
 no_end_at m (Some p) h = no_end (fault p) (reason m (message_of p)) m p refl h
 
--- a search that finds the end has passed over all payloads
+-- a search that finds the end has passed all payloads
 record AllTaken (ps : List (List ℕ)) (rest : List ℕ) (k : ℕ) : Type 0 where
   count : k ≡ length ps
   few : length ps ≤ 10 ^ 19 - 1
@@ -76,7 +76,7 @@ module _ (m : Content) (ps : List (List ℕ)) (rest : List ℕ) (k : ℕ) (first
   none_refused : NoCause m ps
   none_refused i within = none_before m ps rest k End first i (omega (arith, within, all_taken.count))
 
--- the search of a file, by any reading of it as a day
+-- the search of a file, for any reading of it as a day
 search_of : (m : Content) (bytes : List ℕ) (ps : List (List ℕ)) (rest : List ℕ) (k : ℕ) (why : Stop) → Day bytes ps rest → Stops m bytes k why
     → IsFirst (stop_at (10 ^ 19 - 1) m ps rest) k why
 search_of m bytes ps rest k why day stops =
@@ -128,7 +128,7 @@ module _ (m : Content) (bytes : List ℕ) (ps : List (List ℕ)) (rest : List �
   pub day_messages : AreBytes bytes → AreMessages (map message_of ps)
   day_messages b = messages_fit m ps (none_refused m ps rest k search) (payload_bytes ps rest (subst AreBytes day.whole b))
 
--- a day file with an end, whose payloads have no fault and whose messages follow the order rules, is taken to its end
+-- a replay takes a day file to its end if the file has an end, its payloads have no fault, and its messages follow the order rules
 pub clean_stops : (m : Content) → (bytes : List ℕ) → (ps : List (List ℕ)) → (rest : List ℕ) → Day bytes ps rest → Ends rest → length ps < 10 ^ 19
     → AllByRecursion (λ payload. fault payload ≡ None) ps → FollowsFrom m (map message_of ps) → Stops m bytes (length ps) End
 clean_stops m bytes ps rest day ends few clean follows =

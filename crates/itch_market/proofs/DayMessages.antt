@@ -1,4 +1,4 @@
--- What is known of the part of a day that was read into the empty market.
+-- The part of a day that was read into the empty market.
 use Rattle.std.proofs.Common.{◌≡◌, ℕ, ◌-◌, ◌^◌, ◌≤◌, ◌==◌, Bool, List, map, length, Option, None, Some, IfSome, sym, subst, inl, inr, arith}
 use Rattle.std.specs.List.{AllByRecursion}
 use Rattle.std.specs.Io.KnownBytes.{Consumes}
@@ -21,7 +21,7 @@ use Rattle.itch_market.proofs.Causes.{none_follows}
 use Rattle.itch_market.proofs.GoodMarkets.{run_good}
 use Rattle.itch_market.proofs.ReplayedFiles.{replays_stop}
 
--- a message that is late is not refused; apart from that it is a stop of a replay
+-- a late message is not refused; any other stop is a stop of a replay
 pub halts_replays : (limit : Limit) (m : Content) (old new : Option (List ℕ)) (count : ℕ) (stop : Stop) (n : Content) → HaltsPart limit m old new count stop n
     → Replays m old new count stop n
 halts_replays limit m old new count stop n (before, ps, mid, (takes, counted, few, early), halts) =
@@ -33,7 +33,7 @@ halts_replays limit m old new count stop n (before, ps, mid, (takes, counted, fe
       by_stop full x mid (Codec f) halts = halts
       by_stop full x mid TooManyMessages halts = halts
 
--- where no number of messages is wanted, the end of the file is the end of the part
+-- if no number of messages is requested, the end of the file is the end of the part
 pub ended_part : (limit : Limit) (m : Content) (old new : Option (List ℕ)) (count : ℕ) (n : Content) → limit.after ≡ None → HaltsPart limit m old new count End n
     → TakesPart limit m old new count n
 ended_part limit m old new count n all (before, ps, mid, takes, ends) = (ps, mid, takes, inr (inr (all, ends)))
@@ -54,7 +54,7 @@ rest_ends rest new (inl at_end) = inl at_end
 rest_ends rest None (inr block_read) = absurd block_read
 rest_ends rest (Some more) (inr block_read) = inr (more, block_read)
 
--- why no more is wanted, where the bytes are known
+-- the reason why no more is requested, if the bytes are known
 is_cut : (limit : Limit) (count : ℕ) (rest : List ℕ) (new : Option (List ℕ)) → IsEnough limit count (Some rest) new → IsCut limit count rest
 is_cut limit count rest new (inl (all, same)) = inl all
 is_cut limit count rest None (inr (inl (before, (p, off, late)))) = absurd off.1
@@ -67,7 +67,7 @@ is_part limit None mid new ps off enough = tt
 is_part limit (Some b) None new ps off enough = absurd off
 is_part limit (Some b) (Some rest) new ps off enough = (rest, off, is_cut limit (length ps) rest new enough)
 
--- where the part that is wanted was read
+-- the requested part was read
 pub part_read : (limit : Limit) (bytes new : Option (List ℕ)) (start : Content) (count : ℕ) (n : Content) → start ≡ empty
     → TakesPart limit start bytes new count n → Applied limit bytes new count n
 part_read limit bytes new start count n first reads = from_empty (subst (λ m. TakesPart limit m bytes new count n) first reads) where
@@ -85,7 +85,7 @@ part_read limit bytes new start count n first reads = from_empty (subst (λ m. T
         fits = takes.fits;
       }
 
--- where it stopped before
+-- or the reading stopped earlier
 pub halts_decided : (limit : Limit) (bytes new : Option (List ℕ)) (count : ℕ) (stop : Stop) (n : Content) → HaltsPart limit empty bytes new count stop n
     → IfSome bytes (λ b. IsDecided stop → Stops empty b count stop)
 halts_decided limit bytes new count stop n halts = replays_stop empty n bytes new count stop (halts_replays limit empty bytes new count stop n halts)
@@ -94,6 +94,6 @@ pub ends_decided : (bytes : Option (List ℕ)) (count : ℕ) → IfSome bytes (�
 ends_decided None count decided = tt
 ends_decided (Some b) count decided = decided tt
 
--- what was taken leaves a good market
+-- the market after the payloads that were taken is good
 pub taken_good : (limit : Limit) (ps : List (List ℕ)) → AllByRecursion Fits ps → AreTaken limit ps → IsGood (run (map message_of ps))
 taken_good limit ps fits taken = run_good (map message_of ps) (All-map_rec IsMessage message_of ps fits) (none_follows empty ps taken.taken)

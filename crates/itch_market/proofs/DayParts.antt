@@ -1,4 +1,4 @@
--- What a part of a day that a market takes is to the market and to the reader of blocks.
+-- A part of a day that a market takes: the market and the reader of blocks afterwards.
 use Rattle.std.proofs.Common.{◌≡◌, ℕ, ◌-◌, ◌^◌, ◌<◌, ◌≤◌, ◌==◌, Bool, true, false, List, [], ◌∷◌, map, length, zero, suc, Option, None, Some, IfSome, inl, inr, refl, sym, ap, subst, ◌∙◌, arith, eq-eqb, IsSome}
 use Rattle.std.proofs.lemmas.Bool.{ne_eqb}
 use Rattle.std.specs.List.{AllByRecursion}
@@ -42,7 +42,7 @@ are_early : (limit : Limit) (ps : List (List ℕ)) → AllByRecursion (λ p. fau
 are_early limit [] clean early = tt
 are_early limit (p ∷ ps) clean early = (is_early limit p clean.0 early.0, are_early limit ps clean.1 early.1)
 
--- as many are as are wanted
+-- the requested number was taken
 pub full_count : (most count n : ℕ) (after : Option ℕ) → after ≡ Some most → (0 < n → IfSome after (λ k. count ≤ k)) → n ≡ count → (wanted : ℕ) × (after ≡ Some wanted) × (wanted ≤ count) → count ≡ most
 full_count most count n after is within counted (wanted, has, all) = by_count n refl where
   same : wanted ≡ most
@@ -99,7 +99,7 @@ module _ {R : Type 0} (remaining : R → Option (List ℕ)) (limit : Limit) (old
         is_early limit p refuses.0 not_late,
       )
 
--- what reading a part of a day into a market does, whatever the limit
+-- the effect of reading a part of a day into a market, for any limit
 pub is_part : {R : Type 0} (remaining : R → Option (List ℕ)) (failures : R → Failures) (limit : Limit) (old new : Reading R) (begun mark : ℕ) (m n : Content) (why : Part Refused) → IsGood m → laid m ≡ m → begun ≡ 0
     → ReadsPart remaining failures TakesMessage RefusesMessage limit old new begun mark m why n → mark ≤ 10 ^ 19 - 1
     → PartOf limit m (bytes_left remaining old) (bytes_left remaining (left_by why new)) mark (reason_of why) n
@@ -109,13 +109,13 @@ is_part remaining failures limit old new begun mark m n why good in_place first 
     part_of remaining limit old new mark m reads.last n ps (are_applied m m reads.last begun ps good (sym in_place) reads.taken.taken) reads.taken.bytes reads.taken.full reads.taken.early counted few why
     reads.stops reads.taken.wanted
 
--- only where a time is given, a message is late
+-- a message can be late only if a time is given
 late_given : (until : Option ℕ) (p : List ℕ) → is_late until (message_of p) ≡ true → IsSome until
 late_given None p late = cc
 late_given (Some time) p late = refl
 
 module _ {R : Type 0} (remaining : R → Option (List ℕ)) (failures : R → Failures) (limit : Limit) (old new : Reading R) (count : ℕ) (last n : Content) where
-  -- how the reader of blocks is left
+  -- the reader of blocks afterwards
   pub part_left : (why : Part Refused) → StopsAt remaining RefusesMessage limit count new last why n → Leaves old count why new → LeavesPartOf limit old count (reason_of why) (left_by why new)
   part_left part.Full (same, (most, wanted, all)) passes = inl (subst IsSome (sym wanted) refl, (passes.unread, passes.given))
   part_left part.Late (same, before, (p, next, some, few, (clean, late))) stays =
@@ -128,7 +128,7 @@ module _ {R : Type 0} (remaining : R → Option (List ℕ)) (failures : R → Fa
   part_left (part.Refused (is.Rule reason)) stops stays =
       stop_left remaining failures RefusesMessage limit old new count count last n (part.Refused (is.Rule reason)) (λ late. absurd (cc)) stops stays
 
--- what reading a part leaves of its reader, whatever the limit
+-- the reader after a part, for any limit
 pub is_part_left : {R : Type 0} (remaining : R → Option (List ℕ)) (failures : R → Failures) (limit : Limit) (old new : Reading R) (begun mark : ℕ) (m n : Content) (why : Part Refused) → begun ≡ 0
     → ReadsPart remaining failures TakesMessage RefusesMessage limit old new begun mark m why n
     → LeavesPartOf limit old mark (reason_of why) (left_by why new) × CountsFirst (reason_of why) (failures old.reader) (failures (Reading.reader (left_by why new)))
@@ -138,7 +138,7 @@ is_part_left remaining failures limit old new begun mark m n why first reads =
       stop_counts remaining failures RefusesMessage limit old new mark mark reads.last n why reads.stops reads.counts,
     )
 
--- a part of a day of which a number of messages is wanted is a replay of the first ones
+-- a part of a day with a requested number of messages is a replay of the first ones
 halts_plain : (limit : Limit) (full : Bool) (m : Content) (old new : Option (List ℕ)) (why : Stop) → HaltsEarly limit full m old new why → Halts full m old new why
 halts_plain limit full m old new stop.End halts = halts
 halts_plain limit full m old new (stop.Frame fault) halts = halts

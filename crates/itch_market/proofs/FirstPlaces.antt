@@ -1,4 +1,4 @@
--- The first place at which something is known is one, and there is one where something is known at all.
+-- The first number with a value is unique, and exists if there is any number with a value.
 use Rattle.std.proofs.Common.{◌≡◌, ℕ, ◌<◌, ◌⊎◌, zero, suc, Option, None, Some, refl, sym, ◌∙◌, subst, inl, inr, arith}
 use Rattle.std.proofs.lemmas.Bool.{cases_lt}
 use Rattle.itch_market.specs.FirstPlaces.{IsFirst}
@@ -21,7 +21,7 @@ module _ {A : Type 0} (f : ℕ → Option A) where
   first_value n k x y p q =
       let same : Some x ≡ Some y = sym p.here ∙ subst (λ j. f n ≡ f j) (first_place n k x y p q) refl ∙ q.here in cc
 
-  -- nothing is known below n, or there is a first place
+  -- no number below n has a value, or there is a first one
   abbrev Searched : ℕ → Type 0
   Searched n = ((i : ℕ) → i < n → f i ≡ None) ⊎ ((k : ℕ) × (x : A) × IsFirst f k x)
 

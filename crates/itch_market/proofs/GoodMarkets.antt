@@ -1,4 +1,4 @@
--- What a message that is not refused leaves of a good market is a good market.
+-- A message that is not refused changes a good market into a good one.
 use Rattle.std.proofs.Common.{◌≡◌, ℕ, ◌<◌, ◌^◌, Bool, true, false, cond, List, [], ◌∷◌, Option, Some, None, IsSome, OnOk, OnErr, Result, Ok, Err, eqb, map, refl, subst, arith}
 use Rattle.std.proofs.lemmas.Bool.Decides.{nat_tests}
 use Rattle.std.specs.List.{AllByRecursion}
@@ -83,7 +83,7 @@ inserted_good m locate s good entry =
       wide = good.wide;
     }
 
--- ---- what is kept of a security fits after a change of it
+-- ---- the data of a security fits after a change
 
 pub new_entry : (s : Listing) (entry : Directory) → IsDirectory entry → IsSecurity s → IsSecurity (record s { entry = entry })
 new_entry s entry fits old = record { entry = fits; action = old.action; sho = old.sho; halts = old.halts; positions = old.positions }
@@ -169,7 +169,7 @@ laid_good m good =
       wide = All-lay IsOrder m.orders good.wide;
     })
 
--- good orders that a call left laid, or as they were
+-- good orders after a call that laid them or did not change them
 pub laid_or_kept : {T E : Type 0} (result : Result T E) (m : Content) (effect new : List Order) → IsGood m → IsGood (record m { orders = effect })
     → OnOk result (new ≡ book.lay effect) → OnErr result (new ≡ m.orders) → IsGood (record m { orders = new })
 laid_or_kept (Ok x) m effect new good after ok err = rw ok (laid_good (record m { orders = effect }) after)

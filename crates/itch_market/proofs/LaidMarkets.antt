@@ -1,4 +1,4 @@
--- A market with its orders in snapshot order refuses the same messages, and the others leave it the same.
+-- A market with its orders in snapshot order refuses the same messages, and all others have the same effect on it.
 use Rattle.std.proofs.Common.{◌≡◌, ℕ, List, Some, None, refl, ap}
 use Rattle.itch_codec.specs.declared.message.Message.{Message}
 use Rattle.itch_codec.specs.declared.message.Message.TheVariants as is
@@ -38,11 +38,11 @@ reason-laid m (is.Other payload) good = refl
 same_orders : (m : Content) (xs ys : List Order) → xs ≡ ys → ◌≡◌ {A = Content} (record m { orders = xs }) (record m { orders = ys })
 same_orders m xs ys same = ap (λ (orders : List Order). record m { orders = orders }) same
 
--- a market whose orders are a book's has them laid
+-- the orders of a market are already laid if they are the list of a book
 pub laid_already : (m : Content) → book.IsBook m.orders → laid m ≡ m
 laid_already m is_book = same_orders m _ _ (lay-book m.orders is_book)
 
--- the orders laid twice are laid once
+-- laying the orders twice is laying them once
 pub laid_twice : (m : Content) → laid (laid m) ≡ laid m
 laid_twice m = same_orders m _ _ (lay_twice m.orders)
 
@@ -67,7 +67,7 @@ effect-laid m (is.BrokenTrade x) good = laid_twice m
 effect-laid m (is.End next) good = laid_twice m
 effect-laid m (is.Other payload) good = laid_twice m
 
--- what takes memory is asked of the directory alone
+-- whether a message takes memory depends only on the directory
 pub takes_memory-laid : (m : Content) (x : Message) → takes_memory (laid m) x ≡ takes_memory m x
 takes_memory-laid m (is.SystemEvent x) = refl
 takes_memory-laid m (is.StockDirectory x) = refl

@@ -1,4 +1,4 @@
--- The lemmas that the laws are, in the laws' own words.
+-- The lemmas of the laws, in the form of the laws.
 use Rattle.itch_market.proofs.GoodMarkets.{empty_good, laid_good, effect_good, after_good}
 use Rattle.itch_market.proofs.SameMarkets.{reason_same, effect_same}
 use Rattle.itch_market.proofs.LaidMarkets.{reason-laid, effect-laid, takes_memory-laid, laid_twice}

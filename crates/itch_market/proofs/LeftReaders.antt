@@ -1,4 +1,4 @@
--- How a part of a day leaves its reader of blocks once the block that was not taken is passed, whatever takes it.
+-- The reader of blocks after a part of a day, when the block that was not taken is passed, for any sink.
 use Rattle.std.proofs.Common.{◌≡◌, ℕ, ◌+◌, List, [], length, Option, None, Some, ◌⊎◌, inl, inr, refl, sym, ap, subst, ◌∙◌, arith}
 use Rattle.std.specs.Io.KnownBytes.{IsAtEnd}
 use Rattle.itch_frame.specs.Reading.{Reading, bytes_left, passed}
@@ -22,7 +22,7 @@ module _ {R T : Type 0} (remaining : R → Option (List ℕ)) (failures : R → 
   abbrev Stops : Part Refused → Type 0
   Stops why = StopsAt remaining refuses limit count new last why u
 
-  -- once the input has ended, no message came
+  -- after the end of the input, no message came
   abbrev Stays : Type 0
   Stays = (old.stage ≡ Ended → (n ≡ 0) × (new ≡ old)) × (old.stage ≡ Cut → (n ≡ 0) × (new ≡ old))
 
@@ -57,7 +57,7 @@ module _ {R T : Type 0} (remaining : R → Option (List ℕ)) (failures : R → 
   end_left (inr next) stays =
       let (held, given, unended, uncut) = next_left [] next stays in ((held, inr given), (λ at. absurd (unended at), λ at. absurd (uncut at)))
 
-  -- after a message that is late
+  -- after a late message
   pub late_left : Stops part.Late → Leaves {F = Refused} old n part.Late new → LeavesReaderFirst old (n + 1) None (passed new)
   late_left (same, before, (p, next, some, few, late)) stays = (λ none. absurd (omega arith), λ more. next_left p next stays)
 
@@ -82,7 +82,7 @@ module _ {R T : Type 0} (remaining : R → Option (List ℕ)) (failures : R → 
   frame_counts (Write sent error) never counts = absurd never
   frame_counts TooLong never counts = absurd never
 
-  -- and what failed
+  -- and the failed reads
   pub stop_counts : (why : Part Refused) → Stops why → CountsPart why (failures old.reader) (failures new.reader) → CountsFirst (reason_of why) (failures old.reader) (failures (Reading.reader (left_by why new)))
   stop_counts part.Full stops counts = counts
   stop_counts part.Late stops counts = ap failures (passed_reader new) ∙ counts

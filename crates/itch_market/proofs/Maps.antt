@@ -1,4 +1,4 @@
--- Finite maps with numbers as keys: look-ups after an insertion, and entries whose keys rise.
+-- Finite maps with numeric keys: look-ups after an insertion, and entries with ascending keys.
 use Rattle.std.proofs.Common.{◌≡◌, ◌≢◌, ℕ, Bool, true, false, cond, List, Option, Some, None, IsSome, refl, ap, ◌∙◌, nat_cmp, eqb, arith}
 use Rattle.std.specs.Ordering.{eq_by_cmp}
 use Rattle.std.specs.Cmp.{nat_cmp_total}
@@ -22,7 +22,7 @@ module _ {X : Type 0} where
   pub get_elsewhere : (m : map.FinMap nat_cmp X) (k : ℕ) (v : X) (q : ℕ) → q ≢ k → map.get (map.insert m k v) q ≡ map.get m q
   get_elsewhere m k v q other = let off : eqb q k ≡ false = grind (arith, nat_tests) in rw (get-insert m k v q, off) refl
 
-  -- a map is what it gives for each key
+  -- a map is determined by its values for all keys
   pub same_map : (m n : map.FinMap nat_cmp X) → ((q : ℕ) → map.get m q ≡ map.get n q) → m ≡ n
   same_map = map.same_map nat_cmp_total nat_cmp-IsAntisymmetric
 
@@ -34,10 +34,10 @@ module _ {X : Type 0} where
   insert_twice m k v w =
       same_map _ _ (λ q. rw (get-insert (map.insert m k v) k w q, get-insert m k v q, get-insert m k w q) (once (eqb q k) v w (map.get m q)))
 
-  -- a key with a value is not one without
+  -- a key with a value differs from a key without one
   pub missing_key : (m : map.FinMap nat_cmp X) (k q : ℕ) → map.get m k ≡ None → IsSome (map.get m q) → q ≢ k
   missing_key m k q none some same = let there = rw (same, none) at some in cc
 
-  -- entries whose keys rise are those of their map
+  -- entries with ascending keys are the entries of their map
   pub entries_of_rising : (es : List (ℕ × X)) → IsStrictlySortedBy nat_cmp (keys_of es) → map.entries (map.from_entries {R = nat_cmp} es) ≡ es
   entries_of_rising = any.entries_of_tree nat_cmp_total nat_cmp-IsAntisymmetric

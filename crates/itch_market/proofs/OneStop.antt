@@ -9,7 +9,7 @@ use Rattle.itch_market.specs.Stops.{stop_at, last_stop, Stops}
 use Rattle.itch_market.proofs.FirstPlaces.{first_place, first_value, first_is_there}
 use Rattle.itch_market.proofs.ReplayStops.{stop_after}
 
--- two readings of one file search the same places
+-- two readings of the same file search the same places
 same_search : (m : Content) (bytes : List ℕ) (k j : ℕ) (s t : Stop) (p : Stops m bytes k s) → (q : Stops m bytes j t) → IsFirst (stop_at (10 ^ 19 - 1) m p.payloads p.rest) j t
 same_search m bytes k j s t p q =
     let same = day_one bytes q.payloads p.payloads q.rest p.rest q.day p.day in

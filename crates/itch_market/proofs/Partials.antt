@@ -1,4 +1,5 @@
--- The messages that are not skipped follow the order rules if all do, and leave the market that all leave, restricted to the wanted locates.
+-- If all messages follow the order rules, those that are not skipped follow them too, and result in the market of all messages, restricted to
+-- the wanted locates.
 use Rattle.std.proofs.Common.{◌≡◌, ℕ, ◌≤◌, ◌<◌, ◌-◌, Bool, true, false, cond, not, ◌==◌, List, [], ◌∷◌, ◌++◌, map, filter, length, Option, Some, None, IsSome, is_some, refl, sym, ap, ap₂, ◌∙◌, subst, arith, append-nil, eqb}
 use Rattle.std.specs.List.{AllByRecursion}
 use Rattle.std.specs.Ordering.{nat_cmp}
@@ -33,7 +34,7 @@ module _ (wanted : ℕ → Bool) where
   abbrev pub at : Order → Bool
   at x = wanted x.locate
 
-  -- the first order of a reference is found among the wanted ones where it is one
+  -- the first order with a reference is found among the wanted orders if it is one of them
   found_kept : (r : ℕ) (os : List Order) (x : Order) → book.get os r ≡ Some x → wanted x.locate ≡ true → book.get (filter at os) r ≡ Some x
   found_kept r [] x found want = cc
   found_kept r (y ∷ ys) x found want =
@@ -57,7 +58,7 @@ module _ (wanted : ℕ → Bool) where
       (λ off. ap (λ b. cond b (Some y) (book.get ys r)) off
       ∙ none_found r ys (let same = ap (λ b. length (cond b (y ∷ filter (book.has_reference r) ys) (filter (book.has_reference r) ys))) off in omega (arith, few, same)))
 
-  -- and no order of its reference is where it is not
+  -- and otherwise no wanted order has its reference
   gone_kept : (r : ℕ) (os : List Order) (x : Order) → length (filter (book.has_reference r) os) ≤ 1 → book.get os r ≡ Some x → wanted x.locate ≡ false → book.get (filter at os) r ≡ None
   gone_kept r [] x few found out = refl
   gone_kept r (y ∷ ys) x few found out =
@@ -82,14 +83,14 @@ module _ (wanted : ℕ → Bool) where
   less_at : (r n : ℕ) (x : Order) → at (book.less r n x) ≡ at x
   less_at r n x = ap wanted (cond_locate (book.has_reference r x) (record x { shares = x.shares - n }) x refl)
 
-  -- changes of one reference and the cut to the wanted orders commute
+  -- changing one reference and restricting to the wanted orders commute
   kept_taken : (r n : ℕ) (os : List Order) → filter at (book.taken r n os) ≡ book.taken r n (filter at os)
   kept_taken r n os = filter_swap at book.has_shares (map (book.less r n) os) ∙ ap (filter book.has_shares) (filter-map at at (book.less r n) (less_at r n) os)
 
   kept_without : (r : ℕ) (os : List Order) → filter at (book.without r os) ≡ book.without r (filter at os)
   kept_without r os = filter_swap at (λ x. not (book.has_reference r x)) os
 
-  -- where no order has the reference they change nothing
+  -- if no order has the reference, nothing changes
   other_first : (r : ℕ) (y : Order) (ys : List Order) → book.get (y ∷ ys) r ≡ None → (book.has_reference r y ≡ false) × (book.get ys r ≡ None)
   other_first r y ys none =
       by_test (book.has_reference r y)
@@ -112,7 +113,7 @@ module _ (wanted : ℕ → Bool) where
       let parts = other_first r y ys none in
       ap (λ b. cond (not b) (y ∷ book.without r ys) (book.without r ys)) parts.0 ∙ ap (λ zs. y ∷ zs) (without_none r ys parts.1)
 
-  -- an order that comes last is kept, or not
+  -- an order at the end is kept, or not
   kept_last : (os : List Order) (x : Order) → wanted x.locate ≡ true → filter at (os ++ x ∷ []) ≡ filter at os ++ x ∷ []
   kept_last os x want = filter-append at os (x ∷ []) ∙ ap (λ b. filter at os ++ cond b (x ∷ []) []) want
 
@@ -164,7 +165,7 @@ module _ (wanted : ℕ → Bool) where
     by_found None = refl
     by_found (Some v) = cut_other s l (change v) out
 
-  -- a good market cut down is good
+  -- a good market remains good when it is restricted
   pub only_good : (m : Content) → IsGood m → IsGood (only wanted m)
   only_good m good = record {
     event = good.event;
@@ -188,7 +189,7 @@ module _ (wanted : ℕ → Bool) where
 
   -- ---- one message
 
-  -- where all locates are wanted, no message is skipped
+  -- if all locates are wanted, no message is skipped
   pub none_out : ((l : ℕ) → wanted l ≡ true) → (o : Option ℕ) → is_out wanted o ≡ false
   none_out all None = refl
   none_out all (Some l) = ap not (all l)
@@ -201,7 +202,7 @@ module _ (wanted : ℕ → Bool) where
   is_unwanted true h = cc
   is_unwanted false h = refl
 
-  -- the order that a message on a live order speaks of
+  -- the order of a message about a live order
   found_order : (o : Option Order) (locate : ℕ) (later : Order → Option Refusal) → order_reason o locate later ≡ None → (x : Order) × (o ≡ Some x) × (x.locate ≡ locate)
   found_order None locate later none = cc
   found_order (Some x) locate later none =
@@ -209,7 +210,7 @@ module _ (wanted : ℕ → Bool) where
       let test = is_wanted (x.locate == locate) here.0 in
       (x, refl, key_is x.locate locate test)
 
-  -- a message that is not skipped is not refused in the smaller market either, and changes it in the same way
+  -- a message that is not skipped is not refused in the restricted market either, and has the same effect there
   pub record IsKept (m : Content) (x : Message) : Type 0 where
     pub reason : reason (only wanted m) x ≡ None
     pub effect : effect (only wanted m) x ≡ only wanted (effect m x)
@@ -302,7 +303,7 @@ module _ (wanted : ℕ → Bool) where
   kept_message m (is.End next) none in_set = cc
   kept_message m (is.Other payload) none in_set = record { reason = refl; effect = refl }
 
-  -- the reference of an order that is not wanted is none of the wanted ones
+  -- no wanted order has the reference of an order that is not wanted
   gone : (m : Content) (r l : ℕ) (later : Order → Option Refusal) → IsGood m → wanted l ≡ false → order_reason (book.get m.orders r) l later ≡ None → book.get (filter at m.orders) r ≡ None
   gone m r l later good out none =
       let found = found_order (book.get m.orders r) l later none in
@@ -326,7 +327,7 @@ module _ (wanted : ℕ → Bool) where
       ∙ dropped_last (book.without x.original m.orders) new (ap wanted found.2 ∙ out)
       ∙ without_out m x.original x.header.locate _ good out none
 
-  -- a message that is skipped changes nothing in the smaller market
+  -- a skipped message does not change the restricted market
   dropped_message : (m : Content) (x : Message) → IsGood m → reason m x ≡ None → skips wanted x ≡ true → only wanted (effect m x) ≡ only wanted m
   dropped_message m (is.SystemEvent x) good none out = cc
   dropped_message m (is.StockDirectory x) good none out = new_securities m _ _ (cut_other m.securities x.header.locate _ (is_unwanted _ out))
@@ -348,7 +349,7 @@ module _ (wanted : ℕ → Bool) where
   dropped_message m (is.End next) good none out = cc
   dropped_message m (is.Other payload) good none out = cc
 
-  -- ---- whole runs
+  -- ---- complete runs
 
   after_leaves : (m : Content) (ms : List Message) → IsGood m → AreMessages ms → FollowsFrom m ms
       → FollowsFrom (only wanted m) (kept wanted ms) × (after (only wanted m) (kept wanted ms) ≡ only wanted (after m ms))

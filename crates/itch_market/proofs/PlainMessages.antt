@@ -1,4 +1,4 @@
--- The plainest message acts as the message that it stands for.
+-- The plainest message has the effect of the original message.
 use Rattle.std.proofs.Common.{◌≡◌, ℕ, ◌<◌, ◌-◌, ◌^◌, ◌==◌, Bool, true, false, ◌&&◌, List, [], ◌∷◌, Option, Some, None, refl, sym, ap, ◌∙◌, subst, arith}
 use Rattle.std.proofs.lemmas.Bool.{cond_both, eqb-true}
 use Rattle.std.proofs.lemmas.Bool.Decides.{nat_tests}
@@ -31,7 +31,7 @@ use Rattle.itch_market.proofs.Trees.{insert_present}
 use Rattle.itch_market.proofs.AllowedMessages.{passed}
 use Rattle.itch_market.proofs.SameMarkets.{effect_same}
 
--- ---- what is set already stands there
+-- ---- values that are already set
 
 number_is : (o : Option ℕ) (n : ℕ) → is_number o n ≡ true → o ≡ Some n
 number_is None n told = cc
@@ -101,7 +101,7 @@ entry_is a b told =
       inverse_indicator = eqb-true a.inverse_indicator b.inverse_indicator p14.1 i;
     }
 
--- ---- and setting it again changes nothing
+-- ---- setting them again changes nothing
 
 put_again : (securities : Securities) (locate : ℕ) (s new : Listing) → map.get securities locate ≡ Some s → new ≡ s → map.insert securities locate new ≡ securities
 put_again securities locate s new there same =
@@ -146,7 +146,7 @@ position_again securities locate mpid position (Some s) there told =
 some_left : (x : Order) → book.IsLive x → (x.shares == 0) ≡ false
 some_left x live = let some = live.0 in grind (arith, nat_tests)
 
--- no shares taken change nothing
+-- taking no shares changes nothing
 take_none : (reference : ℕ) (xs : List Order) → AllByRecursion book.IsLive xs → book.taken reference 0 xs ≡ xs
 take_none reference [] live = refl
 take_none reference (x ∷ xs) live =
@@ -155,7 +155,7 @@ take_none reference (x ∷ xs) live =
     let rest = ap (λ t. x ∷ t) (take_none reference xs live.1) in
     by_test (book.has_reference reference x) (λ e. simp (e, same, some) rest) (λ e. simp (e, some) rest)
 
--- shares of no order
+-- taking shares of no order changes nothing
 take_absent : (reference shares : ℕ) (xs : List Order) → AllByRecursion book.IsLive xs → book.get xs reference ≡ None
     → book.taken reference shares xs ≡ book.without reference xs
 take_absent reference shares [] live none = refl
@@ -165,7 +165,7 @@ take_absent reference shares (x ∷ xs) live none =
     (λ e. let none_after : book.get xs reference ≡ None = simp e at none in
     let some = some_left x live.0 in simp (e, some) (ap (λ t. x ∷ t) (take_absent reference shares xs live.1 none_after)))
 
--- all shares taken remove the order
+-- taking all shares removes the order
 take_all : (reference : ℕ) (xs : List Order) (o : Order) → book.IsDistinct xs → AllByRecursion book.IsLive xs → book.get xs reference ≡ Some o
     → book.taken reference o.shares xs ≡ book.without reference xs
 take_all reference [] o distinct live there = cc
@@ -199,7 +199,7 @@ take_effect m locate reference shares good =
     (λ all. all_of m (book.get m.orders reference) locate reference shares good refl all)
     (λ part. refl))
 
--- an order that shares may be taken from may be deleted
+-- an order from which shares may be taken may be deleted
 may_delete : (o : Option Order) (locate : ℕ) (later : Order → Option Refusal) → order_reason o locate later ≡ None → order_reason o locate (λ x. None) ≡ None
 may_delete None locate later none = none
 may_delete (Some x) locate later none = let here = (passed _ LocateMismatch (later x) none).0 in rw here refl
@@ -214,7 +214,7 @@ take_allowed m locate reference shares none =
 
 -- ---- every message
 
--- a plain message is not refused where the message is not
+-- a plain message is not refused if the original message is not
 pub plain_allowed : (m : Content) (x : Message) → reason m x ≡ None → reason m (plain m x) ≡ None
 plain_allowed m (is.SystemEvent x) none = cond_both (is_number m.event x.code) nothing _ (λ y. reason m y ≡ None) (λ e. refl) (λ e. refl)
 plain_allowed m (is.StockDirectory x) none =
@@ -316,7 +316,7 @@ plain_fits m (is.Other payload) fits = nothing_fits
 with_securities : (m : Content) (new : Securities) → new ≡ m.securities → m ≡ record m { securities = new }
 with_securities m new same = ap (λ (securities : Securities). let c : Content = record m { securities = securities } in c) (sym same)
 
--- a plain message changes a good market as the message does
+-- a plain message has the effect of the original one on a good market
 pub plain_effect : (m : Content) (x : Message) → IsGood m → effect m (plain m x) ≡ effect m x
 plain_effect m (is.SystemEvent x) good =
     cond_both (is_number m.event x.code) nothing _ (λ y. effect m y ≡ effect m (is.SystemEvent x))
@@ -354,7 +354,7 @@ plain_effect m (is.BrokenTrade x) good = refl
 plain_effect m (is.End next) good = refl
 plain_effect m (is.Other payload) good = refl
 
--- messages with one plain message change same markets in the same way
+-- messages with the same plain message have the same effect on markets that are the same
 pub plain_same : (m n : Content) (x y : Message) → IsGood m → IsGood n → Same m n → IsMessage x → reason m x ≡ None → plain m x ≡ plain n y
     → Same (effect m x) (effect n y)
 plain_same m n x y good fine same fits none alike =

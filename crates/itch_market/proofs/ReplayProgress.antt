@@ -1,4 +1,4 @@
--- What a replay has done so far, and one block more.
+-- The progress of a replay, and one more block.
 use Rattle.std.proofs.Common.{◌≡◌, ℕ, ◌+◌, ◌-◌, ◌^◌, ◌≤◌, ◌<◌, ◌==◌, false, List, [], ◌∷◌, ◌++◌, map, length, Option, None, Ok, refl, sym, ap, subst, ◌∙◌, arith, length-append}
 use Rattle.std.proofs.lemmas.Bool.Decides.{nat_tests}
 use Rattle.std.proofs.KnownBytes.{Consumes-nil}
@@ -15,7 +15,7 @@ use Rattle.itch_market.proofs.GoodMarkets.{effect_good}
 use Rattle.itch_market.proofs.LaidMarkets.{effect-laid}
 use Rattle.itch_market.proofs.Causes.{cause-laid, no_reason, none_more, after_more}
 
--- some payloads were taken, and the market that they leave is good
+-- some payloads were taken, and the market after them is good
 pub record Going (m : Content) (old new : Option (List ℕ)) (count : ℕ) (n : Content) : Type 0 where
   pub payloads : List (List ℕ)
   pub takes : Takes m old new payloads n
@@ -23,7 +23,7 @@ pub record Going (m : Content) (old new : Option (List ℕ)) (count : ℕ) (n : 
   pub counted : length payloads ≡ count
   pub few : count ≤ 10 ^ 19 - 1
 
--- at first none was
+-- none was taken at first
 pub going_first : (m : Content) (bytes : Option (List ℕ)) → IsGood m → laid m ≡ m → Going m bytes bytes 0 m
 going_first m bytes good in_place = record {
   payloads = [];
@@ -33,7 +33,7 @@ going_first m bytes good in_place = record {
   few = omega arith;
 }
 
--- what is taken of a laid market is taken of the market itself, which stays good
+-- a payload taken in a laid market is taken in the market itself, which remains good
 pub taken_on : (m n k : Content) (p : List ℕ) → IsGood m → n ≡ laid m → cause n p ≡ None → Fits p → k ≡ laid (effect n (message_of p))
     → (cause m p ≡ None) × (k ≡ laid (effect m (message_of p))) × IsGood (effect m (message_of p))
 taken_on m n k p good is clean fits next =
@@ -43,11 +43,11 @@ taken_on m n k p good is clean fits next =
       effect_good m (message_of p) good fits (no_reason m p took),
     )
 
--- fewer than may be
+-- fewer than the maximum
 pub not_full : (count : ℕ) → count ≤ 10 ^ 19 - 1 → (count == 10 ^ 19 - 1) ≡ false → count < 10 ^ 19 - 1
 not_full count few room = grind (arith, nat_tests)
 
--- then one more, unless there are as many as may be
+-- then one more, unless the maximum is reached
 pub going_on : (m : Content) (old mid new : Option (List ℕ)) (count : ℕ) (n k : Content) → Going m old mid count n → Step (count == 10 ^ 19 - 1) n mid new (Ok tt) k → Going m old new (count + 1) k
 going_on m old mid new count n k going (p, off, room, (clean, fits, next)) =
     let ps = going.payloads in

@@ -1,4 +1,4 @@
--- How a replay leaves its reader of blocks.
+-- The reader of blocks after a replay.
 use Rattle.std.proofs.Common.{◌≡◌, ◌≢◌, ℕ, ◌+◌, ◌<◌, [], length, None, Some, zero, suc, refl, ap, ◌∙◌, arith}
 use Rattle.itch_frame.specs.Reading.{Reading}
 use Rattle.itch_frame.specs.declared.reader.Stage.{Stage}
@@ -8,7 +8,7 @@ use Rattle.itch_market.specs.declared.stop.Stop.{Stop}
 use Rattle.itch_market.specs.declared.stop.Stop.TheVariants.{End, Frame}
 use Rattle.itch_market.specs.Replays.{LeavesReaderFirst}
 
--- where the reader stands after n messages
+-- the reader after n messages
 pub record Standing {R : Type 0} (old : Reading R) (count : ℕ) (new : Reading R) : Type 0 where
   pub unread : count ≡ 0 → new ≡ old
   pub given : 0 < count → (new.held ≡ []) × (new.stage ≡ Given) × (old.stage ≢ Ended) × (old.stage ≢ Cut)
@@ -17,12 +17,12 @@ pub standing_first : {R : Type 0} (r : Reading R) → Standing r 0 r
 standing_first r = record { unread = λ _. refl; given = λ some. absurd (omega arith) }
 
 module _ {R : Type 0} (old mid new : Reading R) where
-  -- a stage in which no message is given was not the first one
+  -- a stage in which no message is returned was not the first one
   not_first : (stage : Stage) (count : ℕ) → (count ≡ 0 → mid ≡ old) → (0 < count → old.stage ≢ stage) → mid.stage ≢ stage → old.stage ≢ stage
   not_first stage zero unread given is first = is (ap (λ (r : Reading R). r.stage) (unread refl) ∙ first)
   not_first stage (suc count) unread given is first = given (omega arith) first
 
-  -- one message more
+  -- one more message
   pub standing_on : (count : ℕ) → Standing old count mid → LeavesReaderFirst mid 1 None new → Standing old (count + 1) new
   standing_on count standing (unread, given) =
       let leaves = given (omega arith) in
@@ -36,12 +36,12 @@ module _ {R : Type 0} (old mid new : Reading R) where
         );
       }
 
-  -- in a stage in which no message is given, there was none before
+  -- in a stage in which no message is returned, there was none before
   still_first : (stage : Stage) (count : ℕ) → (count ≡ 0 → mid ≡ old) → (0 < count → old.stage ≢ stage) → old.stage ≡ stage → (count ≡ 0) × (mid ≡ old)
   still_first stage zero unread given is = (refl, unread refl)
   still_first stage (suc count) unread given is = absurd (given (omega arith) is)
 
-  -- and there it stops
+  -- and there the replay stops
   pub standing_stops : (count : ℕ) (stop : Stop) → Standing old count mid → LeavesReaderFirst mid 0 (Some stop) new → LeavesReaderFirst old count (Some stop) new
   standing_stops count stop standing (leaves, (ended, cut)) = (leaves, (by_end, by_cut)) where
     by_end : old.stage ≡ Ended → (count ≡ 0) × (stop ≡ End) × (new ≡ old)

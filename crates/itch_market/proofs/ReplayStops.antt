@@ -1,4 +1,4 @@
--- Where a replay stops: after all payloads, at one that is not taken, or after as many as may be.
+-- The place where a replay stops: after all payloads, at one that is not taken, or after the maximum number.
 use Rattle.std.proofs.Common.{◌≡◌, ℕ, ◌+◌, ◌-◌, ◌^◌, ◌<◌, ◌≤◌, ◌==◌, nat_lt, min, Bool, true, false, cond, List, [], ◌∷◌, ◌++◌, map, length, Some, refl, ap, ◌∙◌, arith, length-append, eq-eqb}
 use Rattle.std.proofs.lemmas.Bool.{ne_eqb}
 use Rattle.std.proofs.lemmas.Bool.Decides.{nat_tests}
@@ -44,7 +44,7 @@ none_ends m bytes ps rest day few none = record {
   };
 }
 
--- a payload after those that are taken, and a day after it
+-- a payload after those that were taken, and a day after it
 pub after_day : (bytes unread : List ℕ) (done : List (List ℕ)) (p : List ℕ) → bytes ≡ blocks done ++ (block p ++ unread) → AllByRecursion IsFull done → IsFull p
     → (more : List (List ℕ)) × (rest : List ℕ) × Day bytes (done ++ p ∷ more) rest
 after_day bytes unread done p whole full_done full = found (day_some unread) where
@@ -70,7 +70,7 @@ one_stops m bytes unread done p stop whole full_done full few none why = found (
         };
       }
 
--- as many were taken as may be, and there is one more
+-- the maximum number was taken, and there is one more
 pub full_stops : (m : Content) (bytes unread : List ℕ) (done : List (List ℕ)) (p : List ℕ) → bytes ≡ blocks done ++ (block p ++ unread)
     → AllByRecursion IsFull done → IsFull p → length done ≡ 10 ^ 19 - 1 → NoCause m done → Stops m bytes (length done) TooManyMessages
 full_stops m bytes unread done p whole full_done full many none = found (after_day bytes unread done p whole full_done full) where
@@ -89,7 +89,7 @@ full_stops m bytes unread done p whole full_done full many none = found (after_d
         };
       }
 
--- the two ways in which a day's rest stops a replay
+-- the two ways in which the rest of a day stops a replay
 pub ends_stop : (rest : List ℕ) → Ends rest → end_of rest ≡ End
 ends_stop [] ends = refl
 ends_stop (x ∷ []) ends = absurd (one-Ends x ends)

@@ -1,4 +1,4 @@
--- What a replay says of a file whose bytes are known.
+-- The result of a replay of a file whose bytes are known.
 use Rattle.std.proofs.Common.{◌≡◌, ℕ, ◌-◌, ◌^◌, ◌≤◌, ◌==◌, List, ◌++◌, map, length, take, Option, None, Some, IfSome, sym, ap, subst, ◌∙◌, inl, inr}
 use Rattle.std.specs.Option.{option_map}
 use Rattle.std.proofs.lemmas.Bool.{eqb-true}
@@ -20,18 +20,18 @@ use Rattle.itch_market.specs.Replays.{IsRefusal, Refuses, TakesOff, Halts, Takes
 use Rattle.itch_market.proofs.ReplayProgress.{not_full}
 use Rattle.itch_market.proofs.ReplayStops.{none_ends, one_stops, full_stops, ends_stop, open_stops}
 
--- a payload with a fault is not taken for that
+-- a payload with a fault is not taken for that reason
 faulty : (m : Content) (p : List ℕ) (f : CodecFault) → fault p ≡ Some f → cause m p ≡ Some (Codec f)
 faulty m p f is = ap (λ o. cause_by o m p) is
 
--- a message that is refused, and not because memory ran out, is refused for its reason
+-- a message is refused for its reason, unless memory ran out
 pub refused : (m : Content) (p : List ℕ) (why : Refusal) → IsDecided (Rule why) → Refuses m p why → cause m p ≡ Some (Rule why)
 refused m p why decided (clean, refusal) = ap (λ o. cause_by o m p) clean ∙ ap (option_map Rule) (by_reason (reason m (message_of p)) refusal) where
   by_reason : (r : Option Refusal) → IsRefusal r (takes_memory m (message_of p)) why → r ≡ Some why
   by_reason None (wanting, takes) = absurd (subst (λ w. IsDecided (Rule w)) wanting decided)
   by_reason (Some r) same = ap Some (sym same)
 
--- after the payloads that were taken the rest of the file follows
+-- the rest of the file follows the payloads that were taken
 module _ (m n : Content) (b c : List ℕ) (ps : List (List ℕ)) (takes : Takes m (Some b) (Some c) ps n) (few : length ps ≤ 10 ^ 19 - 1) where
   ended : Ends c → Stops m b (length ps) End
   ended ends = subst (Stops m b (length ps)) (ends_stop c ends) (none_ends m b ps c (record { whole = takes.bytes; each = takes.full; last = inl ends }) few takes.none)
@@ -62,7 +62,7 @@ module _ (m n : Content) (b c : List ℕ) (ps : List (List ℕ)) (takes : Takes 
       let more = one_more new p off in
       full_stops m b more.0 ps p more.1 takes.full off.0 (eqb-true (length ps) (10 ^ 19 - 1) full) takes.none
 
--- the stop of a replay is the one that the file has
+-- the stop of a replay is the stop of the file
 pub replays_stop : (m n : Content) (old new : Option (List ℕ)) (count : ℕ) (stop : Stop) → Replays m old new count stop n → IfSome old (λ b. IsDecided stop → Stops m b count stop)
 replays_stop m n None new count stop replays = tt
 replays_stop m n (Some b) new count stop (ps, None, takes, counted, few, halts) = absurd takes.bytes
@@ -71,7 +71,7 @@ replays_stop m n (Some b) new count stop (ps, Some c, takes, counted, few, halts
     (decided_by m n b c ps takes (subst (λ k. k ≤ 10 ^ 19 - 1) (sym counted) few) new stop
     (subst (λ k. Halts (k == 10 ^ 19 - 1) (after m (map message_of ps)) (Some c) new stop) (sym counted) halts) decided)
 
--- the market left is that of the file's first messages
+-- the market afterwards is that of the file's first messages
 pub replays_content : (m n : Content) (old new : Option (List ℕ)) (count : ℕ) (stop : Stop) → Replays m old new count stop n
     → IfSome old (λ b. (ps : List (List ℕ)) → (rest : List ℕ) → Day b ps rest → n ≡ laid (after m (map message_of (take count ps))))
 replays_content m n None new count stop replays = tt

@@ -1,4 +1,4 @@
--- No rule gives out of memory as its reason.
+-- No rule has `OutOfMemory` as its reason.
 use Rattle.std.proofs.Common.{◌≢◌, ℕ, ◌==◌, Bool, true, false, List, Option, Some, None, subst}
 use Rattle.std.specs.FinMap as map
 use Rattle.itch_codec.specs.declared.message.Message.{Message}
@@ -13,7 +13,7 @@ use Rattle.itch_market.specs.Content.{Content, Listing}
 use Rattle.itch_market.specs.Reasons.{reason, refuse, is_other_stock, is_live, security_reason, order_reason, directory_reason, add_reason, take_reason}
 use Rattle.itch_market.specs.Replays.{IsDecided}
 
--- a reason that the file alone decides, if there is one
+-- a reason that depends only on the file, if there is one
 abbrev pub Reasoned : Option Refusal → Type 0
 Reasoned None = Unit {0}
 Reasoned (Some why) = IsDecided (stop.Rule why)

@@ -1,4 +1,4 @@
--- Runs of two lists of messages, one after the other.
+-- Two lists of messages, one after another.
 use Rattle.std.proofs.Common.{◌≡◌, List, [], ◌∷◌, ◌++◌, refl}
 use Rattle.itch_codec.specs.declared.message.Message.{Message}
 use Rattle.itch_market.specs.Content.{Content}

@@ -1,4 +1,4 @@
--- Same markets, and markets with their orders in snapshot order.
+-- Markets that are the same, and markets with their orders in snapshot order.
 use Rattle.std.proofs.Common.{◌≡◌, ℕ, List, [], ◌∷◌, None, refl, sym, ap, ◌∙◌}
 use Rattle.itch_codec.specs.declared.message.Message.{Message}
 use Rattle.itch_codec.specs.declared.orders.Side.{Side}
@@ -15,7 +15,7 @@ use Rattle.itch_market.specs.SameMarkets.{Same}
 use Rattle.itch_market.proofs.GoodMarkets.{effect_good}
 use Rattle.itch_market.proofs.LaidMarkets.{reason-laid, effect-laid}
 
--- same markets are one market with their orders in snapshot order
+-- markets that are the same are equal with their orders in snapshot order
 pub laid_same : (m n : Content) → Same m n → laid m ≡ laid n
 laid_same m n same = λ i. record { event = same.event i; securities = same.securities i; orders = lay_same m.orders n.orders same.queues i }
 
@@ -44,17 +44,17 @@ same_chain k m n one two = record {
   queues = λ locate side. one.queues locate side ∙ two.queues locate side;
 }
 
--- same markets refuse the same messages, for one reason
+-- markets that are the same refuse the same messages, for the same reason
 pub reason_same : (m n : Content) (x : Message) → IsGood m → IsGood n → Same m n → reason m x ≡ reason n x
 reason_same m n x good fine same = sym (reason-laid m x good) ∙ ap (λ c. reason c x) (laid_same m n same) ∙ reason-laid n x fine
 
--- a message that is not refused leaves same markets the same
+-- markets that are the same remain so after a message that is not refused
 pub effect_same : (m n : Content) (x : Message) → IsGood m → IsGood n → IsMessage x → reason m x ≡ None → Same m n → Same (effect m x) (effect n x)
 effect_same m n x good fine fit none same =
     same_laid (effect m x) (effect n x) (effect_good m x good fit none) (effect_good n x fine fit (sym (reason_same m n x good fine same) ∙ none))
     (sym (effect-laid m x good) ∙ ap (λ c. laid (effect c x)) (laid_same m n same) ∙ effect-laid n x fine)
 
--- messages that follow the order rules from a market follow them from each market that is the same
+-- messages that follow the order rules from a market on follow them from each market that is the same
 pub follows_same : (m n : Content) (ms : List Message) → IsGood m → IsGood n → AreMessages ms → Same m n → FollowsFrom m ms → FollowsFrom n ms
 follows_same m n [] good fine fit same follows = tt
 follows_same m n (x ∷ xs) good fine fit same follows =
@@ -64,7 +64,7 @@ follows_same m n (x ∷ xs) good fine fit same follows =
           (effect_same m n x good fine fit.0 follows.0 same) follows.1,
     )
 
--- and leave same markets the same
+-- and the markets remain the same
 pub after_same : (m n : Content) (ms : List Message) → IsGood m → IsGood n → AreMessages ms → Same m n → FollowsFrom m ms → Same (after m ms) (after n ms)
 after_same m n [] good fine fit same follows = same
 after_same m n (x ∷ xs) good fine fit same follows =

@@ -1,4 +1,4 @@
--- Slots by locate: what the directory that they hold has where, its keys, and how it changes.
+-- Slots by locate: the entries of their directory, its keys, and its changes.
 use Rattle.std.proofs.Common.{◌≡◌, ◌≢◌, ℕ, zero, suc, ◌+◌, ◌<◌, ◌≤◌, true, false, cond, eqb, List, [], ◌∷◌, ◌++◌, length, drop, replicate, Option, Some, None, is_some, refl, sym, ap, ◌∙◌, arith, add-one, nat_cmp, Less, get_or, set, ◌==◌, w64}
 use Rattle.std.specs.FinMap as map
 use Rattle.std.specs.Map.{keys_of}
@@ -24,7 +24,7 @@ use Rattle.itch_market.proofs.Maps.{get-insert, get_there, get_elsewhere, same_m
 apart : (q locate : ℕ) → q < locate → q ≢ locate
 apart q locate low same = absurd (omega arith)
 
--- below the first locate there is nothing
+-- there is no entry below the first locate
 get_below : (slots : List (Option Listing)) (locate q : ℕ) → q < locate → map.get (map.from_entries {R = nat_cmp} (entries_from locate slots)) q ≡ None
 get_below [] locate q low = map.get-empty nat_cmp q
 get_below (None ∷ slots) locate q low = get_below slots (suc locate) q (omega arith)
@@ -47,17 +47,17 @@ get_from (Some s ∷ slots) locate (suc q) =
     let on : locate + suc q ≡ suc locate + q = omega arith in
     rw on (get_elsewhere _ locate s (suc locate + q) (above q locate) ∙ get_from slots (suc locate) q)
 
--- the directory that slots hold has at a locate what the slots have there
+-- the directory of slots has at each locate the entry of the slot
 pub get_of_slots : (slots : List (Option Listing)) (locate : ℕ) → map.get (directory slots) locate ≡ slot slots locate
 get_of_slots slots locate =
     let here : 0 + locate ≡ locate = omega arith in
     rw here at (get_from slots 0 locate)
 
--- slots that have the same everywhere hold one directory
+-- slots with the same entries have the same directory
 pub same_slots : (slots others : List (Option Listing)) → ((q : ℕ) → slot slots q ≡ slot others q) → directory slots ≡ directory others
 same_slots slots others same = same_map _ _ (λ q. get_of_slots slots q ∙ same q ∙ sym (get_of_slots others q))
 
--- a slot read by its place
+-- a slot read by its index
 pub slot_read : (slots : List (Option Listing)) (i : ℕ) (s d : Option Listing) → i < length slots → s ≡ get_or slots i d → s ≡ slot slots i
 slot_read [] i s d low is = absurd (omega arith)
 slot_read (x ∷ slots) zero s d low is = is
@@ -84,7 +84,7 @@ slot_set (x ∷ slots) zero s (suc q) low = rw (not_zero q) refl
 slot_set (x ∷ slots) (suc i) s zero low = rw (zero_not i) refl
 slot_set (x ∷ slots) (suc i) s (suc q) low = rw (one_less q i) (slot_set slots i s q (omega arith))
 
--- a slot filled is a security inserted
+-- filling a slot inserts a security
 pub directory_set : (slots : List (Option Listing)) (i : ℕ) (s : Listing) → i < length slots → directory (set slots i (Some s)) ≡ map.insert (directory slots) i s
 directory_set slots i s low =
     same_map _ _ (λ q. get_of_slots (set slots i (Some s)) q ∙ slot_set slots i s q low
@@ -100,7 +100,7 @@ slot_more [] n q = slot_empty n q
 slot_more (x ∷ slots) n zero = refl
 slot_more (x ∷ slots) n (suc q) = slot_more slots n q
 
--- empty slots at the end say nothing
+-- empty slots at the end do not matter
 pub directory_more : (slots : List (Option Listing)) (n : ℕ) → directory (slots ++ replicate n None) ≡ directory slots
 directory_more slots n = same_slots _ _ (slot_more slots n)
 
@@ -122,7 +122,7 @@ rise (Some s ∷ slots) locate = (rise_above slots locate (suc locate) (omega ar
 pub keys_of_slots : (slots : List (Option Listing)) → locates_from 0 slots ≡ map.keys (directory slots)
 keys_of_slots slots = ap keys_of (sym (entries_of_rising (entries_from 0 slots) (rise slots 0)))
 
--- one slot on
+-- one slot further
 locates_step : (slots : List (Option Listing)) (i : ℕ) (s : Option Listing) → i < length slots → s ≡ get_or slots i s
     → locates_from i slots ≡ keys_of (entries_from i (s ∷ drop (suc i) slots))
 locates_step slots i s low is =
@@ -134,13 +134,13 @@ pub locates_here : (slots : List (Option Listing)) (i : ℕ) (s : Option Listing
 locates_here slots i None low is there = absurd (cc)
 locates_here slots i (Some s) low is there = locates_step slots i (Some s) low is
 
--- a locate without one is passed over
+-- a locate without one is skipped
 pub locates_on : (slots : List (Option Listing)) (i : ℕ) (s : Option Listing) → i < length slots → s ≡ get_or slots i s → false ≡ is_some s
     → locates_from i slots ≡ locates_from (i + 1) slots
 locates_on slots i None low is none = rw add-one (locates_step slots i None low is)
 locates_on slots i (Some s) low is none = absurd (cc)
 
--- after the last slot there is none
+-- there is none after the last slot
 pub locates_past : (slots : List (Option Listing)) (i : ℕ) → length slots ≤ i → locates_from i slots ≡ []
 locates_past slots i past = ap (λ xs. keys_of (entries_from i xs)) (drop_all i slots past)
 
@@ -153,11 +153,11 @@ slot_within (x ∷ slots) (suc i) s there = let below = slot_within slots i s th
 pub within : (slots : List (Option Listing)) (i : ℕ) (s : Listing) → Some s ≡ map.get (directory slots) i → i < length slots
 within slots i s there = slot_within slots i s (sym (get_of_slots slots i) ∙ sym there)
 
--- beyond the slots the directory has nothing
+-- beyond the slots the directory has no entries
 pub get_past : (slots : List (Option Listing)) (i : ℕ) → length slots < i + 1 → map.get (directory slots) i ≡ None
 get_past slots i past = get_of_slots slots i ∙ slot_past slots i (omega arith)
 
--- a security that is put where it is changes nothing
+-- storing a security where it already is changes nothing
 pub kept_here : (securities : Securities) (locate : ℕ) (s t : Listing) → Some s ≡ map.get securities locate → t ≡ s → map.insert securities locate t ≡ securities
 kept_here securities locate s t there same =
     ap (map.insert securities locate) same ∙ insert_present nat_cmp_total nat_cmp-IsAntisymmetric securities locate s (sym there)
@@ -167,12 +167,12 @@ pub stocks_set : (stocks : List (List ℕ)) (slots : List (Option Listing)) (i :
     → set stocks i (stock_in s) ≡ map_list stock_in (set slots i s)
 stocks_set stocks slots i s same = ap (λ xs. set xs i (stock_in s)) same ∙ sym (map-set stock_in slots i s)
 
--- an empty slot and its zeros come together
+-- an empty slot and its zeros are added together
 pub stocks_more : (stocks : List (List ℕ)) (slots : List (Option Listing)) → stocks ≡ map_list stock_in slots
     → stocks ++ stock_in None ∷ [] ≡ map_list stock_in (slots ++ None ∷ [])
 stocks_more stocks slots same = ap (λ xs. xs ++ stock_in None ∷ []) same ∙ sym (map-append stock_in slots (None ∷ []))
 
--- a stock is that of its slot
+-- a stock is the stock of its slot
 pub stock_read : (stocks : List (List ℕ)) (slots : List (Option Listing)) (i : ℕ) (known : List ℕ) → stocks ≡ map_list stock_in slots → i < length stocks
     → known ≡ get_or stocks i known → known ≡ stock_in (slot slots i)
 stock_read stocks slots i known same low is =
@@ -180,12 +180,12 @@ stock_read stocks slots i known same low is =
     is ∙ ap (λ xs. get_or xs i known) same ∙ get_or-map stock_in slots i None known within
     ∙ ap stock_in (slot_read slots i (get_or slots i None) None within refl)
 
--- eight zeros are no stock
+-- eight zeros are not a stock
 zeros_differ : (stock : List ℕ) → IsPrintable stock → length stock ≡ 8 → bytes_eq (replicate 8 0) stock ≡ false
 zeros_differ [] printable width = absurd (omega arith)
 zeros_differ (byte ∷ stock) printable width = let other : eqb 0 byte ≡ false = grind (arith, nat_tests) in rw other refl
 
--- eight bytes are the same where the numbers that they make are
+-- eight bytes are equal if their numbers are equal
 pub same_number : (xs ys : List ℕ) → length xs ≡ 8 → length ys ≡ 8 → ((i : ℕ) → get_or xs i 0 < 256) → ((i : ℕ) → get_or ys i 0 < 256)
     → (from_be_bytes w64 xs == from_be_bytes w64 ys) ≡ bytes_eq xs ys
 same_number xs ys long_xs long_ys fits_xs fits_ys =
@@ -194,12 +194,12 @@ same_number xs ys long_xs long_ys fits_xs fits_ys =
     (ap (from_be_bytes w64)) (Decides-eqb (from_be_bytes w64 xs) (from_be_bytes w64 ys)))
     (bytes_eq-Decides xs ys)
 
--- to compare with the stock beside a slot is to compare with that of its security
+-- comparing the stock stored with a slot is comparing the stock of its security
 pub stock_compared : (s : Option Listing) (stock : List ℕ) → IsPrintable stock → length stock ≡ 8 → bytes_eq (stock_in s) stock ≡ has_stock s stock
 stock_compared None stock printable width = zeros_differ stock printable width
 stock_compared (Some s) stock printable width = refl
 
--- an empty slot that is emptied changes nothing
+-- emptying an empty slot changes nothing
 pub none_kept : (slots : List (Option Listing)) (i : ℕ) (was now taken : Option Listing) → i < length slots → taken ≡ was → was ≡ get_or slots i was → now ≡ None
     → IsNone taken → directory (set slots i now) ≡ directory slots
 none_kept slots i was now (Some s) low taken read emptied none = absurd (let none_none : ⊥ = cc in none_none)

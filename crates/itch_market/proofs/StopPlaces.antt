@@ -1,4 +1,4 @@
--- The place at which a replay of a day file stops: a payload, one payload too many, or the end of all payloads.
+-- The place where a replay of a day file stops: a payload, one payload beyond the maximum, or the end of all payloads.
 use Rattle.std.proofs.Common.{◌≡◌, ℕ, ◌-◌, ◌^◌, ◌<◌, ◌≤◌, ◌⊎◌, nat_lt, min, List, length, None, Some, refl, sym, ◌∙◌, inl, inr, arith}
 use Rattle.std.proofs.lemmas.Bool.{cases_lt}
 use Rattle.std.proofs.lemmas.Bool.Decides.{nat_tests}
@@ -16,7 +16,7 @@ module _ (m : Content) (ps : List (List ℕ)) (rest : List ℕ) (k : ℕ) (why :
       sym (first.before (min (10 ^ 19 - 1) (length ps)) later) ∙ stop_after (10 ^ 19 - 1) m ps rest (min (10 ^ 19 - 1) (length ps)) refl in
       let no : ⊥ = cc in no
 
-  -- it is no later than the last one
+  -- it is not after the last one
   pub no_later : k ≤ min (10 ^ 19 - 1) (length ps)
   no_later = elim (cases_lt (min (10 ^ 19 - 1) (length ps)) k) [
     | inl later ↦ absurd (not_later later)

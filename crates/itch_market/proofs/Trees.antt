@@ -1,4 +1,4 @@
--- Finite maps with keys in any total order that says keys apart: what a `BTreeMap` holds of one, and what its entries make.
+-- Finite maps with keys in any total order that distinguishes keys: the content of a `BTreeMap`, and the map of its entries.
 use Rattle.std.proofs.Common.{T, ◌&&◌, is_lt, is_eq, Ordering, Less, Equal, Greater, ◌≡◌, Bool, true, false, cond, List, [], ◌∷◌, Option, Some, None, refl, sym, ap, ◌∙◌, subst, arith, length, filter}
 use Rattle.std.specs.Ordering.{eq_by_cmp}
 use Rattle.std.specs.Cmp.{IsTotalOrder, eq_by_cmp_equiv, tied_itself}
@@ -17,7 +17,7 @@ no_entries : {A : Type 0} (es : List A) → length es ≡ 0 → es ≡ []
 no_entries [] none = refl
 no_entries (e ∷ es) none = absurd (omega arith)
 
--- two tests of which both hold
+-- two conditions that both hold
 pub both : (a b : Bool) → T (a && b) → T a × T b
 both true b holds = (tt, holds)
 both false b holds = absurd holds
@@ -41,17 +41,17 @@ module _ {K X : Type 0} {R : K → K → Ordering} (total : IsTotalOrder R) (exa
   found [] k = refl
   found (e ∷ es) k = ap (cond (eq_by_cmp R k e.0) (Some e.1)) (found es k)
 
-  -- what a tree gives for a key is what the map of its entries does
+  -- a tree and the map of its entries have the same value for a key
   pub get_of_tree : (m : BTreeMap K X) (k : K) → map.get (map.from_entries {R = R} m.entries) k ≡ tree.get R m k
   get_of_tree m k = map.get-from_entries total m.entries k ∙ found m.entries k
 
-  -- a tree in which one key got a value is the map with that entry inserted
+  -- the tree after a key got a value is the map with that entry inserted
   pub insert_of_tree : (m n : BTreeMap K X) (k : K) (v : X) → tree.Updates R m n k (Some v) → map.from_entries {R = R} n.entries ≡ map.insert (map.from_entries m.entries) k v
   insert_of_tree m n k v updates =
       map.same_map total exact _ _ (λ q. get_of_tree n q ∙ updates.0 q ∙ ap (λ b. cond b (Some v) (tree.get R m q)) ((eq_by_cmp_equiv total).symm k q)
       ∙ ap (cond (eq_by_cmp R q k) (Some v)) (sym (get_of_tree m q)) ∙ sym (map.get-insert total (map.from_entries m.entries) k v q))
 
-  -- a tree's entries, whose keys rise, are those of their map
+  -- the entries of a tree, whose keys ascend, are the entries of their map
   pub entries_of_tree : (es : List (K × X)) → IsStrictlySortedBy R (keys_of es) → map.entries (map.from_entries {R = R} es) ≡ es
   entries_of_tree [] rise = no_entries (map.entries (map.empty {R = R})) (sym (map.len-entries map.empty) ∙ map.len-empty R X)
   entries_of_tree (e ∷ []) rise =
@@ -61,14 +61,14 @@ module _ {K X : Type 0} {R : K → K → Ordering} (total : IsTotalOrder R) (exa
       ∙ ap (put R e.0 e.1) (entries_of_tree (f ∷ es) (sorted_tail R e.0 _ rise))
       ∙ ap (λ o. by_order o (e ∷ f ∷ es) ((f.0, e.1) ∷ es) (f ∷ put R e.0 e.1 es)) (sorted_head R e.0 _ rise).0
 
-  -- the value that a key has, put in again, changes nothing
+  -- inserting the value that a key already has changes nothing
   pub insert_present : (m : FinMap R X) (k : K) (v : X) → map.get m k ≡ Some v → map.insert m k v ≡ m
   insert_present m k v there = map.same_map total exact _ _ (λ q. map.get-insert total m k v q ∙ by_key q (eq_by_cmp R q k) refl) where
     by_key : (q : K) (b : Bool) → eq_by_cmp R q k ≡ b → cond b (Some v) (map.get m q) ≡ map.get m q
     by_key q true on = sym (ap (map.get m) (exact q k (equal (R q k) on)) ∙ there)
     by_key q false off = refl
 
-  -- what is true of each entry stays true where such an entry is put in
+  -- a property of each entry still holds after the insertion of an entry with that property
   pub each_after : (P : K → X → Type 0) (m : FinMap R X) (k : K) (v : X) → ((q : K) → IsMaybe (P q) (map.get m q)) → P k v
       → (q : K) → IsMaybe (P q) (map.get (map.insert m k v) q)
   each_after P m k v each new q = subst (IsMaybe (P q)) (sym (map.get-insert total m k v q)) (by_key (eq_by_cmp R q k) refl) where
@@ -76,12 +76,12 @@ module _ {K X : Type 0} {R : K → K → Ordering} (total : IsTotalOrder R) (exa
     by_key true on = subst (λ l. P l v) (sym (exact q k (equal (R q k) on))) new
     by_key false off = each q
 
-  -- one entry after the other put into a map
+  -- a map after the insertion of these entries, one after another
   abbrev pub insert_all : FinMap R X → List (K × X) → FinMap R X
   insert_all m [] = m
   insert_all m (e ∷ es) = insert_all (map.insert m e.0 e.1) es
 
-  -- the first value, or the second where it is none
+  -- the first value, or the second if there is no first
   abbrev pub either : Option X → Option X → Option X
   either None o = o
   either (Some x) o = Some x
@@ -90,7 +90,7 @@ module _ {K X : Type 0} {R : K → K → Ordering} (total : IsTotalOrder R) (exa
   either_none None = refl
   either_none (Some x) = refl
 
-  -- a key below all others is none of them
+  -- a key below all others is not among them
   below_absent : (k : K) (es : List (K × X)) → T (below_all R k es) → map.find R k es ≡ None
   below_absent k [] below = refl
   below_absent k (e ∷ es) below =
@@ -111,7 +111,7 @@ module _ {K X : Type 0} {R : K → K → Ordering} (total : IsTotalOrder R) (exa
           ap (λ o. either o (Some e.1)) (ap (λ k. map.find R k es) (exact q e.0 (equal (R q e.0) on)) ∙ below_absent e.0 es below)
       by_key below false off = refl
 
-  -- a map is what its entries make, put into the empty map
+  -- a map is the result of inserting its entries into the empty map
   pub insert_all-entries : (m : FinMap R X) → insert_all map.empty (map.entries m) ≡ m
   insert_all-entries m = map.same_map total exact (insert_all map.empty (map.entries m)) m (λ q.
       get-insert_all map.empty (map.entries m) q (map.entries_sorted m)
@@ -133,14 +133,14 @@ module _ {K X : Type 0} {R : K → K → Ordering} (total : IsTotalOrder R) (exa
       let parts = both (below_all R e.0 es) (is_sorted R es) sorted in
       (ap (λ o. cond (is_eq o) (Some e.1) (map.find R e.0 es)) (tied_itself total e.0), there_after e es es parts.0 (there_sorted es parts.1))
 
-  -- what is true of each value at its key is true of each entry
+  -- a property of each value at its key is a property of each entry
   pub each_entry : (P : K → X → Type 0) (m : FinMap R X) → ((q : K) → IsMaybe (P q) (map.get m q)) → AllByRecursion (λ e. P e.0 e.1) (map.entries m)
   each_entry P m each = go (map.entries m) (there_sorted (map.entries m) (map.entries_sorted m)) where
     go : (es : List (K × X)) → AllByRecursion (λ e. map.find R e.0 (map.entries m) ≡ Some e.1) es → AllByRecursion (λ e. P e.0 e.1) es
     go [] there = tt
     go (e ∷ es) there = (subst (IsMaybe (P e.0)) (map.get-entries m e.0 ∙ there.0) (each e.0), go es there.1)
 
-  -- the entries that are retained, in their order
+  -- the retained entries, in their order
   found_retained : (p : K → Bool) (q : K) (es : List (K × X)) → map.find R q (filter (λ e. p e.0) es) ≡ cond (p q) (map.find R q es) None
   found_retained p q [] = nothing (p q) where
     nothing : (b : Bool) → ◌≡◌ {A = Option X} None (cond b None None)

@@ -1,5 +1,5 @@
--- What contracts see of a market, that is, what is kept of the messages of TotalView-ITCH 5.0: the last "System Event", the "Stock
--- Directory" with the trading states, and the orders of "Add Order" that are live.
+-- A market as contracts describe it, that is, the data kept from the messages of TotalView-ITCH 5.0: the last "System Event", the "Stock
+-- Directory" with the trading states, and the live orders of "Add Order".
 use Rattle.std.specs.Prelude.{ℕ, List, [], Option, None}
 use Rattle.std.specs.Ordering.{nat_cmp}
 use Rattle.std.specs.Cmp.Lexicographic.{slice_cmp}
@@ -17,7 +17,7 @@ HaltActions = map.FinMap nat_cmp ℕ
 abbrev pub ParticipantPositions : Type 0
 ParticipantPositions = map.FinMap (slice_cmp nat_cmp) (List ℕ)
 
--- what is kept of a security: its last directory entry, its trading states, its halts and its participants' positions
+-- the data of a security: its last directory entry, its trading states, its halts and its participants' positions
 pub record Listing : Type 0 where
   pub entry : Directory
   pub action : Option Action
@@ -25,7 +25,7 @@ pub record Listing : Type 0 where
   pub halts : HaltActions
   pub positions : ParticipantPositions
 
--- the directory: what is kept of the security at each locate
+-- the directory: the data of the security at each locate
 abbrev pub Securities : Type 0
 Securities = map.FinMap nat_cmp Listing
 

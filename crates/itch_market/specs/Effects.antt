@@ -1,4 +1,4 @@
--- What a message that is not refused changes in a market. Names in quotes are the sections of TotalView-ITCH 5.0.
+-- The effect of a message that is not refused on a market. Names in quotes are the sections of TotalView-ITCH 5.0.
 use Rattle.std.specs.Prelude.{ℕ, Bool, true, false, not, List, [], ◌∷◌, Option, Some, None, is_some}
 use Rattle.std.specs.FinMap as map
 use Rattle.itch_book.specs.declared.order.Order.{Order}
@@ -12,7 +12,7 @@ use Rattle.itch_codec.specs.declared.stocks.ParticipantPosition.{ParticipantPosi
 use Rattle.itch_market.specs.declared.security.Action.{Action}
 use Rattle.itch_market.specs.Content.{Content, Securities, Listing}
 
--- a new directory entry, with the trading states, halts and positions that stood there
+-- a new directory entry, with the existing trading states, halts and positions of the locate
 abbrev pub entered : Option Listing → Directory → Listing
 entered None entry = record { entry = entry; action = None; sho = None; halts = map.empty; positions = map.empty }
 entered (Some s) entry = record s { entry = entry }
@@ -47,11 +47,11 @@ changed_at change locate (Some s) securities = map.insert securities locate (cha
 abbrev pub changed : (Listing → Listing) → ℕ → Securities → Securities
 changed change locate securities = changed_at change locate (map.get securities locate) securities
 
--- the live order that an add order message makes
+-- the live order that an Add Order message adds
 abbrev pub order_of : AddOrder → Option (List ℕ) → Order
 order_of x mpid = record { reference = x.reference; locate = x.header.locate; side = x.side; shares = x.shares; price = x.price; mpid = mpid }
 
--- what is left of the market after a message
+-- the market after a message
 abbrev pub effect : Content → Message → Content
 -- "System Event Message", "Stock Directory", "Stock Trading Action", "Reg SHO Restriction", "Operational Halt", "Market Participant Position"
 effect m (is.SystemEvent x) = record m { event = Some x.code }
@@ -70,7 +70,7 @@ effect m (is.OrderExecutedWithPrice x) = record m { orders = book.taken x.execut
 effect m (is.OrderCancel x) = record m { orders = book.taken x.reference x.shares m.orders }
 effect m (is.OrderDelete x) = record m { orders = book.without x.reference m.orders }
 effect m (is.OrderReplace x) = record m { orders = book.replaced x.original x.reference x.shares x.price m.orders }
--- trade messages change no order
+-- trade messages do not change orders
 effect m (is.Trade x) = m
 effect m (is.CrossTrade x) = m
 effect m (is.BrokenTrade x) = m
@@ -87,7 +87,7 @@ abbrev pub lacks_position : Option Listing → List ℕ → Bool
 lacks_position None mpid = false
 lacks_position (Some s) mpid = not (is_some (map.get s.positions mpid))
 
--- the messages that take memory: those that make an order, a directory entry, or the first halt of a market code or position of a participant
+-- the messages that take memory: those that add an order, a directory entry, or the first halt of a market code or position of a participant
 abbrev pub takes_memory : Content → Message → Bool
 takes_memory m (is.SystemEvent x) = false
 takes_memory m (is.StockDirectory x) = not (is_some (map.get m.securities x.header.locate))

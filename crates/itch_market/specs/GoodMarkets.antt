@@ -1,4 +1,4 @@
--- What is true of every market.
+-- The properties of every market.
 use Rattle.std.specs.Prelude.{ℕ, ◌<◌, IsSome}
 use Rattle.std.specs.List.{AllByRecursion}
 use Rattle.std.specs.FinMap as map
@@ -7,11 +7,11 @@ use Rattle.itch_book.specs.Orders as book
 use Rattle.itch_market.specs.Content.{Content, Securities}
 use Rattle.itch_market.specs.Widths.{IsMaybe, IsSecurity, IsOrder}
 
--- an order of a locate in the directory
+-- an order whose locate is in the directory
 abbrev pub IsListed : Securities → Order → Type 0
 IsListed securities x = IsSome (map.get securities x.locate)
 
--- a good market: what is kept fits its fields, and each order has shares, a reference of its own, and a locate of the directory
+-- a good market: its values fit their fields, and each order has shares, a unique reference, and a locate of the directory
 pub record IsGood (m : Content) : Type 0 where
   pub event : IsMaybe (λ code. code < 256) m.event
   pub securities : (locate : ℕ) → IsMaybe (λ s. (locate < 65536) × IsSecurity s) (map.get m.securities locate)

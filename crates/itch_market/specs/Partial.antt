@@ -27,7 +27,7 @@ locate_of (is.BrokenTrade x) = None
 locate_of (is.End next) = None
 locate_of (is.Other payload) = None
 
--- a locate that is not wanted
+-- a locate that is not in the set of wanted ones
 abbrev pub is_out : (ℕ → Bool) → Option ℕ → Bool
 is_out wanted None = false
 is_out wanted (Some locate) = not (wanted locate)

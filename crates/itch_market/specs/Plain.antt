@@ -1,4 +1,4 @@
--- The plainest message that changes a market as another one does.
+-- The plainest message with the effect of another one on a market.
 use Rattle.std.specs.Prelude.{ℕ, ◌==◌, Bool, false, ◌&&◌, if◌then◌else◌, List, Option, Some, None}
 use Rattle.std.specs.Str.{bytes_eq}
 use Rattle.std.specs.FinMap as map
@@ -12,7 +12,7 @@ use Rattle.itch_market.specs.declared.security.Action.{Action}
 use Rattle.itch_market.specs.Content.{Content, Listing}
 use Rattle.itch_market.specs.Effects.{action_of, position_of}
 
--- the header with nothing but a locate
+-- the header that has only a locate
 abbrev pub plain_header : ℕ → Header
 plain_header locate = record { locate = locate; tracking = 0; stamp = 0 }
 
@@ -20,7 +20,7 @@ plain_header locate = record { locate = locate; tracking = 0; stamp = 0 }
 abbrev pub nothing : Message
 nothing = is.BrokenTrade (record { header = plain_header 0; match_number = 0 })
 
--- ---- what is set already
+-- ---- values that are already set
 
 abbrev pub is_number : Option ℕ → ℕ → Bool
 is_number None n = false
@@ -66,7 +66,7 @@ has_position (Some s) mpid position = is_text (map.get s.positions mpid) positio
 
 -- ---- the plainest message
 
--- a message that sets what may be set already
+-- a message that sets a value, unless it is already set
 abbrev pub unless : Bool → Message → Message
 unless set x = if set then nothing else x
 
@@ -82,7 +82,7 @@ plain_take o locate reference shares =
     (if are_all o shares then is.OrderDelete (record { header = plain_header locate; reference = reference })
     else is.OrderCancel (record { header = plain_header locate; reference = reference; shares = shares }))
 
--- the plainest message that changes a market as this one does, if it is not refused
+-- the plainest message with the effect of this one on a market, if it is not refused
 abbrev pub plain : Content → Message → Message
 plain m (is.SystemEvent x) = unless (is_number m.event x.code) (is.SystemEvent (record { header = plain_header 0; code = x.code }))
 plain m (is.StockDirectory x) =

@@ -1,4 +1,4 @@
--- The order rules, this product's own over the messages of TotalView-ITCH 5.0: for each message the first check that fails is the
+-- The order rules, which are this product's own rules for the messages of TotalView-ITCH 5.0: the first check that fails for a message is the
 -- reason why it is refused.
 use Rattle.std.specs.Prelude.{ℕ, ◌==◌, nat_lt, Bool, not, if◌then◌else◌, List, Option, Some, None, is_some}
 use Rattle.std.specs.Str.{bytes_eq}
@@ -16,26 +16,26 @@ use Rattle.itch_market.specs.Content.{Content, Listing}
 abbrev pub refuse : Bool → Refusal → Option Refusal → Option Refusal
 refuse fails why later = if fails then Some why else later
 
--- the stock is not the one that the directory has
+-- the stock is not the one in the directory
 abbrev pub is_other_stock : Listing → List ℕ → Bool
 is_other_stock s stock = not (bytes_eq s.entry.stock stock)
 
--- a directory entry: the locate is new, or has this stock
+-- a directory entry: the locate is new, or already has this stock
 abbrev pub directory_reason : Option Listing → List ℕ → Option Refusal
 directory_reason None stock = None
 directory_reason (Some s) stock = refuse (is_other_stock s stock) StockMismatch None
 
--- a message on a security: the locate is in the directory, with this stock
+-- a message about a security: the locate is in the directory, with this stock
 abbrev pub security_reason : Option Listing → List ℕ → Option Refusal → Option Refusal
 security_reason None stock later = Some UnknownLocate
 security_reason (Some s) stock later = refuse (is_other_stock s stock) StockMismatch later
 
--- a message on a live order: the reference is live, at this locate
+-- a message about a live order: the reference is live, at this locate
 abbrev pub order_reason : Option Order → ℕ → (Order → Option Refusal) → Option Refusal
 order_reason None locate later = Some UnknownRef
 order_reason (Some x) locate later = refuse (not (x.locate == locate)) LocateMismatch (later x)
 
--- a reference is that of a live order
+-- a live order has this reference
 abbrev pub is_live : Content → ℕ → Bool
 is_live m reference = is_some (book.get m.orders reference)
 
@@ -49,7 +49,7 @@ abbrev pub take_reason : Content → (locate reference shares : ℕ) → Option 
 take_reason m locate reference shares =
     order_reason (book.get m.orders reference) locate (λ x. refuse (nat_lt x.shares shares) (TooManyShares x.shares) None)
 
--- why a message is refused, if it is
+-- the reason why a message is refused, if it is
 abbrev pub reason : Content → Message → Option Refusal
 reason m (is.SystemEvent x) = None
 reason m (is.StockDirectory x) = directory_reason (map.get m.securities x.header.locate) x.entry.stock

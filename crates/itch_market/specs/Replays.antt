@@ -1,4 +1,4 @@
--- What a replay does to its reader and its market, step by step.
+-- A replay, step by step: its reader and its market.
 use Rattle.std.specs.Prelude.{◌≡◌, ◌≢◌, ℕ, ◌-◌, ◌<◌, ◌≤◌, ◌^◌, ◌==◌, ◌⊎◌, Bool, true, false, IsTrue, List, [], map, length, ⊤, Option, Some, None, Result, Ok, Err}
 use Rattle.std.specs.List.{AllByRecursion}
 use Rattle.std.specs.Io.KnownBytes.{Consumes}
@@ -28,7 +28,7 @@ NoCause m payloads = (k : ℕ) → k < length payloads → cause_at m payloads k
 abbrev pub Fits : List ℕ → Type 0
 Fits payload = IsMessage (message_of payload)
 
--- a message was refused: for its reason, or because memory ran out if it has none and takes memory
+-- a message was refused: for its reason, or because memory ran out, if it has no reason and takes memory
 abbrev pub IsRefusal : Option Refusal → Bool → Refusal → Type 0
 IsRefusal None takes why = (why ≡ OutOfMemory) × IsTrue takes
 IsRefusal (Some reason) takes why = why ≡ reason
@@ -49,7 +49,7 @@ TakesOne m payload (Err TooManyMessages) n = ⊥
 abbrev pub TakesOff : Option (List ℕ) → Option (List ℕ) → List ℕ → Type 0
 TakesOff old new payload = IsFull payload × Consumes old new (block payload)
 
--- why no further message is applied to this market; `full` says that as many were applied as there may be
+-- the reason why no further message is applied to this market; `full` states that the maximum number was applied
 abbrev pub Halts : Bool → Content → Option (List ℕ) → Option (List ℕ) → Stop → Type 0
 Halts full m old new (Codec f) = (payload : List ℕ) × TakesOff old new payload × (full ≡ false) × (fault payload ≡ Some f)
 Halts full m old new (Rule why) = (payload : List ℕ) × TakesOff old new payload × (full ≡ false) × Refuses m payload why
@@ -57,7 +57,7 @@ Halts full m old new End = EndsHere old new
 Halts full m old new (Frame fault) = FailsHere fault old new
 Halts full m old new TooManyMessages = (payload : List ℕ) × TakesOff old new payload × (full ≡ true)
 
--- a failed read is counted with its error, and nothing else is
+-- a failed read is counted with its error, and nothing else is counted
 abbrev pub Counts : Stop → Failures → Failures → Type 0
 Counts End old new = new ≡ old
 Counts (Frame (Truncated held)) old new = new ≡ old
@@ -72,7 +72,7 @@ abbrev pub CountsFirst : Option Stop → Failures → Failures → Type 0
 CountsFirst None old new = new ≡ old
 CountsFirst (Some stop) old new = Counts stop old new
 
--- how a stop leaves the reader of blocks, as `NextBlock` says for one block
+-- the reader of blocks after a stop, as in `NextBlock` for one block
 abbrev pub LeavesReader : {R : Type 0} → Stop → Reading R → Type 0
 LeavesReader End new = (new.held ≡ []) × ((new.stage ≡ Ended) ⊎ (new.stage ≡ Given))
 LeavesReader (Frame (Truncated held)) new = (new.stage ≡ Cut) × (held ≡ length new.held)
@@ -83,24 +83,24 @@ LeavesReader (Codec f) new = (new.held ≡ []) × (new.stage ≡ Given)
 LeavesReader (Rule why) new = (new.held ≡ []) × (new.stage ≡ Given)
 LeavesReader TooManyMessages new = (new.held ≡ []) × (new.stage ≡ Given)
 
--- Once the input has ended, or a block was truncated there, each replay stops at once in the same way, and reads nothing.
+-- After the end of the input, or a block truncated there, each replay stops at once in the same way, and reads nothing.
 abbrev pub StopsAgain : {R : Type 0} → Reading R → ℕ → Stop → Reading R → Type 0
 StopsAgain old count stop new =
     (old.stage ≡ Ended → (count ≡ 0) × (stop ≡ End) × (new ≡ old))
     × (old.stage ≡ Cut → (count ≡ 0) × (stop ≡ Frame (Truncated (length old.held))) × (new ≡ old))
 
--- the same if n messages are wanted: if none are, the reader is left as it was
+-- the same if n messages are requested: if n is 0, the reader does not change
 abbrev pub LeavesReaderFirst : {R : Type 0} → Reading R → ℕ → Option Stop → Reading R → Type 0
 LeavesReaderFirst old count None new =
     (count ≡ 0 → new ≡ old) × (0 < count → (new.held ≡ []) × (new.stage ≡ Given) × (old.stage ≢ Ended) × (old.stage ≢ Cut))
 LeavesReaderFirst old count (Some stop) new = LeavesReader stop new × StopsAgain old count stop new
 
--- what one block does: its message is applied, or the replay stops
+-- the effect of one block: its message is applied, or the replay stops
 abbrev pub Step : Bool → Content → Option (List ℕ) → Option (List ℕ) → Result (Unit {0}) Stop → Content → Type 0
 Step full m old new (Ok done) n = (payload : List ℕ) × TakesOff old new payload × (full ≡ false) × TakesOne m payload (Ok done) n
 Step full m old new (Err stop) n = (n ≡ m) × Halts full m old new stop
 
--- these payloads were taken off the front, and their messages applied
+-- these payloads came off the front, and their messages were applied
 pub record Takes (m : Content) (old new : Option (List ℕ)) (payloads : List (List ℕ)) (n : Content) : Type 0 where
   pub bytes : Consumes old new (blocks payloads)
   pub full : AllByRecursion IsFull payloads
@@ -114,13 +114,13 @@ Replays m old new count stop n =
     (payloads : List (List ℕ)) × (mid : Option (List ℕ)) × Takes m old mid payloads n × (length payloads ≡ count) × (count ≤ 10 ^ 19 - 1)
     × Halts (count == 10 ^ 19 - 1) (after m (map message_of payloads)) mid new stop
 
--- this many messages are applied and no more is read, or the replay stops before
+-- this number of messages is applied and no more is read, or the replay stops earlier
 abbrev pub ReplaysFirst : ℕ → Content → Option (List ℕ) → Option (List ℕ) → ℕ → Option Stop → Content → Type 0
 ReplaysFirst most m old new count (Some stop) n = (count < most) × Replays m old new count stop n
 ReplaysFirst most m old new count None n =
     (count ≡ most) × (count ≤ 10 ^ 19 - 1) × (payloads : List (List ℕ)) × Takes m old new payloads n × (length payloads ≡ count)
 
--- a stop that the file alone decides: no read failed, and no allocation
+-- a stop that depends only on the file: no read failed, and no allocation
 abbrev pub IsDecided : Stop → Type 0
 IsDecided End = ⊤
 IsDecided (Frame (Truncated held)) = ⊤

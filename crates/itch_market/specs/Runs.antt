@@ -1,4 +1,4 @@
--- What a list of messages leaves of a market, and whether it follows the order rules.
+-- The market after a list of messages, and whether the messages follow the order rules.
 use Rattle.std.specs.Prelude.{◌≡◌, List, [], ◌∷◌, None}
 use Rattle.std.specs.List.{AllByRecursion}
 use Rattle.itch_codec.specs.declared.message.Message.{Message}
@@ -11,16 +11,16 @@ use Rattle.itch_market.specs.Effects.{effect}
 abbrev pub AreMessages : List Message → Type 0
 AreMessages ms = AllByRecursion IsMessage ms
 
--- what these messages leave of a market
+-- the market after these messages, from this one on
 abbrev pub after : Content → List Message → Content
 after m [] = m
 after m (x ∷ xs) = after (effect m x) xs
 
--- what these messages leave of the empty market
+-- the market after these messages, from the empty one on
 abbrev pub run : List Message → Content
 run ms = after empty ms
 
--- no message is refused in the market that those before it leave of this one
+-- no message is refused in the market after the messages before it, from this market on
 abbrev pub FollowsFrom : Content → List Message → Type 0
 FollowsFrom m [] = Unit {0}
 FollowsFrom m (x ∷ xs) = (reason m x ≡ None) × FollowsFrom (effect m x) xs

@@ -1,4 +1,4 @@
--- What a message of a day does to a market that is handed it.
+-- The effect of a message of a day on the market that takes it.
 use Rattle.std.specs.Prelude.{◌≡◌, ℕ, List, Option, None, Some, Ok}
 use Rattle.itch_codec.specs.Messages.{fault}
 use Rattle.itch_day.specs.declared.stop.Stop.{Stop as Part}
@@ -10,16 +10,16 @@ use Rattle.itch_market.specs.declared.refused.Refused.TheVariants as is
 use Rattle.itch_market.specs.declared.stop.Stop.{Stop}
 use Rattle.itch_market.specs.declared.stop.Stop.TheVariants as stop
 
--- the message of a payload is applied, whatever its number
+-- the message of a payload is applied, for any number
 abbrev pub TakesMessage : Content → ℕ → List ℕ → Content → Type 0
 TakesMessage m number payload n = TakesOne m payload (Ok tt) n
 
--- it is refused, or there is none
+-- it is refused, or the payload is not a valid message
 abbrev pub RefusesMessage : Content → ℕ → List ℕ → Refused → Content → Type 0
 RefusesMessage m number payload (is.Codec f) n = (n ≡ m) × (fault payload ≡ Some f)
 RefusesMessage m number payload (is.Rule why) n = (n ≡ m) × Refuses m payload why
 
--- why a replay stops where a part of a day goes no further; as many messages as are wanted are no reason
+-- the reason of a replay when a part of a day stops; the end of the requested part is not a reason
 abbrev pub reason_of : Part Refused → Option Stop
 reason_of part.Full = None
 reason_of part.Late = None

@@ -1,9 +1,9 @@
--- What contracts see of a set of locates.
+-- A set of locates, as contracts describe it.
 use Rattle.std.specs.Prelude.{ℕ, Bool, ◌||◌, List}
 use Rattle.std.specs.List.{list_any}
 use Rattle.std.specs.Ordering.{nat_cmp, eq_by_cmp}
 
--- all locates, or those listed
+-- all locates, or the listed ones
 pub record Wanted : Type 0 where
   pub all : Bool
   pub listed : List ℕ

@@ -1,4 +1,4 @@
--- What fits the fields of securities and orders.
+-- The ranges of the fields of securities and orders.
 use Rattle.std.specs.Prelude.{ℕ, ◌<◌, ◌^◌, List, Option, Some, None}
 use Rattle.std.specs.FinMap as map
 use Rattle.itch_codec.specs.Fields.{IsBytes, IsAlpha}
@@ -7,7 +7,7 @@ use Rattle.itch_book.specs.declared.order.Order.{Order}
 use Rattle.itch_market.specs.Content.{Listing}
 use Rattle.itch_market.specs.declared.security.Action.{Action}
 
--- of the value, if there is one
+-- a property of the value, if there is one
 abbrev pub IsMaybe : {A : Type 0} → (A → Type 0) → Option A → Type 0
 IsMaybe P None = Unit {0}
 IsMaybe P (Some x) = P x

@@ -1,9 +1,9 @@
-//! Whether two messages are equal.
+//! Equality of messages.
 ghost use Rattle.std.specs.Prelude.{◌≡◌, ◌↔◌, IsTrue};
 
 use itch_codec::Message;
 
-/// Whether two messages are of one type and equal in each field, and undecoded ones in each byte.
+/// Returns whether two messages have the same type and equal fields, or equal bytes if they are undecoded.
 pub fn same_message(a: &Message<'_>, b: &Message<'_>) -> bool
     ensures { IsTrue result ↔ (a.now ≡ b.now) }
 {

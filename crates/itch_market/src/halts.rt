@@ -6,7 +6,7 @@ use std::alloc::AllocError;
 use std::collections::btree_map::Iter;
 use std::marker::Model;
 
-/// The market codes of a security's operational halts, in ascending order, each with its last action.
+/// Iterates over the market codes of a security's operational halts, in ascending order, each with its last action.
 #[derive(Drop)]
 pub struct Halts<'a> {
     pub(crate) entries: Iter<'a, u8, u8>,
@@ -18,7 +18,7 @@ impl<'a> Model for Halts<'a> {
     ghost view = { λ h. h.entries };
 }
 
-/// A second iterator over the halts that are left. It allocates nothing.
+/// Returns a second iterator over the remaining halts. It allocates nothing.
 impl Clone for Halts<'_> {
     ghost is_clone = { λ halts copy. copy ≡ halts };
 

@@ -1,6 +1,6 @@
-//! What holds of all good markets and messages, of any size.
+//! Laws of all good markets and messages, of any size.
 //!
-//! Each function does nothing: its clauses are the laws.
+//! Each function has an empty body: its clauses state the laws.
 ghost use Rattle.std.specs.Prelude.{◌≡◌, ℕ, ◌≤◌, ◌<◌, ◌^◌, Bool, List, None, map, length, take};
 ghost use Rattle.std.specs.List.{AllByRecursion};
 ghost use Rattle.itch_codec.specs.declared.message.Message.{Message};
@@ -20,8 +20,8 @@ ghost use Rattle.itch_market.specs.Stops.{Stops};
 ghost use Rattle.itch_market.specs.declared.stop.Stop.{Stop};
 ghost use Rattle.itch_market.specs.declared.stop.Stop.TheVariants.{End};
 
-/// A market with its orders in snapshot order refuses the same messages for the same reasons,
-/// and the others leave it with the same orders in snapshot order.
+/// Sorting a market's orders into snapshot order does not change which messages it refuses, nor the reasons. After any other message, the
+/// orders in snapshot order are the same as without the sorting.
 #[tactic(auto, using(crate::proofs::LawRules::laid_laws))]
 pub fn laid_acts_alike()
     ensures reason { (m : Content) → (x : Message) → IsGood m → reason (laid m) x ≡ reason m x }
@@ -30,7 +30,7 @@ pub fn laid_acts_alike()
     ensures twice { (m : Content) → laid (laid m) ≡ laid m }
 {}
 
-/// The market before any message is good, and every message that is not refused leaves a good market good.
+/// The market before any message is good, and every message that is not refused changes a good market into a good one.
 #[tactic(auto, using(crate::proofs::LawRules::good_laws))]
 pub fn good_stays_good()
     ensures empty { IsGood empty }
@@ -46,9 +46,9 @@ pub fn same_stay_same()
     ensures effect { (m n : Content) → (x : Message) → IsGood m → IsGood n → IsMessage x → reason m x ≡ None → Same m n → Same (effect m x) (effect n x) }
 {}
 
-/// The plainest message with the effect of another one: its fields fit, no rule refuses it where none refuses the other, and it
-/// changes a good market exactly as the other does. So two messages with one plainest message, each in its own market, change
-/// markets that are the same in the same way, and what they leave is the same.
+/// The plainest message with the effect of another one: its fields fit, no rule refuses it unless it refuses the other, and it changes a good
+/// market exactly as the other does. So if two messages have the same plainest message, each in its own market, they change markets that are
+/// the same in the same way, and the resulting markets are the same.
 #[tactic(auto, using(crate::proofs::LawRules::plain_laws))]
 pub fn plain_acts_alike()
     ensures reason { (m : Content) → (x : Message) → reason m x ≡ None → reason m (plain m x) ≡ None }
@@ -58,8 +58,8 @@ pub fn plain_acts_alike()
         → Same (effect m x) (effect n y) }
 {}
 
-/// If messages follow the order rules, those that are not skipped follow them too, and leave the market that all of them
-/// leave, restricted to the wanted locates.
+/// If messages follow the order rules, those that are not skipped follow them too, and result in the market of all messages, restricted to
+/// the wanted locates.
 #[tactic(auto, using(crate::proofs::LawRules::kept_laws))]
 pub fn kept_run()
     ensures follows { (wanted : ℕ → Bool) → (ms : List Message) → AllByRecursion IsMessage ms → Follows ms → Follows (kept wanted ms) }
@@ -75,7 +75,7 @@ pub fn one_stop()
 {}
 
 /// The messages before the place where a replay stops follow the order rules, and their fields fit.
-/// There are at most 10^19 - 1 of them.
+/// There are at most 10^19 - 1 such messages.
 pub fn stopped_files()
     ensures within { (m : Content) → (bytes : List ℕ) → (ps : List (List ℕ)) → (rest : List ℕ) → (k : ℕ) → (why : Stop) → Day bytes ps rest → Stops m bytes k why → k ≤ length ps }
     ensures few { (m : Content) → (bytes : List ℕ) → (ps : List (List ℕ)) → (rest : List ℕ) → (k : ℕ) → (why : Stop) → Day bytes ps rest → Stops m bytes k why → k < 10 ^ 19 }
@@ -85,8 +85,8 @@ pub fn stopped_files()
         → FollowsFrom m (map message_of (take k ps)) }
 {}
 
-/// A replay of a day file ends if and only if the file has an end, none of its payloads has a fault, its messages follow the
-/// order rules, and there are at most 10^19 - 1 of them. Then it has counted all of them.
+/// A replay reaches the end of a day file if and only if the file has an end, none of its payloads has a fault, its messages follow the order
+/// rules, and there are at most 10^19 - 1 messages. Then it has counted all of them.
 pub fn day_files()
     ensures count { (m : Content) → (bytes : List ℕ) → (ps : List (List ℕ)) → (rest : List ℕ) → (k : ℕ) → Day bytes ps rest → Stops m bytes k End → k ≡ length ps }
     ensures few { (m : Content) → (bytes : List ℕ) → (ps : List (List ℕ)) → (rest : List ℕ) → (k : ℕ) → Day bytes ps rest → Stops m bytes k End → length ps < 10 ^ 19 }

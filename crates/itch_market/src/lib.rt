@@ -1,8 +1,8 @@
 //! The market of a feed: the directory of its securities, their trading states and live orders, and the order rules.
 //!
-//! [`Market::apply`] applies a message that follows the order rules, or returns why it is refused and leaves the market as it was.
-//! [`replay`] does so with the messages of a day file, up to its end or to the first message that is refused. A [`LocateSet`]
-//! names the locates that are wanted, if not all are. `laws` states what holds of every market.
+//! [`Market::apply`] applies a message that follows the order rules; otherwise it returns the reason for the refusal, and the market does not
+//! change. [`replay`] applies the messages of a day file, up to its end or to the first message that is refused. A [`LocateSet`] is a set of
+//! locates to keep. `laws` states the properties of all markets.
 //!
 //! ```
 //! let mut market: Market<IndexedBook> = Market::new(alloc);

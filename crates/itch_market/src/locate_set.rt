@@ -24,7 +24,7 @@ impl<A: Allocator> Model for LocateSet<A> {
 }
 
 impl<A: Allocator> LocateSet<A> {
-    /// The empty set, which allocates nothing.
+    /// Creates the empty set, without allocating.
     pub fn new(alloc: A) -> Self
         ensures { (locate : ℕ) → has result locate ≡ false }
     {
@@ -34,7 +34,7 @@ impl<A: Allocator> LocateSet<A> {
         }
     }
 
-    /// The set of all locates, which allocates nothing.
+    /// Creates the set of all locates, without allocating.
     pub fn all(alloc: A) -> Self
         ensures { (locate : ℕ) → has result locate ≡ true }
     {
@@ -44,8 +44,7 @@ impl<A: Allocator> LocateSet<A> {
         }
     }
 
-    /// Inserts a locate. Only one that the set does not contain may need an allocation; if that fails, the set is left as it
-    /// was.
+    /// Inserts a locate. Only a locate that the set does not contain may need an allocation; if that fails, the set does not change.
     pub fn insert(&mut self, locate: u16) -> Result<(), AllocError>
     where
         A: Clone,
@@ -60,15 +59,15 @@ impl<A: Allocator> LocateSet<A> {
         Ok(())
     }
 
-    /// Whether the set contains a locate.
+    /// Returns whether the set contains a locate.
     pub fn contains(&self, locate: u16) -> bool
         ensures { result ≡ has self.now locate }
     {
         self.all || self.listed.contains(&locate)
     }
 
-    /// Whether a message is about a security or an order at a locate that the set does not contain. System events and
-    /// messages that change no market are never skipped.
+    /// Returns whether a message is about a security or an order at a locate that is not in the set. System events and messages that do not
+    /// change the market are never skipped.
     pub fn skips(&self, message: &Message<'_>) -> bool
         ensures { result ≡ skips (has self.now) message.now }
     {

@@ -7,11 +7,11 @@ use crate::security::Security;
 use std::alloc::{AllocError, Allocator};
 use std::marker::Model;
 
-/// The locates of the directory, in ascending order.
+/// Iterates over the locates of the directory, in ascending order.
 #[derive(Drop)]
 pub struct Locates<'a, A: Allocator> {
     slots: &'a [Option<Security<A>>],
-    // The first locate that was not visited.
+    // The first locate that was not visited yet.
     next: usize,
 }
 
@@ -27,7 +27,7 @@ impl<'a, A: Allocator> Model for Locates<'a, A> {
 }
 
 impl<'a, A: Allocator> Locates<'a, A> {
-    /// The locates at which slots have a security.
+    /// Creates an iterator over the locates whose slots have a security.
     pub(crate) fn new(slots: &'a [Option<Security<A>>]) -> Locates<'a, A>
         requires { length slots.now ≤ 65536 }
         ensures { result ≡ locates_from 0 slots.now }
@@ -36,7 +36,7 @@ impl<'a, A: Allocator> Locates<'a, A> {
     }
 }
 
-/// A second iterator over the locates that are left. It allocates nothing.
+/// Returns a second iterator over the remaining locates. It allocates nothing.
 impl<A: Allocator> Clone for Locates<'_, A> {
     ghost is_clone = { λ locates copy. copy ≡ locates };
 
@@ -64,7 +64,7 @@ impl<A: Allocator> Iterator for Locates<'_, A> {
     }
 }
 
-// The first locate with a security, from one on.
+// Returns the first locate with a security, from `from` on.
 fn first_from<A: Allocator>(slots: &[Option<Security<A>>], from: usize) -> Option<usize>
     ensures { IsFirstFrom from slots.now result }
 {

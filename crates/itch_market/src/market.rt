@@ -47,7 +47,7 @@ impl<B: OrderBook> Model for Market<B> {
 }
 
 impl<B: OrderBook> Market<B> {
-    /// The market before any message, which allocates nothing.
+    /// Creates the market before any message, without allocating.
     pub fn new(alloc: B::Alloc) -> Self
         ensures { result ≡ empty }
     {
@@ -58,38 +58,38 @@ impl<B: OrderBook> Market<B> {
         }
     }
 
-    /// The phase of the day, which is the last event's code: that of the last System Event message, if one came.
+    /// Returns the phase of the day, which is the code of the last System Event message, if there was one.
     pub fn phase(&self) -> Option<u8>
         ensures { result ≡ self.now.event }
     {
         self.event
     }
 
-    /// What is kept of the security at a locate, if the directory has one there.
+    /// Returns the data of the security at a locate, if the locate is in the directory.
     pub fn security(&self, locate: u16) -> Option<&Security<B::Alloc>>
         ensures { option_copied result ≡ map.get self.now.securities locate }
     {
         self.securities.get(locate)
     }
 
-    /// The locates of the directory, in ascending order.
+    /// Returns the locates of the directory, in ascending order.
     pub fn locates(&self) -> Locates<'_, B::Alloc>
         ensures { result ≡ map.keys self.now.securities }
     {
         self.securities.locates()
     }
 
-    /// The order of a locate and side that has priority over all others there, if there is one.
+    /// Returns the order of a locate and side with the highest priority, if there is one.
     pub fn best(&self, locate: u16, side: Side) -> Option<&Order>
         ensures { option_copied result ≡ book.first (book.queue self.now.orders locate side) }
     {
         self.book.front(locate, side)
     }
 
-    /// Applies a message, or returns why it is refused.
+    /// Applies a message, or returns the reason why it is refused.
     ///
-    /// A refusal leaves the market as it was. [`Refusal::OutOfMemory`] is returned only for a message that no rule refuses and
-    /// that adds an order, a directory entry, a halt's market code or a market participant, and only if an allocation failed.
+    /// A refused message does not change the market. [`Refusal::OutOfMemory`] is returned only for a message that no rule refuses and that
+    /// adds an order, a directory entry, a halt's market code or a market participant, and only if an allocation failed.
     #[inline(always)]
     pub fn apply(&mut self, message: &Message<'_>) -> Result<(), Refusal>
         ensures refused { IfSome (reason self.old message.now) (λ why. result ≡ Err why) }
@@ -103,15 +103,15 @@ impl<B: OrderBook> Market<B> {
         Ok(())
     }
 
-    /// Tells the market's book that look-ups follow, so that it may make them fast. Nothing changes, and no memory is taken.
+    /// Prepares the market's book for look-ups, so that they can be fast. Nothing changes, and no memory is allocated.
     pub fn settle(&mut self)
         ensures { self.new ≡ self.old }
     {
         self.book.settle();
     }
 
-    /// Tells the market's book which orders are asked for next, if these are the blocks of the messages that come next, and returns
-    /// how many of the messages were looked at. Nothing changes, and no memory is taken.
+    /// Announces the blocks of the next messages to the market's book, so that it can read their orders ahead, and returns the number of
+    /// messages that were looked at. Nothing changes, and no memory is allocated.
     pub fn look_ahead(&mut self, blocks: &[u8]) -> u64
         ensures { self.new ≡ self.old }
     {
@@ -120,7 +120,7 @@ impl<B: OrderBook> Market<B> {
         ahead.messages
     }
 
-    /// The live orders.
+    /// Returns the live orders.
     pub fn book(&self) -> &B
         ensures orders { B.orders result.now ≡ self.now.orders }
         ensures good { IsGood self.now }
@@ -129,7 +129,7 @@ impl<B: OrderBook> Market<B> {
         &self.book
     }
 
-    /// Does nothing at run time. It tells a proof that the market is good, and that its orders are in snapshot order.
+    /// Does nothing at run time. It states for a proof that the market is good, and that its orders are in snapshot order.
     pub fn recall_invariant(&self)
         ensures good { IsGood self.now }
         ensures in_order { laid self.now ≡ self.now }

@@ -12,11 +12,11 @@ use std::marker::Model;
 
 /// Slots by locate, each with a security or empty.
 ///
-/// The stocks of the securities lie side by side, so that comparing one reads eight bytes and nothing of its security.
+/// The stocks of the securities are stored contiguously, so that comparing one reads eight bytes and no other part of its security.
 #[derive(Drop)]
 pub(crate) struct NamedSlots<A: Allocator = Global> {
     slots: Vec<Option<Security<A>>, A>,
-    // The stock of each security, and zeros in place of an empty slot's.
+    // The stock of each security, or zeros for an empty slot.
     stocks: Vec<[u8; 8], A>,
 }
 
@@ -37,7 +37,7 @@ impl<A: Allocator> Model for NamedSlots<A> {
 }
 
 impl<A: Allocator + Copy> NamedSlots<A> {
-    /// No slots, which need no allocation.
+    /// Creates a collection without slots, without allocating.
     pub(crate) fn new(alloc: A) -> Self
         ensures { length result ≡ 0 }
     {
@@ -47,14 +47,14 @@ impl<A: Allocator + Copy> NamedSlots<A> {
         }
     }
 
-    /// All slots, from locate 0 on.
+    /// Returns all slots, from locate 0 on.
     pub(crate) fn all(&self) -> &[Option<Security<A>>]
         ensures { result.now ≡ self.now }
     {
         &self.slots
     }
 
-    /// Whether a slot has a security with this stock.
+    /// Returns whether a slot has a security with this stock.
     #[inline(always)]
     pub(crate) fn has_stock(&self, at: usize, stock: Alpha<8>) -> bool
         ensures { result ≡ has_stock (slot self.now at) stock }
@@ -65,12 +65,12 @@ impl<A: Allocator + Copy> NamedSlots<A> {
         }
     }
 
-    /// The allocator of the slots' memory.
+    /// Returns the allocator of the slots' memory.
     pub(crate) fn allocator(&self) -> A {
         *self.slots.allocator()
     }
 
-    /// Takes the security out of a slot, to be put back there.
+    /// Takes the security out of a slot. The caller puts it back there.
     pub(crate) fn take(&mut self, at: usize) -> Option<Security<A>>
         ensures security { result ≡ map.get (directory self.old) at }
         ensures none { IsNone result → directory self.new ≡ directory self.old }
@@ -86,7 +86,7 @@ impl<A: Allocator + Copy> NamedSlots<A> {
         }
     }
 
-    /// Extends the slots to this length, unless they are longer. If an allocation fails, nothing changes.
+    /// Extends the slots to this length, if they are shorter. If an allocation fails, nothing changes.
     pub(crate) fn grow_to(&mut self, len: usize) -> Result<(), AllocError>
         requires { len ≤ 65536 }
         ensures directory { directory self.new ≡ directory self.old }
@@ -117,7 +117,7 @@ impl<A: Allocator + Copy> NamedSlots<A> {
     }
 }
 
-// Whether two stocks are the same. They are compared as numbers, at once and not byte by byte.
+// Returns whether two stocks are the same. They are compared as numbers, and not byte by byte.
 #[inline(always)]
 fn are_same(one: [u8; 8], other: [u8; 8]) -> bool
     ensures { result ≡ bytes_eq one other }

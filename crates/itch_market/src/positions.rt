@@ -7,7 +7,8 @@ use std::alloc::AllocError;
 use std::collections::btree_map::Iter;
 use std::marker::Model;
 
-/// The market participants of a security, in ascending order of their bytes, each with its primary market maker, mode and state.
+/// Iterates over the market participants of a security, in ascending order of their bytes, each with its primary market maker, mode and
+/// state.
 #[derive(Drop)]
 pub struct Positions<'a> {
     pub(crate) entries: Iter<'a, Alpha<4>, [u8; 3]>,
@@ -19,7 +20,7 @@ impl<'a> Model for Positions<'a> {
     ghost view = { λ p. p.entries };
 }
 
-/// A second iterator over the positions that are left. It allocates nothing.
+/// Returns a second iterator over the remaining positions. It allocates nothing.
 impl Clone for Positions<'_> {
     ghost is_clone = { λ positions copy. copy ≡ positions };
 

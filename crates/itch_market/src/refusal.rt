@@ -1,11 +1,11 @@
-//! Why a market refuses a message.
+//! The reasons why a market refuses a message.
 ghost use Rattle.std.specs.Prelude.{◌≡◌};
 ghost use Rattle.itch_market.specs.declared.refusal.Refusal.TheVariants.{OutOfMemory};
 
 use std::alloc::AllocError;
 use thiserror::Error;
 
-/// Why a market refuses a message. Each refusal leaves the market as it was.
+/// The reason why a market refuses a message. A refused message does not change the market.
 #[derive(Clone, Copy, Debug, PartialEq, Eq, Error)]
 pub enum Refusal {
     /// The locate is not in the directory.
@@ -17,16 +17,16 @@ pub enum Refusal {
     /// The order has no shares.
     #[error("zero shares")]
     ZeroShares,
-    /// The new order's reference is that of a live order.
+    /// A live order already has the new order's reference.
     #[error("duplicate reference")]
     DuplicateRef,
     /// No live order has the reference.
     #[error("unknown reference")]
     UnknownRef,
-    /// The live order of the reference has another locate.
+    /// The live order with the reference has another locate.
     #[error("locate mismatch")]
     LocateMismatch,
-    /// More shares than the order has left.
+    /// More shares than the order has left, which is `remain`.
     #[error("too many shares, {remain} remain")]
     TooManyShares { remain: u32 },
     /// End of Snapshot does not belong in a feed.

@@ -1,4 +1,4 @@
-//! Day files applied to a market, message by message.
+//! Applies day files to a market, message by message.
 ghost use Rattle.std.specs.Prelude.{◌≡◌, ℕ, List, map, take, Some, IfSome};
 ghost use Rattle.itch_codec.specs.Messages.{message_of};
 ghost use Rattle.itch_frame.specs.Blocks.{Day};
@@ -19,27 +19,27 @@ use itch_day::{Limit, Stop as PartStop, pass_stop, read_part};
 use itch_frame::{BlockReader, CountedRead};
 use std::alloc::Allocator;
 
-/// Applies the messages of a day file, up to the first that is not taken, and returns how many there were and why it stopped.
+/// Applies the messages of a day file, up to the first one that is not taken, and returns their number and the reason for the stop.
 ///
-/// The market left is that of the messages before the stop. The block of a refused message has been read, and nothing after an
-/// end block is read. After `Frame(Read)` a second call continues where the first stopped; after the end of input, or a block
-/// truncated there, it stops in the same way and reads nothing.
+/// The market afterwards is that of the messages before the stop. The block of a refused message has been read, and nothing after an empty
+/// block is read. After `Frame(Read)` a second call continues where the first stopped. After the end of input, or a block truncated there, a
+/// second call stops in the same way and reads nothing.
 pub fn replay<R: CountedRead, A: Allocator, B: OrderBook>(
     reader: &mut BlockReader<R, A>,
     market: &mut Market<B>,
 ) -> ReplayEnd
-    // The file alone decides where it stops, unless a read or an allocation failed.
+    // The place of the stop depends only on the file, unless a read or an allocation failed.
     ensures stops { IfSome (bytes_left R.remaining reader.old) (λ bytes. IsDecided result.stop → Stops market.old bytes result.count result.stop) }
-    // The market left is that of the file's first messages.
+    // The market afterwards is that of the file's first messages.
     ensures content { IfSome (bytes_left R.remaining reader.old) (λ bytes. (payloads : List (List ℕ)) → (rest : List ℕ) → Day bytes payloads rest
         → market.new ≡ laid (after market.old (map message_of (take result.count payloads)))) }
-    // What was read, what was not, and what each stop means.
+    // The bytes that were read and those that were not, and the meaning of each stop.
     ensures steps { Replays market.old (bytes_left R.remaining reader.old) (bytes_left R.remaining reader.new) result.count result.stop market.new }
     ensures failures { Counts result.stop (R.failures reader.old.reader) (R.failures reader.new.reader) }
     ensures reader { LeavesReader result.stop reader.new }
     ensures again { StopsAgain reader.old result.count result.stop reader.new }
 {
-    // There is always a stop: a replay applies fewer messages than that.
+    // There is always a stop: a replay applies fewer messages than this.
     let (count, stop) = replay_first(reader, market, u64::MAX);
     ReplayEnd {
         count,
@@ -47,7 +47,7 @@ pub fn replay<R: CountedRead, A: Allocator, B: OrderBook>(
     }
 }
 
-/// Applies the first `most` messages of a day file and reads no further, or stops before that and returns why.
+/// Applies the first `most` messages of a day file and reads no further, or stops before that and returns the reason.
 pub fn replay_first<R: CountedRead, A: Allocator, B: OrderBook>(
     reader: &mut BlockReader<R, A>,
     market: &mut Market<B>,
@@ -60,9 +60,9 @@ pub fn replay_first<R: CountedRead, A: Allocator, B: OrderBook>(
     replay_part(reader, market, Limit::counted(Some(most)))
 }
 
-/// Applies the messages of the part of a day file that is wanted, and returns how many there were and why it stopped before, if it did.
+/// Applies the messages of the requested part of a day file, and returns their number and the reason why it stopped earlier, if it did.
 ///
-/// The block that it stopped at has been read.
+/// The block at which it stopped has been read.
 pub fn replay_part<R: CountedRead, A: Allocator, B: OrderBook>(
     reader: &mut BlockReader<R, A>,
     market: &mut Market<B>,
@@ -79,7 +79,7 @@ pub fn replay_part<R: CountedRead, A: Allocator, B: OrderBook>(
     (count, reason_of(stop))
 }
 
-/// Why a replay stops where a part of a day goes no further, or `None` where it has all messages that are wanted.
+/// Returns the reason why a replay stops when a part of a day stops, or `None` if it has all requested messages.
 pub fn reason_of(stop: PartStop<Refused>) -> Option<Stop>
     ensures { result ≡ reason_of stop }
 {

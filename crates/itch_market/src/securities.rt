@@ -1,4 +1,4 @@
-//! The securities of the directory by their locates.
+//! The securities of the directory by locate.
 ghost use Rattle.std.specs.Prelude.{◌≡◌, None, IsTrue, OnOk, OnErr, IsErr};
 ghost use Rattle.std.specs.FinMap as map;
 ghost use Rattle.std.specs.Option.{option_copied};
@@ -12,11 +12,11 @@ use itch_codec::{Alpha, Directory};
 use std::alloc::{AllocError, Allocator, Global};
 use std::marker::Model;
 
-/// What is kept of the securities, each at its locate.
+/// The data of the securities, by locate.
 ///
-/// A look-up is one step. An entry at a locate beyond all others allocates: a slot and eight bytes for each locate up to it, and at most as many
-/// again, so that entries with ascending locates seldom copy the slots. The first halt at a market code and the first position of a
-/// market participant allocate, and nothing else does.
+/// A look-up is one step. An entry at a locate beyond all others allocates a slot and eight bytes for each locate up to it, and up to the
+/// same amount again, so that entries with ascending locates seldom copy the slots. The first halt at a market code and the first position of
+/// a market participant allocate; nothing else does.
 #[derive(Drop)]
 pub(crate) struct Securities<A: Allocator = Global> {
     slots: NamedSlots<A>,
@@ -40,7 +40,7 @@ impl<A: Allocator> Model for Securities<A> {
 }
 
 impl<A: Allocator + Copy> Securities<A> {
-    /// No securities, which need no allocation.
+    /// Creates an empty collection, without allocating.
     pub(crate) fn new(alloc: A) -> Self
         ensures { result ≡ map.empty }
     {
@@ -49,7 +49,7 @@ impl<A: Allocator + Copy> Securities<A> {
         }
     }
 
-    /// The security at a locate.
+    /// Returns the security at a locate.
     pub(crate) fn get(&self, locate: u16) -> Option<&Security<A>>
         ensures { option_copied result ≡ map.get self.now locate }
     {
@@ -59,7 +59,7 @@ impl<A: Allocator + Copy> Securities<A> {
         }
     }
 
-    /// Whether a locate has a security with this stock.
+    /// Returns whether a locate has a security with this stock.
     #[inline(always)]
     pub(crate) fn has_stock(&self, locate: u16, stock: Alpha<8>) -> bool
         ensures { result ≡ has_stock (map.get self.now locate) stock }
@@ -67,7 +67,7 @@ impl<A: Allocator + Copy> Securities<A> {
         self.slots.has_stock(usize::from(locate), stock)
     }
 
-    /// Puts a directory entry at a locate. Whatever else is kept of a security there stays. If an allocation fails, nothing changes.
+    /// Stores a directory entry at a locate. All other data of a security there remains. If an allocation fails, nothing changes.
     pub(crate) fn enter(&mut self, locate: u16, entry: Directory) -> Result<(), AllocError>
         ensures ok { OnOk result (self.new ≡ map.insert self.old locate (entered (map.get self.old locate) entry)) }
         ensures err { OnErr result (self.new ≡ self.old) }
@@ -85,7 +85,7 @@ impl<A: Allocator + Copy> Securities<A> {
         Ok(())
     }
 
-    /// Changes the trading action at a locate, if a security is there.
+    /// Changes the trading action at a locate, if there is a security.
     pub(crate) fn set_action(&mut self, locate: u16, action: Action)
         ensures { self.new ≡ changed (with_action action) locate self.old }
     {
@@ -96,7 +96,7 @@ impl<A: Allocator + Copy> Securities<A> {
         }
     }
 
-    /// Changes the Reg SHO restriction at a locate, if a security is there.
+    /// Changes the Reg SHO restriction at a locate, if there is a security.
     pub(crate) fn set_sho(&mut self, locate: u16, sho: u8)
         ensures { self.new ≡ changed (with_sho sho) locate self.old }
     {
@@ -107,7 +107,7 @@ impl<A: Allocator + Copy> Securities<A> {
         }
     }
 
-    /// Changes the action at a market code of a locate, if a security is there. If an allocation fails, nothing changes.
+    /// Changes the action at a market code of a locate, if there is a security. If an allocation fails, nothing changes.
     pub(crate) fn set_halt(
         &mut self,
         locate: u16,
@@ -127,7 +127,7 @@ impl<A: Allocator + Copy> Securities<A> {
         kept
     }
 
-    /// Changes a market participant's position at a locate, if a security is there. If an allocation fails, nothing changes.
+    /// Changes a market participant's position at a locate, if there is a security. If an allocation fails, nothing changes.
     pub(crate) fn set_position(
         &mut self,
         locate: u16,
@@ -147,7 +147,7 @@ impl<A: Allocator + Copy> Securities<A> {
         kept
     }
 
-    /// The locates, in ascending order.
+    /// Returns the locates, in ascending order.
     pub(crate) fn locates(&self) -> Locates<'_, A>
         ensures { result ≡ map.keys self.now }
     {

@@ -1,4 +1,4 @@
-//! What is kept of a security.
+//! The data of a security.
 ghost use Rattle.std.specs.Prelude.{◌≡◌, ◌<◌, ◌^◌, None, IsErr, OnOk, OnErr};
 ghost use Rattle.std.specs.FinMap as map;
 ghost use Rattle.itch_market.specs.Effects.{entered, with_action, with_sho, with_halt, with_position};
@@ -19,14 +19,14 @@ pub struct Action {
     pub reason: [u8; 4],
 }
 
-/// What is kept of a security apart from its orders.
+/// The data of a security without its orders.
 #[derive(Drop)]
 pub struct Security<A: Allocator> {
     /// Its last entry in the directory.
     pub entry: Directory,
-    /// Its last trading action, if any came.
+    /// Its last trading action, if there was one.
     pub action: Option<Action>,
-    /// Its last Reg SHO restriction, if any came.
+    /// Its last Reg SHO restriction, if there was one.
     pub sho: Option<u8>,
     // the last action at each market code
     halts: BTreeMap<u8, u8, A>,
@@ -53,7 +53,7 @@ impl<A: Allocator> Model for Security<A> {
 }
 
 impl<A: Allocator> Security<A> {
-    /// The security of a new directory entry, which needs no allocation.
+    /// Creates the security of a new directory entry, without allocating.
     pub(crate) fn new(alloc: A, entry: Directory) -> Self
     where
         A: Copy,
@@ -68,28 +68,28 @@ impl<A: Allocator> Security<A> {
         }
     }
 
-    /// Keeps a further entry in the directory.
+    /// Stores a further directory entry.
     pub(crate) fn set_entry(&mut self, entry: Directory)
         ensures { self.new ≡ record self.old { entry = entry } }
     {
         self.entry = entry;
     }
 
-    /// Keeps a trading action.
+    /// Stores a trading action.
     pub(crate) fn set_action(&mut self, action: Action)
         ensures { self.new ≡ with_action action self.old }
     {
         self.action = Some(action);
     }
 
-    /// Keeps a Reg SHO restriction.
+    /// Stores a Reg SHO restriction.
     pub(crate) fn set_sho(&mut self, sho: u8)
         ensures { self.new ≡ with_sho sho self.old }
     {
         self.sho = Some(sho);
     }
 
-    /// Keeps the action at a market code.
+    /// Stores the action at a market code.
     pub(crate) fn set_halt(&mut self, market_code: u8, action: u8) -> Result<(), AllocError>
     where
         A: Clone,
@@ -101,7 +101,7 @@ impl<A: Allocator> Security<A> {
         Ok(())
     }
 
-    /// Keeps the position of a market participant.
+    /// Stores the position of a market participant.
     pub(crate) fn set_position(
         &mut self,
         mpid: Alpha<4>,
@@ -117,7 +117,7 @@ impl<A: Allocator> Security<A> {
         Ok(())
     }
 
-    /// The last action of an operational halt at each market code, by ascending code.
+    /// Returns the last action of an operational halt at each market code, by ascending code.
     pub fn halts(&self) -> Halts<'_>
         ensures { result ≡ map.entries self.now.halts }
     {
@@ -126,21 +126,21 @@ impl<A: Allocator> Security<A> {
         }
     }
 
-    /// The last action of an operational halt at a market code, if any came.
+    /// Returns the last action of an operational halt at a market code, if there was one.
     pub fn halt(&self, market_code: u8) -> Option<u8>
         ensures { result ≡ map.get self.now.halts market_code }
     {
         self.halts.get(&market_code).copied()
     }
 
-    /// The last position of a market participant, if any came: primary market maker, mode and state.
+    /// Returns the last position of a market participant, if there was one: primary market maker, mode and state.
     pub fn position(&self, mpid: &Alpha<4>) -> Option<[u8; 3]>
         ensures { result ≡ map.get self.now.positions mpid.now }
     {
         self.positions.get(mpid).copied()
     }
 
-    /// How many market codes have an action.
+    /// Returns the number of market codes with an action.
     pub fn halts_len(&self) -> usize
         ensures len { result ≡ map.len self.now.halts }
         ensures small { result < 2 ^ 63 }
@@ -148,7 +148,7 @@ impl<A: Allocator> Security<A> {
         self.halts.len()
     }
 
-    /// How many market participants have a position.
+    /// Returns the number of market participants with a position.
     pub fn positions_len(&self) -> usize
         ensures len { result ≡ map.len self.now.positions }
         ensures small { result < 2 ^ 63 }
@@ -156,7 +156,7 @@ impl<A: Allocator> Security<A> {
         self.positions.len()
     }
 
-    /// The last position of each market participant, in ascending order of their bytes.
+    /// Returns the last position of each market participant, in ascending order of their bytes.
     pub fn positions(&self) -> Positions<'_>
         ensures { result ≡ map.entries self.now.positions }
     {

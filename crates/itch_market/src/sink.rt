@@ -1,4 +1,4 @@
-//! A market that takes the messages of a day.
+//! A market as a sink of the messages of a day.
 
 use crate::market::Market;
 use crate::refused::Refused;

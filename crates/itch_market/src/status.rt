@@ -1,4 +1,4 @@
-//! What a program makes of a stop: the status that it ends with, and the system's error behind it.
+//! The exit status of a program after a stop, and the system's error behind it.
 ghost use Rattle.std.specs.Prelude.{◌≡◌};
 ghost use Rattle.itch_market.specs.Statuses.{refusal_status, stop_error, stop_status};
 
@@ -7,7 +7,7 @@ use crate::stop::Stop;
 use std::io;
 
 impl Refusal {
-    /// The status that a program ends with: 4 if memory was refused, 1 for every order rule.
+    /// Returns the exit status of a program: 4 if memory ran out, 1 for every order rule.
     pub fn status(&self) -> u8
         ensures { result ≡ refusal_status self.now }
     {
@@ -19,7 +19,7 @@ impl Refusal {
 }
 
 impl Stop {
-    /// The status that a program ends with: 1 refused, 3 read or write, 4 memory.
+    /// Returns the exit status of a program: 1 for a refused file, 3 for a failed read or write, 4 if memory ran out.
     pub fn status(&self) -> u8
         ensures { result ≡ stop_status self.now }
     {
@@ -30,7 +30,7 @@ impl Stop {
         }
     }
 
-    /// The system's own error, if a read or a write failed.
+    /// Returns the system's own error, if a read or a write failed.
     pub fn io_error(&self) -> Option<io::Error>
         ensures { result ≡ stop_error self.now }
     {

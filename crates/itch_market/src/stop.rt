@@ -1,4 +1,4 @@
-//! Where and why a replay stops.
+//! The place and the reason of a replay's stop.
 ghost use Rattle.std.specs.Prelude.{◌≡◌};
 ghost use Rattle.itch_market.specs.declared.stop.Stop.TheVariants.{Frame, Codec, Rule};
 
@@ -7,13 +7,13 @@ use itch_codec::CodecFault;
 use itch_frame::FrameFault;
 use thiserror::Error;
 
-/// Why a replay stopped.
+/// The reason why a replay stopped.
 #[derive(Clone, Copy, Debug, Error)]
 pub enum Stop {
-    /// The input ended where a block would begin, or a block of length 0 came, after which nothing was read.
+    /// The input ended before the first byte of a block, or at a block of length 0, after which nothing was read.
     #[error("end of input")]
     End,
-    /// A read failed, or the input ended in an unfinished block.
+    /// A read failed, or the input ended inside a block.
     #[error("{0}")]
     Frame(FrameFault),
     /// The payload of the next block is not a message.
@@ -22,7 +22,7 @@ pub enum Stop {
     /// An order rule refuses the next message, or an allocation failed.
     #[error("{0}")]
     Rule(Refusal),
-    /// A further block after 10^19 - 1 messages.
+    /// There is a further block after 10^19 - 1 messages.
     #[error("too many messages")]
     TooManyMessages,
 }
@@ -51,9 +51,9 @@ impl From<Refusal> for Stop {
     }
 }
 
-/// How a replay ended: how many messages were applied, and why no further one was.
+/// The result of a replay: the number of messages applied, and the reason why it stopped.
 ///
-/// The fault's place, counted from 1, is `count + 1`.
+/// The position of the faulty message, counted from 1, is `count + 1`.
 #[derive(Clone, Copy, Debug)]
 pub struct ReplayEnd {
     pub count: u64,

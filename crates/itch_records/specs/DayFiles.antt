@@ -11,11 +11,11 @@ is_plain byte = (nat_le 48 byte && nat_le byte 57) || (nat_le 65 byte && nat_le 
 abbrev pub digit : ℕ → ℕ
 digit value = if nat_lt value 10 then 48 + value else 55 + value
 
--- % and two hexadecimal digits stand for any other byte
+-- any other byte is written as % and two hexadecimal digits
 abbrev pub file_character : ℕ → List ℕ
 file_character byte = if is_plain byte then byte ∷ [] else 37 ∷ digit (byte / 16) ∷ digit (byte % 16) ∷ []
 
--- the name of a session's files, without their endings; a blank session is one space
+-- the name of a session's files, without extensions; a blank session counts as one space
 abbrev pub stem_of_name : List ℕ → List ℕ
 stem_of_name [] = file_character 32
 stem_of_name (byte ∷ rest) = flat_map file_character (byte ∷ rest)

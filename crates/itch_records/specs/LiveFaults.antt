@@ -1,4 +1,4 @@
--- The status that a live server ends with.
+-- The exit status of a live server.
 use Rattle.std.specs.Prelude.{ℕ}
 use Rattle.itch_market.specs.Statuses.{stop_status}
 use Rattle.itch_sessions.specs.SessionFaults.{session_status}
@@ -7,7 +7,7 @@ use Rattle.itch_records.specs.declared.fault.LiveFault.TheVariants.{Session, Rec
 use Rattle.itch_records.specs.declared.fault.RecordFault.{RecordFault}
 use Rattle.itch_records.specs.declared.fault.RecordFault.TheVariants as «record»
 
--- that of a record: as of a day file that is replayed; 3 where its file was changed
+-- the status for a record: as for a day file that is replayed; 3 if its file was changed
 abbrev pub record_status : RecordFault → ℕ
 record_status («record».Refused end) = stop_status end.stop
 record_status «record».UnknownSession = 1
@@ -16,7 +16,7 @@ record_status («record».NotOf session named) = 1
 record_status («record».OtherSession session named) = 1
 record_status («record».Changed change) = 3
 
--- that of a fault
+-- the status for a fault
 abbrev pub live_status : LiveFault → ℕ
 live_status (Session fault) = session_status fault
 live_status (Record fault) = record_status fault

@@ -1,10 +1,10 @@
--- What another process did to a file that is written.
+-- Changes of a file by another process while it is being written.
 use Rattle.std.specs.Prelude.{◌==◌, ◌||◌, not, nat_lt, Option, None, Some, if◌then◌else◌}
 use Rattle.itch_records.specs.declared.watch.Seen.{Seen}
 use Rattle.itch_records.specs.declared.watch.Change.{Change}
 use Rattle.itch_records.specs.declared.watch.Change.TheVariants.{Removed, Replaced, CutShort, Appended}
 
--- it was removed, where its path leads to none; replaced, where it leads to another; otherwise its length tells
+-- it was removed if its path leads to no file, and replaced if its path leads to another one; otherwise its length decides
 abbrev pub change_of : Seen → Option Seen → Option Change
 change_of written None = Some Removed
 change_of written (Some seen) =

@@ -1,4 +1,4 @@
-//! The files of a session of the feed: one day of it.
+//! The files of one session of the feed, which is one day.
 ghost use Rattle.std.specs.Prelude.{◌≡◌, ◌<◌, ◌++◌, IfOk, OnOk};
 ghost use Rattle.itch_records.specs.DayFiles.{digit, file_character, file_stem, is_plain};
 
@@ -12,7 +12,7 @@ use std::fs;
 use std::io::{self, ErrorKind};
 use std::rt::Files;
 
-/// The paths of a day's record and of its folder of snapshots, where there are any.
+/// The paths of a day's record and of its folder of snapshots, if there are any.
 #[derive(Debug, Drop)]
 pub struct DayPaths {
     pub record: Option<String>,
@@ -20,7 +20,7 @@ pub struct DayPaths {
 }
 
 impl DayPaths {
-    /// No files.
+    /// Returns paths without any files.
     pub fn none() -> DayPaths {
         DayPaths {
             record: None,
@@ -29,7 +29,11 @@ impl DayPaths {
     }
 }
 
-/// Makes a folder, unless it is there.
+/// Creates a folder, unless it exists.
+///
+/// # Errors
+///
+/// The system's error if it cannot be created.
 pub fn make_folder<R: Files>(rt: &R, path: &str) -> io::Result<()> {
     match fs::create_dir(rt, path) {
         Err(error) if matches!(error.kind(), ErrorKind::AlreadyExists) => Ok(()),
@@ -37,8 +41,12 @@ pub fn make_folder<R: Files>(rt: &R, path: &str) -> io::Result<()> {
     }
 }
 
-/// The name of a session's files, without their endings: its letters, digits, `-` and `_`, and any other byte as % and two hexadecimal
-/// digits. A blank session is one space.
+/// Returns the name of a session's files, without extensions. Letters, digits, `-` and `_` are kept; any other byte is written as % and two
+/// hexadecimal digits. A blank session counts as one space.
+///
+/// # Errors
+///
+/// [`AllocError`] if memory is refused.
 pub fn stem_of<A: Allocator>(alloc: A, session: &Alpha<10>) -> Result<Vec<u8, A>, AllocError>
     ensures { IfOk result (λ stem. stem.items ≡ file_stem session.now) }
 {
@@ -64,7 +72,7 @@ fn push_character<A: Allocator>(stem: &mut Vec<u8, A>, byte: u8) -> Result<(), A
     Ok(())
 }
 
-// A letter, a digit, - or _.
+// Returns whether a byte is a letter, a digit, - or _.
 fn is_plain(byte: u8) -> bool
     ensures { result ≡ is_plain byte }
 {
@@ -78,7 +86,7 @@ fn digit(value: u8) -> u8
     if value < 10 { 48 + value } else { 55 + value }
 }
 
-/// A day begins: its session, and where it is recorded.
+/// The line for the start of a day: its session, and the path of its record.
 #[derive(Drop)]
 pub struct DayBegun<'a> {
     pub session: Alpha<10>,

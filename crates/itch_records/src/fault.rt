@@ -1,4 +1,4 @@
-//! Why a live server, or what follows a feed, has ended: its lines on standard error, and the program's status.
+//! The faults that end a live server or a follower, with their lines on standard error and the exit statuses.
 ghost use Rattle.std.specs.Prelude.{◌≡◌};
 ghost use Rattle.itch_records.specs.LiveFaults.{live_status, record_status};
 
@@ -13,57 +13,57 @@ use std::error::Error;
 use std::fmt::{self, Display, Formatter};
 use std::io;
 
-/// Why a live server, or what follows a feed, has ended.
+/// The reason why a live server or a follower of a feed has ended.
 ///
-/// `Display` gives the first line for standard error, without its line feed; [`LiveFault::detail`] the second one.
+/// `Display` writes the first line for standard error, without its line feed; [`LiveFault::detail`] is the second line.
 #[derive(Debug, Drop)]
 pub enum LiveFault {
-    /// A fault that other sessions have too.
+    /// A fault that occurs in other sessions too.
     Session(SessionFault),
     /// The record cannot be continued.
     Record(RecordFault),
-    /// The file beside the record that names its session cannot be read or written.
+    /// The session file next to the record cannot be read or written.
     SessionFile(io::Error),
-    /// The status port cannot be listened on.
+    /// The status port cannot be bound.
     StatusPort(io::Error),
     /// Another process uses a file of the server.
     InUse(Owned),
-    /// A server accepted the login in another session than the one that was asked for.
+    /// A server accepted the login under another session than the requested one.
     OtherSession {
         server: Source,
         named: Alpha<10>,
         wanted: Alpha<10>,
     },
-    /// A message of the feed was refused: the market would no longer be the feed's.
+    /// A message of the feed was refused. Without it, the market would no longer be that of the feed.
     Refused {
         fault: SessionFault,
         session: Alpha<10>,
-        /// The place of the server that sent it.
+        /// The index of the server that sent it.
         server: usize,
     },
-    /// The snapshot is of one session, and the feed is in another.
+    /// The snapshot belongs to one session, and the feed is in another.
     GlimpseSession {
         snapshot: Alpha<10>,
         feed: Alpha<10>,
     },
 }
 
-/// Why a live server has ended, and where the files of the day were, as far as that was known.
+/// The reason why a live server has ended, and the paths of the day's files, if they were known.
 #[derive(Debug, Drop)]
 pub struct DayFault {
     pub fault: LiveFault,
     pub paths: DayPaths,
 }
 
-/// What one process at a time may write to.
+/// A resource that only one process at a time may write to.
 #[derive(Clone, Copy, Debug, PartialEq, Eq)]
 pub enum Owned {
     Record,
     Snapshots,
 }
 
-/// The names that the second line of a fault may have, as they were written: the paths of the record and of the folder of snapshots, the status port,
-/// and the feed's servers.
+/// The names for the second line of a fault, as given on the command line: the paths of the record and of the folder of snapshots, the status
+/// port, and the feed's servers.
 #[derive(Clone, Copy, Debug)]
 pub struct Names<'a> {
     pub record: &'a str,
@@ -72,31 +72,31 @@ pub struct Names<'a> {
     pub feeds: Feeds<'a>,
 }
 
-/// Why a record cannot be continued.
+/// The reason why a record cannot be continued.
 #[derive(Debug, Drop)]
 pub enum RecordFault {
     /// A replay of its messages stopped before its end.
     Refused(ReplayEnd),
-    /// Its session is not known: there is no session file beside it.
+    /// Its session is unknown: there is no session file next to it.
     UnknownSession,
-    /// Its session file names no session.
+    /// Its session file does not name a session.
     BadSession,
-    /// It is of one session, and another one is named.
+    /// It belongs to one session, and the command line names another.
     NotOf {
         session: Alpha<10>,
         named: Alpha<10>,
     },
-    /// It is of one session, and the feed is in another.
+    /// It belongs to one session, and the feed is in another.
     OtherSession {
         session: Alpha<10>,
         named: Alpha<10>,
     },
-    /// Its file was changed while messages were appended to it.
+    /// Its file was changed while messages were being appended.
     Changed(Change),
 }
 
 impl LiveFault {
-    /// The status that the program ends with.
+    /// Returns the exit status of the program.
     pub fn status(&self) -> u8
         ensures { result ≡ live_status self.now }
     {
@@ -108,7 +108,7 @@ impl LiveFault {
         }
     }
 
-    /// The second line, if there is one.
+    /// Returns the second line, if there is one.
     pub fn detail<'a>(&self, names: Names<'a>) -> Option<Detail<'a>> {
         let Names {
             record,
@@ -141,8 +141,8 @@ impl LiveFault {
         }
     }
 
-    /// The same fault of a feed that was joined to a snapshot, where no session was named: then it is the snapshot's session that the feed is
-    /// not in.
+    /// Returns the same fault for a feed that was joined to a snapshot without a named session: the feed is then not in the snapshot's
+    /// session.
     pub fn after_glimpse(self) -> LiveFault {
         if let LiveFault::OtherSession {
             server: Source::Live,
@@ -158,7 +158,7 @@ impl LiveFault {
         self
     }
 
-    /// The system's error, where a write failed.
+    /// Returns the system's error, if a write failed.
     pub fn write_error(&self) -> Option<io::Error> {
         match self {
             LiveFault::Session(SessionFault::Write(error)) => Some(*error),
@@ -166,7 +166,7 @@ impl LiveFault {
         }
     }
 
-    /// The same fault of a feed in this session, whose server has this place: that of a message which was refused names both.
+    /// Returns the same fault for a feed in this session, from the server with this index: the fault of a refused message names both.
     pub fn of_message(self, session: Option<Alpha<10>>, server: usize) -> LiveFault {
         let Some(session) = session else {
             return self;
@@ -177,7 +177,7 @@ impl LiveFault {
         }
     }
 
-    /// The same fault of a feed whose messages are recorded: then it is the record's session that the feed is not in.
+    /// Returns the same fault for a feed that is recorded: the feed is then not in the record's session.
     pub fn of_record(self) -> LiveFault {
         if let LiveFault::OtherSession {
             server: Source::Live,
@@ -299,24 +299,24 @@ impl From<AllocError> for LiveFault {
     }
 }
 
-/// What the second line of a fault says.
+/// The second line of a fault.
 #[derive(Clone, Copy, Debug)]
 pub enum Detail<'a> {
-    /// What failed is the file of this path.
+    /// The file at this path failed.
     Path(&'a str),
-    /// What failed is the session file of the record of this path.
+    /// The session file of the record at this path failed.
     SessionFile(&'a str),
-    /// What failed is the session file of the record of this path, with the system's own error.
+    /// The session file of the record at this path failed, with the system's error.
     SessionFileFailed(&'a str, io::Error),
-    /// What failed is the status port of this name, with the system's own error.
+    /// The status port with this name failed, with the system's error.
     Status(&'a str, io::Error),
-    /// The record of this path has no session file.
+    /// The record at this path has no session file.
     NoSessionFile(&'a str),
     /// Another process holds the lock of this path.
     InUse(&'a str),
-    /// What failed is the feed of this address, in this session.
+    /// The feed at this address, in this session, failed.
     Feed(&'a str, Alpha<10>),
-    /// A server of snapshots is in this session.
+    /// A snapshot server is in this session.
     GlimpseSession(Alpha<10>),
 }
 

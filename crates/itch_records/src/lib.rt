@@ -1,8 +1,8 @@
-//! What a live server keeps in files, and how it goes on with them.
+//! The files of a live server, and how it continues from them.
 //!
-//! A [`Record`] is the day so far, with its session beside it, and a [`Saver`] writes snapshots on the way. After a restart [`newest`] finds the snapshot
-//! to begin with, and a [`Replay`] has the messages of the record after it. A [`LiveFault`] says why a live server has ended, and a [`Step`] what becomes
-//! of each piece of news from its feed.
+//! A [`Record`] contains the day so far, with a session file next to it, and a [`Saver`] writes snapshots during the day. After a restart
+//! [`newest`] finds the snapshot to start from, and a [`Replay`] reads the messages of the record after it. A [`LiveFault`] is the reason why
+//! a live server has ended, and a [`Step`] is the effect of each piece of news from its feed.
 #![tactic(auto)]
 
 mod day_files;

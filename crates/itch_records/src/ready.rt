@@ -4,19 +4,20 @@ ghost use Rattle.itch_records.specs.Readiness.{is_caught_up};
 
 use itch_status::FeedState;
 
-/// So long after it has accepted the login, a feed that sends nothing more is taken to have sent all that it had.
+/// If a feed sends nothing more for this many milliseconds after it has accepted the login, it counts as caught up.
 const QUIET_MS: u64 = 1_000;
 
-/// From when on clients are sent snapshots.
+/// When clients begin to receive snapshots.
 #[derive(Clone, Copy, Debug, PartialEq, Eq)]
 pub enum Ready {
-    /// Once there is a market, which may be an early one.
+    /// As soon as there is a market, which may be an early one.
     First,
-    /// Once the record was replayed, and the feed has sent all that it had.
+    /// As soon as the record was replayed, and the feed has sent all messages that it had.
     CaughtUp,
 }
 
-/// Whether a feed in this state, which has accepted its login so long ago, has sent all that it had: nothing of it waits to be read.
+/// Returns whether a feed in this state, which accepted the login `accepted_for_ms` milliseconds ago, has sent all messages that it had.
+/// `is_busy` means that bytes of it are waiting to be read.
 pub fn is_caught_up(state: FeedState, accepted_for_ms: u64, is_busy: bool) -> bool
     ensures { result ≡ is_caught_up state accepted_for_ms is_busy }
 {

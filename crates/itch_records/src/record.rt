@@ -1,4 +1,4 @@
-//! The record of a live server: a day file that this process alone appends to, and the session that it is of.
+//! The record of a live server: a day file to which only this process appends, and its session.
 
 use crate::fault::{LiveFault, Owned, RecordFault};
 use crate::recording::Recording;
@@ -21,31 +21,31 @@ use std::fs::{self, File, OpenOptions, TryLockError};
 use std::io::{self, BufWriter, ErrorKind};
 use std::rt::{Clock, Files};
 
-/// The record is looked at, and synced, this often.
+/// The interval in milliseconds at which the record is checked and synced.
 const WATCH_MS: u64 = 1_000;
 
 /// When the record is synced to disk.
 #[derive(Clone, Copy, Debug, PartialEq, Eq)]
 pub enum SyncTime {
-    /// When the system writes it.
+    /// Whenever the system writes it.
     Never,
-    /// Once a second, if something was added.
+    /// Once per second, if something was added.
     EverySecond,
-    /// Whenever messages were added, before a client is sent them.
+    /// Whenever messages were added, before they are sent to a client.
     EveryMessage,
 }
 
-/// Where a live server records.
+/// Where a live server records its feed.
 #[derive(Clone, Copy, Debug, PartialEq, Eq)]
 pub enum RecordPlace<'a> {
-    /// In this day file, of one session.
+    /// In this day file, for one session.
     File(&'a str),
-    /// In this folder, which has a day file for each session.
+    /// In this folder, with a day file for each session.
     Folder(&'a str),
 }
 
 impl<'a> RecordPlace<'a> {
-    /// As it was named: the day file or the folder.
+    /// Returns the path as given on the command line: the day file or the folder.
     pub fn path(self) -> &'a str {
         match self {
             RecordPlace::File(path) | RecordPlace::Folder(path) => path,
@@ -53,13 +53,13 @@ impl<'a> RecordPlace<'a> {
     }
 }
 
-/// The record of a live server.
+/// The options of a live server's record.
 #[derive(Clone, Copy, Debug, PartialEq, Eq)]
 pub struct RecordWords<'a> {
-    /// Where each message is appended to a day file.
+    /// The day file to which each message is appended, or the folder of such files.
     pub place: RecordPlace<'a>,
     pub sync: SyncTime,
-    /// Whether the server goes on without a record that cannot be written.
+    /// Whether the server continues without a record that cannot be written.
     pub is_optional: bool,
 }
 
@@ -76,18 +76,18 @@ struct Kept {
     path: String,
     sync: SyncTime,
     is_optional: bool,
-    // As it was opened, without what did not belong to it.
+    // The file as it was opened, without an incomplete message at its end.
     opened: Seen,
-    // The session of the messages that it has, where it has any, and whether the file beside it names that.
+    // The session of its messages, if it has any, and whether the session file names it.
     session: Option<Alpha<10>>,
     is_named: bool,
-    // How many of the bytes that were added are on disk.
+    // The number of added bytes that are on disk.
     synced: u64,
     watched_ms: u64,
 }
 
 impl Record {
-    /// No record.
+    /// Creates a record that is none.
     pub fn none() -> Record {
         Record {
             recording: Recording::Nowhere(Failures::none()),
@@ -95,7 +95,11 @@ impl Record {
         }
     }
 
-    /// Opens a record to append to, for this process alone. It has to be of this session, if one is named.
+    /// Opens a record for appending, for this process alone. If `named` names a session, the record must belong to it.
+    ///
+    /// # Errors
+    ///
+    /// A [`LiveFault`] if the file cannot be opened, another process uses it, or its session is unknown or another one.
     pub fn open<R: Files<File = File> + AllocGlobal>(
         rt: &R,
         words: RecordWords<'_>,
@@ -131,7 +135,11 @@ impl Record {
         Ok(Record { recording, kept })
     }
 
-    /// A replay of the messages that it has after those of a mark.
+    /// Returns a replay of its messages after those of a mark, if it has any bytes.
+    ///
+    /// # Errors
+    ///
+    /// A [`LiveFault`] if the file cannot be opened or memory is refused.
     pub fn replay<R: Files<File = File> + AllocGlobal>(
         &self,
         rt: &R,
@@ -146,7 +154,11 @@ impl Record {
         }
     }
 
-    /// Drops what follows the whole messages, all of which were replayed. A record that is refused stays as it is.
+    /// Drops everything after the complete messages, all of which were replayed. A record that is refused is left as it is.
+    ///
+    /// # Errors
+    ///
+    /// A [`LiveFault`] if the file cannot be truncated.
     pub fn cut<R: Eprint>(&mut self, log: &mut Log<'_, R>, whole: Mark) -> Result<(), LiveFault> {
         let Recording::File { file, .. } = &self.recording else {
             return Ok(());
@@ -164,7 +176,7 @@ impl Record {
         Ok(())
     }
 
-    /// Where it is, if there is one.
+    /// Returns its path, if there is a record.
     pub fn path(&self) -> Option<&str> {
         match &self.kept {
             Some(kept) => Some(kept.path.as_str()),
@@ -172,7 +184,7 @@ impl Record {
         }
     }
 
-    /// How many bytes it has.
+    /// Returns its length in bytes.
     pub fn length(&self) -> u64 {
         match &self.kept {
             Some(kept) => kept.opened.length.saturating_add(self.recording.added()),
@@ -180,12 +192,12 @@ impl Record {
         }
     }
 
-    /// The session of the messages that it has, if it has any.
+    /// Returns the session of its messages, if it has any.
     pub fn session(&self) -> Option<Alpha<10>> {
         self.kept.as_ref()?.session
     }
 
-    /// Whether the server goes on without it where it cannot be written.
+    /// Returns whether the server continues without it if it cannot be written.
     pub fn is_optional(&self) -> bool {
         match &self.kept {
             Some(kept) => kept.is_optional,
@@ -193,7 +205,11 @@ impl Record {
         }
     }
 
-    /// Notes the session of the messages that are to come: the file beside the record has it before the record has a message.
+    /// Records the session of the messages to come. The session file is written before the record contains a message.
+    ///
+    /// # Errors
+    ///
+    /// A [`LiveFault`] if the session file cannot be written.
     pub fn begin<R: Files<File = File> + AllocGlobal>(
         &mut self,
         rt: &R,
@@ -209,7 +225,11 @@ impl Record {
         Ok(())
     }
 
-    /// Hands what was added to the system, and waits until it is on disk where that is asked for.
+    /// Writes the added bytes to the file, and waits until they are on disk if every message is to be synced.
+    ///
+    /// # Errors
+    ///
+    /// The system's error if this fails.
     pub fn flush(&mut self) -> io::Result<()> {
         self.recording.flush()?;
         match &self.kept {
@@ -218,7 +238,7 @@ impl Record {
         }
     }
 
-    // Waits until what was added is on disk.
+    // Waits until the added bytes are on disk.
     fn sync(&mut self) -> io::Result<()> {
         let added = self.recording.added();
         if let Some(kept) = &mut self.kept
@@ -230,7 +250,11 @@ impl Record {
         Ok(())
     }
 
-    /// Once a second: syncs what was added where that is asked for, and says what another process did to the file, if it did anything.
+    /// Once per second: syncs the added bytes, if requested, and checks whether another process has changed the file.
+    ///
+    /// # Errors
+    ///
+    /// A [`RecordLoss`] if the file was changed, or a system call failed.
     pub fn watch<R: Files<File = File>>(&mut self, rt: &R, now_ms: u64) -> Result<(), RecordLoss> {
         let added = self.recording.added();
         let Some(kept) = &mut self.kept else {
@@ -260,7 +284,11 @@ impl Record {
         Ok(())
     }
 
-    /// Hands what was added to the system, and waits until it is on disk unless that is not asked for.
+    /// Writes the added bytes to the file, and waits until they are on disk, unless the record is never synced.
+    ///
+    /// # Errors
+    ///
+    /// The system's error if this fails.
     pub fn finish(&mut self) -> io::Result<()> {
         self.recording.flush()?;
         match &self.kept {
@@ -269,7 +297,7 @@ impl Record {
         }
     }
 
-    /// How many bytes it has, and how many of those that were added are not on disk, where there is a record.
+    /// Returns its length in bytes, and how many of the added bytes are not on disk, if there is a record.
     pub fn figures(&self) -> Option<Recorded> {
         let kept = self.kept.as_ref()?;
         let added = self.recording.added();
@@ -279,23 +307,23 @@ impl Record {
         })
     }
 
-    /// Gives it up.
+    /// Gives up the record.
     pub fn give_up(&mut self) {
         *self = Record::none();
     }
 }
 
-/// Why a record cannot be written any more.
+/// The reason why a record cannot be written any more.
 #[derive(Debug, Drop)]
 pub enum RecordLoss {
-    /// Another process did something to its file.
+    /// Another process changed its file.
     Changed(Change),
-    /// A call of the system failed.
+    /// A system call failed.
     System(io::Error),
 }
 
 impl RecordLoss {
-    /// The fault of a server that does not go on without its record, where the feed's next message has this number.
+    /// Returns the fault of a server that needs its record, if the feed's next message has this number.
     pub fn fault(self, next: Option<u64>) -> LiveFault {
         match self {
             RecordLoss::Changed(change) => LiveFault::Record(RecordFault::Changed(change)),
@@ -332,8 +360,8 @@ impl Event for RecordLoss {
     }
 }
 
-// The session of a record of so many bytes, where the file beside it names one, or the command line: where both do, they have to be the same. One
-// without a message is of no day.
+// Returns the session of a record of `length` bytes, from the session file or the command line. If both name one, they must agree. A record
+// without messages does not belong to a session.
 fn session_of(
     length: u64,
     beside: Option<Alpha<10>>,
@@ -354,7 +382,7 @@ fn session_of(
     }
 }
 
-// Opens a file to append to, which no other process may open so.
+// Opens a file for appending. No other process may open it in this way.
 fn open_alone<R: Files<File = File>>(rt: &R, path: &str) -> Result<File, LiveFault> {
     let mut how = OpenOptions::new();
     how.append(true).create(true);
@@ -369,7 +397,7 @@ fn open_alone<R: Files<File = File>>(rt: &R, path: &str) -> Result<File, LiveFau
     }
 }
 
-// Opens it to read.
+// Opens the file for reading.
 fn open_again<R: Files<File = File>>(rt: &R, path: &str) -> Result<File, LiveFault> {
     match fs::open(rt, path) {
         Ok(file) => Ok(file),
@@ -391,7 +419,7 @@ fn cut(file: &File, length: u64) -> Result<(), LiveFault> {
     }
 }
 
-// The record cannot be opened.
+// Returns the fault of a record that cannot be opened.
 fn open_fault(error: io::Error) -> LiveFault {
     LiveFault::Session(SessionFault::of_system(error, SessionFault::Open(error)))
 }

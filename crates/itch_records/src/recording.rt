@@ -8,20 +8,20 @@ use std::alloc::Global;
 use std::fs::OpenFile;
 use std::io::{self, BufWriter, ErrorKind, Write};
 
-/// Where the messages of a feed are recorded, if they are.
+/// The destination of a feed's messages, if they are recorded.
 #[derive(Drop)]
 pub enum Recording<F: Write + Drop> {
     Nowhere(Failures),
     File {
         file: BufWriter<F, Global>,
         failures: Failures,
-        // How many bytes were added.
+        // The number of bytes that were added.
         added: u64,
     },
 }
 
 impl<F: Write + Drop> Recording<F> {
-    /// How many bytes were added.
+    /// Returns the number of bytes that were added.
     pub fn added(&self) -> u64 {
         match self {
             Recording::Nowhere(_) => 0,
@@ -29,7 +29,11 @@ impl<F: Write + Drop> Recording<F> {
         }
     }
 
-    /// Flushes what is held of the record.
+    /// Flushes the buffered bytes.
+    ///
+    /// # Errors
+    ///
+    /// The system's error if this fails.
     pub fn flush(&mut self) -> io::Result<()>
         ensures { OnOk result (IsFlushed self.new) }
     {
@@ -41,7 +45,11 @@ impl<F: Write + Drop> Recording<F> {
 }
 
 impl<F: Write + OpenFile + Drop> Recording<F> {
-    /// Waits until what was flushed is on disk.
+    /// Waits until the flushed bytes are on disk.
+    ///
+    /// # Errors
+    ///
+    /// The system's error if this fails.
     pub fn sync(&self) -> io::Result<()> {
         match self {
             Recording::Nowhere(_) => Ok(()),

@@ -1,4 +1,4 @@
-//! What a record has: its messages are replayed, a part at a time, before more are added.
+//! Replays the messages of a record in parts, before more are added.
 ghost use Rattle.std.specs.Prelude.{◌≡◌};
 ghost use Rattle.itch_records.specs.Readiness.{next_stop};
 
@@ -17,10 +17,11 @@ use std::alloc::Global;
 use std::fs::File;
 use std::io::{BufReader, Seek, SeekFrom};
 
-/// A replay pauses after so many messages: a few milliseconds.
+/// A replay pauses after this many messages, which take a few milliseconds.
 const PART: u64 = 8_192;
 
-/// Where a replay that has come to this message pauses: after so many others, and where the next snapshot is due, if `every` is not 0.
+/// Returns the message at which a replay at message `count` pauses: after 8,192 more messages, or when the next snapshot is due, if `every`
+/// is not 0.
 pub fn next_stop(every: u64, count: u64) -> u64
     ensures { result ≡ next_stop every count }
 {
@@ -34,7 +35,7 @@ pub fn next_stop(every: u64, count: u64) -> u64
     }
 }
 
-// What follows a feed, and takes the messages of a record, or says why a replay of the record stops; and the mark after those.
+// A follower of a feed that takes the messages of a record, or stops the replay with a reason; and the mark after these messages.
 #[derive(Drop)]
 struct Recorded<'x, B: OrderBook> {
     follower: &'x mut Follower<B>,
@@ -81,7 +82,7 @@ impl<'x, B: OrderBook> Sink for Recorded<'x, B> {
     }
 }
 
-// The mark after the message with this number, which comes after those of a mark.
+// Returns the mark after the message with this number, which follows the messages of a mark.
 fn mark_after(
     mark: Mark,
     number: u64,
@@ -100,17 +101,21 @@ fn mark_after(
     }
 }
 
-/// The messages of a record that are still to be replayed: those that `check` counts, up to the end of the file, to a block of
-/// length 0 or to a block that was not written whole.
+/// The messages of a record that were not replayed yet: those that `check` counts, up to the end of the file, a block of length 0 or an
+/// incomplete block.
 #[derive(Drop)]
 pub struct Replay {
     blocks: BlockReader<Buffered<File>, Global>,
-    // Those before.
+    // The messages that were replayed.
     mark: Mark,
 }
 
 impl Replay {
-    /// Replays a record from the messages of a mark on.
+    /// Creates a replay of a record, starting after the messages of a mark.
+    ///
+    /// # Errors
+    ///
+    /// A [`LiveFault`] if the file cannot be read or memory is refused.
     pub fn after(alloc: Global, file: File, mark: Mark) -> Result<Replay, LiveFault> {
         let mut file = file;
         if let Err(error) = file.seek(SeekFrom::Start(mark.offset)) {
@@ -128,12 +133,16 @@ impl Replay {
         })
     }
 
-    /// The messages that were replayed so far: how many they are, and how many bytes their blocks have.
+    /// Returns the mark of the messages replayed so far: their number, the size of their blocks in bytes, and the latest timestamp.
     pub fn mark(&self) -> Mark {
         self.mark
     }
 
-    /// Replays on, up to so many messages of the record in all, and says whether more may follow. A message that is refused is the fault.
+    /// Continues the replay up to message `most` of the record, and returns whether more may follow.
+    ///
+    /// # Errors
+    ///
+    /// A [`LiveFault`] if a message is refused or cannot be read.
     pub fn read_to<B: OrderBook>(
         &mut self,
         follower: &mut Follower<B>,

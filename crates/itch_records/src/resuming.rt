@@ -1,4 +1,4 @@
-//! Where a live server begins: before the first message, or with the newest snapshot of its folder that fits the record.
+//! Where a live server begins: before the first message, or with the newest snapshot in its folder that fits the record.
 
 use crate::fault::LiveFault;
 use itch_book::OrderBook;
@@ -18,13 +18,17 @@ use std::fs::{self, File};
 use std::io::{self, BufReader, ErrorKind};
 use std::rt::Files;
 
-/// The End of Snapshot of a market with no messages.
+/// The End of Snapshot of a market without messages.
 const NOTHING_BEFORE: &[u8] = b"G                   1";
 
-/// So many snapshots that do not fit are passed over. Then the whole record is replayed.
+/// The number of unsuitable snapshots that are skipped. After that, the complete record is replayed.
 const MOST_UNFIT: usize = 16;
 
-/// A joiner that has the market before the first message.
+/// Gives a joiner the market before the first message.
+///
+/// # Errors
+///
+/// [`SessionFault::OutOfMemory`] if memory is refused.
 pub fn at_the_first<B: OrderBook>(joiner: &mut Joiner<B>) -> Result<(), SessionFault> {
     match joiner.snapshot(NOTHING_BEFORE) {
         Ok(_) => Ok(()),
@@ -32,15 +36,19 @@ pub fn at_the_first<B: OrderBook>(joiner: &mut Joiner<B>) -> Result<(), SessionF
     }
 }
 
-/// A record that is to be replayed: its path, and how many bytes it has.
+/// A record to be replayed: its path, and its length in bytes.
 #[derive(Clone, Copy)]
 pub struct Replayed<'a> {
     pub path: &'a str,
     pub length: u64,
 }
 
-/// A joiner with the market of the newest snapshot of a folder that fits the record, and the mark of its messages. A snapshot that
-/// does not fit is reported, and an older one is taken.
+/// Returns a joiner with the market of the newest snapshot in a folder that fits the record, and the mark of its messages. A snapshot that
+/// does not fit is reported, and an older one is tried.
+///
+/// # Errors
+///
+/// A [`LiveFault`] if memory is refused.
 pub fn newest<R: Files<File = File> + Eprint + AllocGlobal, B: OrderBook<Alloc = Global>>(
     log: &mut Log<'_, R>,
     folder: &str,
@@ -70,7 +78,7 @@ pub fn newest<R: Files<File = File> + Eprint + AllocGlobal, B: OrderBook<Alloc =
     Ok(None)
 }
 
-// The newest snapshot that the index of a folder lists, of those with no more messages than these. One that cannot be read lists none.
+// Returns the newest snapshot in the index of a folder, among those within this limit. An index that cannot be read counts as empty.
 fn listed<R: Files<File = File> + AllocGlobal>(
     rt: &R,
     folder: &str,
@@ -87,16 +95,16 @@ fn listed<R: Files<File = File> + AllocGlobal>(
     Some(checkpoint)
 }
 
-// Why a snapshot is not used.
+// The reason why a snapshot is not used.
 #[derive(Debug, Drop)]
 enum Unusable {
     // It does not fit the record.
     Unfit(Unfit),
-    // Its line says not enough of the messages before it.
+    // Its line does not describe the messages before it completely.
     Unknown,
     // Its file, or the record, cannot be read.
     Unread(io::Error),
-    // Its file is no snapshot.
+    // Its file is not a snapshot.
     Broken(SnapFault),
     // Its End of Snapshot has another number.
     OtherNumber(u64),
@@ -127,7 +135,7 @@ impl Display for Unusable {
     }
 }
 
-// A joiner with the market of a snapshot, if that fits the record.
+// Returns a joiner with the market of a snapshot that fits the record, and its mark.
 fn joined_at<R: Files<File = File> + AllocGlobal, B: OrderBook<Alloc = Global>>(
     rt: &R,
     folder: &str,
@@ -159,7 +167,7 @@ fn joined_at<R: Files<File = File> + AllocGlobal, B: OrderBook<Alloc = Global>>(
     Ok((joined(rt, folder, mark.count)?, mark))
 }
 
-// A joiner with the market of the snapshot of so many messages.
+// Returns a joiner with the market of the snapshot of `messages` messages.
 fn joined<R: Files<File = File> + AllocGlobal, B: OrderBook<Alloc = Global>>(
     rt: &R,
     folder: &str,
@@ -187,7 +195,7 @@ fn joined<R: Files<File = File> + AllocGlobal, B: OrderBook<Alloc = Global>>(
     }
 }
 
-// The market of a snapshot is gone on with.
+// The line for a snapshot from which the server continues.
 #[derive(Drop)]
 struct Resumed<'a> {
     folder: &'a str,
@@ -216,7 +224,7 @@ impl Event for Resumed<'_> {
     }
 }
 
-// A snapshot is not used.
+// The line for a snapshot that is not used.
 #[derive(Drop)]
 struct Skipped<'a> {
     folder: &'a str,

@@ -1,4 +1,4 @@
-//! Snapshots of the market as it is, in files of a folder.
+//! Snapshots of the current market in files of a folder.
 ghost use Rattle.std.specs.Prelude.{◌≡◌, ◌<◌, ◌^◌, length, OnOk};
 ghost use Rattle.itch_snapshot.specs.Snapshot.{snap};
 ghost use Rattle.itch_records.specs.Recordings.{IsFlushed};
@@ -23,10 +23,10 @@ use std::fs::{self, File, TryLockError};
 use std::io::{self, BufWriter, ErrorKind};
 use std::rt::Files;
 
-/// Snapshots that cannot be written are reported this often.
+/// The interval in milliseconds at which missed snapshots are reported.
 const REPORT_MS: u64 = 60_000;
 
-/// A folder for snapshots, after how many messages each is written, and how many are kept if not all are.
+/// The options for saving snapshots: the folder, after how many messages each one is written, and how many are kept, if not all are.
 #[derive(Clone, Copy, Debug, PartialEq, Eq)]
 pub struct SnapshotWords<'a> {
     pub folder: &'a str,
@@ -34,7 +34,7 @@ pub struct SnapshotWords<'a> {
     pub keep: Option<u64>,
 }
 
-/// Which part of a record a snapshot is of: the messages before this offset, with this latest timestamp.
+/// The part of a record that a snapshot covers: the messages before this offset, with this latest timestamp.
 #[derive(Clone, Copy)]
 pub struct RecordPart<'a> {
     pub path: &'a str,
@@ -42,7 +42,7 @@ pub struct RecordPart<'a> {
     pub latest: Option<u64>,
 }
 
-/// A folder that snapshots are written to, by this process alone.
+/// A folder to which snapshots are written, by this process alone.
 #[derive(Drop)]
 pub struct Saver {
     folder: String,
@@ -50,17 +50,17 @@ pub struct Saver {
     keep: Option<u64>,
     // The open folder, which is locked.
     _lock: File,
-    // How many messages each snapshot of the folder has, the oldest one first.
+    // The number of messages of each snapshot in the folder, the oldest one first.
     files: Vec<u64>,
-    // How many messages the last one has, if one was written.
+    // The number of messages of the last snapshot, if one was written.
     saved: Option<u64>,
-    // How many were not written, also since that was said last, and when it was.
+    // The number of snapshots that were not written, in total and since the last report, and the time of that report.
     all_missed: u64,
     missed: u64,
     reported_ms: Option<u64>,
 }
 
-// What is said of snapshots that are not written: how many, and why the last one is not.
+// The line about snapshots that were not written: how many, and why the last one was not.
 #[derive(Drop)]
 struct Missed<'a> {
     count: u64,
@@ -69,7 +69,7 @@ struct Missed<'a> {
     fault: &'a SessionFault,
 }
 
-// What is said of an old snapshot that cannot be removed.
+// The line about an old snapshot that cannot be removed.
 #[derive(Drop)]
 struct Unremoved<'a> {
     folder: &'a str,
@@ -145,7 +145,11 @@ impl Event for Missed<'_> {
 }
 
 impl Saver {
-    /// Looks at the folder, locks it, and removes what was not written whole.
+    /// Opens and locks the folder, and removes incomplete files.
+    ///
+    /// # Errors
+    ///
+    /// A [`LiveFault`] if the folder cannot be opened or read, or another process uses it.
     pub fn open<R: Files<File = File> + AllocGlobal>(
         rt: &R,
         words: SnapshotWords<'_>,
@@ -177,7 +181,11 @@ impl Saver {
         })
     }
 
-    /// The index lists no snapshots but those with at most so many messages.
+    /// Removes the snapshots with more messages than this from the index.
+    ///
+    /// # Errors
+    ///
+    /// A [`LiveFault`] if the index cannot be read or written.
     pub fn forget_after<R: Files<File = File> + AllocGlobal>(
         &self,
         rt: &R,
@@ -189,23 +197,27 @@ impl Saver {
         }
     }
 
-    /// After how many messages each snapshot is written.
+    /// Returns the number of messages after which each snapshot is written.
     pub fn every(&self) -> u64 {
         self.every
     }
 
-    /// How many messages the last snapshot has, if one was written, and how many were not written.
+    /// Returns the number of messages of the last snapshot, if one was written, and how many were not written.
     pub fn figures(&self) -> (Option<u64>, u64) {
         (self.saved, self.all_missed)
     }
 
-    /// Whether a snapshot is wanted of the market before this number.
+    /// Returns whether a snapshot of the market before this number is due.
     pub fn wants(&self, next: u64) -> bool {
         is_wanted(self.every, next)
     }
 
-    /// Writes the snapshot of the market before this number, and lists it as that of a part of the record, if there is one. One that
-    /// cannot be written is reported, and no more: the error is that of the record, which has to have each message that the snapshot has.
+    /// Writes the snapshot of the market before this number, and lists it as the snapshot of a part of the record, if there is one. A
+    /// snapshot that cannot be written is only reported.
+    ///
+    /// # Errors
+    ///
+    /// The system's error if the record cannot be flushed. It must contain each message of the snapshot.
     pub fn save<R: Files<File = File> + Eprint + AllocGlobal, B: OrderBook>(
         &mut self,
         log: &mut Log<'_, R>,
@@ -236,7 +248,7 @@ impl Saver {
         Ok(())
     }
 
-    // Lists the snapshot of so many messages.
+    // Lists the snapshot of this number of messages.
     fn enter<R: Files<File = File> + AllocGlobal>(
         &mut self,
         rt: &R,
@@ -248,7 +260,7 @@ impl Saver {
             None => Ok(()),
         };
         if let Err(error) = entered {
-            // A snapshot that the index does not list would be of no use.
+            // A snapshot that is not in the index would be useless.
             let _ = remove(rt, self.folder.as_str(), messages);
             return Err(folder_fault(error));
         }
@@ -259,7 +271,7 @@ impl Saver {
         Ok(())
     }
 
-    // Removes the oldest snapshots until no more are left than are kept. One that cannot be removed is tried again after the next snapshot.
+    // Removes the oldest snapshots until only the requested number is left. If one cannot be removed, it is tried again after the next snapshot.
     fn remove_oldest<R: Files<File = File> + AllocGlobal>(&mut self, rt: &R) -> io::Result<()> {
         let Some(keep) = self.keep else {
             return Ok(());
@@ -276,7 +288,7 @@ impl Saver {
         Ok(())
     }
 
-    // Takes note of a snapshot that is not written, and says so where that is due.
+    // Counts a snapshot that was not written, and reports it if a report is due.
     fn miss<R: Eprint>(
         &mut self,
         log: &mut Log<'_, R>,
@@ -303,7 +315,7 @@ impl Saver {
     }
 }
 
-/// Whether a snapshot is wanted of the market before this number: after each so many messages.
+/// Returns whether a snapshot of the market before this number is due: one is due after every `every` messages.
 pub fn is_wanted(every: u64, next: u64) -> bool
     ensures { result ≡ is_wanted every next }
 {
@@ -311,7 +323,7 @@ pub fn is_wanted(every: u64, next: u64) -> bool
     messages > 0 && every > 0 && messages % every == 0
 }
 
-// Lists the snapshot of the part of a record with so many messages.
+// Lists the snapshot of the part of a record with this number of messages.
 fn list_part<R: Files<File = File> + AllocGlobal>(
     rt: &R,
     folder: &str,
@@ -328,7 +340,7 @@ fn list_part<R: Files<File = File> + AllocGlobal>(
     list(rt, folder, mark, fingerprint)
 }
 
-// Opens a folder: a file is none.
+// Opens a folder. A file is not a folder.
 fn open_folder<R: Files<File = File>>(rt: &R, path: &str) -> io::Result<File> {
     if !fs::metadata(rt, path)?.is_dir() {
         return Err(io::Error::from(ErrorKind::NotADirectory));
@@ -336,7 +348,7 @@ fn open_folder<R: Files<File = File>>(rt: &R, path: &str) -> io::Result<File> {
     fs::open(rt, path)
 }
 
-// Why a snapshot is not written.
+// The reason why a snapshot is not written.
 #[derive(Debug, Drop)]
 enum Unsaved {
     // The record could not be flushed.
@@ -351,7 +363,7 @@ impl From<SessionFault> for Unsaved {
     }
 }
 
-// Writes the snapshot of the market before this number. The record is flushed before, so it has each message that the snapshot has.
+// Writes the snapshot of the market before this number. The record is flushed first, so that it contains each message of the snapshot.
 fn save<R: Files<File = File> + AllocGlobal, B: OrderBook>(
     rt: &R,
     folder: &str,
@@ -368,8 +380,8 @@ fn save<R: Files<File = File> + AllocGlobal, B: OrderBook>(
     Ok(())
 }
 
-// Writes the snapshot of the market before this number, in canonical form, to a file beside, which gets its name once it is on disk: so a file
-// of that name is whole.
+// Writes the snapshot of the market before this number, in canonical form, to a temporary file, which is renamed when it is on disk. So a
+// file with the final name is complete.
 fn write_snapshot<R: Files<File = File> + AllocGlobal, B: OrderBook>(
     rt: &R,
     folder: &str,
@@ -390,7 +402,7 @@ fn write_snapshot<R: Files<File = File> + AllocGlobal, B: OrderBook>(
         Err(fault) => Err(fault),
     };
     if written.is_err() {
-        // The record needs the room of what was written.
+        // The record needs the space of the incomplete file.
         let _ = fs::remove_file(rt, beside.as_str());
     }
     written
@@ -435,7 +447,7 @@ fn sync<R: Files<File = File>>(rt: &R, path: &str) -> Result<(), SessionFault> {
     }
 }
 
-// A file of the folder cannot be written.
+// Returns the fault of a file in the folder that cannot be written.
 fn folder_fault(error: io::Error) -> SessionFault {
     SessionFault::of_system(error, SessionFault::Folder(error))
 }

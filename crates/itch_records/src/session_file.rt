@@ -1,4 +1,4 @@
-//! The file beside a record that names the feed's session: the messages of another day have the same numbers.
+//! The file next to a record that names the feed's session. It is needed because the messages of another day have the same numbers.
 
 use crate::fault::{LiveFault, RecordFault};
 use itch_codec::Alpha;
@@ -7,10 +7,14 @@ use std::fs::{self, File};
 use std::io::{self, ErrorKind, Read, Write};
 use std::rt::Files;
 
-/// A longer file is no session file.
+/// A longer file is not a session file.
 const MOST_BYTES: u64 = 1_024;
 
-/// The session of the record of this path, or none where there is no file beside it.
+/// Returns the session of the record at this path, or `None` if it has no session file.
+///
+/// # Errors
+///
+/// A [`LiveFault`] if the file cannot be read or does not name a session.
 pub fn read_session<R: Files<File = File> + AllocGlobal>(
     rt: &R,
     path: &str,
@@ -30,7 +34,11 @@ pub fn read_session<R: Files<File = File> + AllocGlobal>(
     }
 }
 
-/// Writes the session of the record of this path. The file gets its name once it is on disk.
+/// Writes the session of the record at this path to a temporary file, which is renamed when it is on disk.
+///
+/// # Errors
+///
+/// A [`LiveFault`] if the file cannot be written.
 pub fn write_session<R: Files<File = File> + AllocGlobal>(
     rt: &R,
     path: &str,
@@ -46,7 +54,7 @@ pub fn write_session<R: Files<File = File> + AllocGlobal>(
     }
 }
 
-// The session that the first line of a text names.
+// Returns the session named in the first line of a text.
 fn session_in(text: &str) -> Option<Alpha<10>> {
     let line = text.lines().next()?;
     Alpha::from_text(line.trim()).ok()

@@ -1,4 +1,4 @@
-//! The files of a folder of snapshots: one for each snapshot, and their index.
+//! The files in a folder of snapshots: one for each snapshot, and their index.
 
 use itch_checkpoints::{Checkpoint, Fingerprint, IndexReader, Latest, index_line};
 use itch_day::Mark;
@@ -7,17 +7,17 @@ use std::fs::{self, File, OpenOptions};
 use std::io::{self, BufRead, BufReader, BufWriter, ErrorKind, Write};
 use std::rt::Files;
 
-/// What a file of the folder is.
+/// The kind of a file in the folder.
 #[derive(Clone, Copy, Debug, PartialEq, Eq)]
 pub enum FolderFile {
-    /// The snapshot of so many messages.
+    /// The snapshot of this number of messages.
     Snapshot(u64),
-    /// What was not written whole before it got its name.
+    /// A temporary file, which was not completed and renamed.
     Part,
     Other,
 }
 
-/// What a file of this name is.
+/// Returns the kind of the file with this name.
 pub fn file_of(name: &[u8]) -> FolderFile {
     if name == b"index.jsonl.part".as_slice() {
         return FolderFile::Part;
@@ -36,7 +36,7 @@ pub fn file_of(name: &[u8]) -> FolderFile {
     }
 }
 
-// The number that these digits are, if they are the ones that it is written with.
+// Returns the number with these digits, if it is written without leading zeros or a sign.
 fn number_of(digits: &[u8]) -> Option<u64> {
     if digits.first() == Some(&b'0') && digits.len() > 1 {
         return None;
@@ -48,10 +48,14 @@ fn number_of(digits: &[u8]) -> Option<u64> {
     digits.parse().ok()
 }
 
-/// Removes what was not written whole, and returns how many messages each snapshot has that is there, the least number first.
+/// Removes temporary files, and returns the number of messages of each snapshot in the folder, in ascending order.
+///
+/// # Errors
+///
+/// The system's error if the folder cannot be read or a file cannot be removed.
 pub fn clean<R: Files<File = File> + AllocGlobal>(rt: &R, folder: &str) -> io::Result<Vec<u64>> {
     let alloc = rt.alloc();
-    // With the dot, a link to a folder is the folder.
+    // With the dot, a link to a folder is followed.
     let itself = format!(in alloc; "{folder}/.")?;
     let mut names = BufReader::new(alloc, rt.open_dir(itself.as_str())?)?;
     let mut found = Vec::new(alloc);
@@ -80,7 +84,11 @@ fn remove_part<R: Files + AllocGlobal>(rt: &R, folder: &str, name: &[u8]) -> io:
     fs::remove_file(rt, path.as_str())
 }
 
-/// Removes the snapshot of so many messages.
+/// Removes the snapshot of this number of messages, if it exists.
+///
+/// # Errors
+///
+/// The system's error if it cannot be removed.
 pub fn remove<R: Files + AllocGlobal>(rt: &R, folder: &str, messages: u64) -> io::Result<()> {
     let path = format!(in rt.alloc(); "{folder}/{messages}.snap")?;
     match fs::remove_file(rt, path.as_str()) {
@@ -90,6 +98,10 @@ pub fn remove<R: Files + AllocGlobal>(rt: &R, folder: &str, messages: u64) -> io
 }
 
 /// Adds the line of a snapshot to the index.
+///
+/// # Errors
+///
+/// The system's error if the index cannot be written.
 pub fn list<R: Files<File = File> + AllocGlobal>(
     rt: &R,
     folder: &str,
@@ -106,19 +118,19 @@ pub fn list<R: Files<File = File> + AllocGlobal>(
     match file.write_all(&line) {
         Ok(()) => Ok(()),
         Err(error) => {
-            // A line that was not written whole would spoil the next one.
+            // An incomplete line would spoil the next one.
             let _ = file.set_len(length);
             Err(error)
         }
     }
 }
 
-/// Which lines of the index are kept, by how many messages their snapshots have.
+/// Which lines of the index are kept, by the number of messages of their snapshots.
 #[derive(Clone, Copy)]
 pub enum KeptLines {
-    /// Those with at most so many.
+    /// The lines with at most this number.
     UpTo(u64),
-    /// All but the one with so many.
+    /// All lines except the one with this number.
     AllBut(u64),
 }
 
@@ -131,7 +143,12 @@ impl KeptLines {
     }
 }
 
-/// Drops the other lines of the index, and those that are not of a snapshot of all locates. The index gets its name once it is on disk.
+/// Removes the other lines of the index, and those that are not of a snapshot of all locates. The new index is a temporary file, which is
+/// renamed when it is on disk.
+///
+/// # Errors
+///
+/// The system's error if the index cannot be read or written.
 pub fn keep_lines<R: Files<File = File> + AllocGlobal>(
     rt: &R,
     folder: &str,
@@ -150,13 +167,13 @@ pub fn keep_lines<R: Files<File = File> + AllocGlobal>(
         Err(error) => Err(error),
     };
     if written.is_err() {
-        // The record needs the room of what was written.
+        // The record needs the space of the incomplete file.
         let _ = fs::remove_file(rt, beside.as_str());
     }
     written
 }
 
-// Writes the lines of an index that are kept to the file at a path, and waits until it is on disk.
+// Writes the kept lines of an index to the file at a path, and waits until it is on disk.
 fn write_kept<R: Files<File = File> + AllocGlobal>(
     rt: &R,
     index: File,
@@ -180,7 +197,7 @@ fn write_kept<R: Files<File = File> + AllocGlobal>(
     out.get_ref().sync_all()
 }
 
-// What the line of a snapshot of all locates says of it, where it says all.
+// Returns the data in the line of a snapshot of all locates, if it is complete.
 fn whole(checkpoint: &Checkpoint) -> Option<(Mark, Fingerprint)> {
     let Latest::Known(latest) = checkpoint.latest else {
         return None;

@@ -1,4 +1,4 @@
-//! What a follower does about the news of its feed.
+//! The effects of news from a feed on a follower.
 ghost use Rattle.std.specs.Prelude.{◌≡◌};
 ghost use Rattle.itch_records.specs.Steps.{record_fault, refusal_of, rejection_ends, snapshot_fault_of, step_of, stop_of, unrecorded};
 
@@ -10,35 +10,35 @@ use itch_market::{ReplayEnd, Stop};
 use itch_sessions::SessionFault;
 use itch_snapshot::SnapFault;
 
-/// What a follower does next.
+/// The next step of a follower.
 #[derive(Clone, Copy, Debug)]
 pub enum Step {
-    /// It goes on.
+    /// Continue.
     On,
-    /// Its login was accepted from this number on.
+    /// The login was accepted from this number on.
     Accepted(u64),
-    /// It has a snapshot up to this number, and connects to the live feed.
+    /// The snapshot is complete up to this number; connect to the live feed.
     Joined(u64),
-    /// It has taken the message before this number.
+    /// The message before this number was applied.
     Taken(u64),
-    /// The server has ended its session.
+    /// The server ended its session.
     Ended,
     /// The server rejected the login with this code.
     Rejected(u8),
-    /// The server is in this session, and not in the one that was asked for.
+    /// The server is in this session instead of the requested one.
     OtherSession(Alpha<10>),
-    /// Memory was refused for a message, which was not taken.
+    /// Memory was refused for a message, which was not applied.
     NoMemory,
-    /// This connection is of no use any more: it connects again.
+    /// The connection is of no further use: connect again.
     Lost,
 }
 
-/// What a follower does about a piece of news, or the fault that ends it.
+/// Returns the next step of a follower after a piece of news, or the fault that ends it.
 ///
 /// # Faults
 ///
-/// A message of the feed that is no message or breaks an order rule (`Stopped`), or one of the
-/// snapshot (`Snapshot`); and a message that could not be recorded. All else is mended by a new connection.
+/// A message of the feed that is invalid or breaks an order rule (`Stopped`), or a message of the snapshot (`Snapshot`); and a message that
+/// could not be recorded. A new connection remedies everything else.
 pub fn step_of(news: News) -> Result<Step, SessionFault>
     ensures { result ≡ step_of news }
 {
@@ -56,7 +56,7 @@ pub fn step_of(news: News) -> Result<Step, SessionFault>
     }
 }
 
-// What a follower does about a message that its joiner did not take.
+// Returns the next step of a follower after a message that its joiner did not accept.
 fn refusal_of(fault: JoinFault) -> Result<Step, SessionFault>
     ensures { result ≡ refusal_of fault }
 {
@@ -68,7 +68,7 @@ fn refusal_of(fault: JoinFault) -> Result<Step, SessionFault>
         JoinFault::BadSnapshot { place, cause } => Err(SessionFault::Snapshot(snapshot_fault_of(
             place, cause,
         ))),
-        // It was applied, and is not recorded: no connection would send it again.
+        // The message was applied, but not recorded, and no connection would send it again.
         JoinFault::OutOfMemory { taken: true } => Err(SessionFault::OutOfMemory),
         JoinFault::OutOfMemory { taken: false } => Ok(Step::NoMemory),
         JoinFault::Full { .. }
@@ -78,15 +78,15 @@ fn refusal_of(fault: JoinFault) -> Result<Step, SessionFault>
     }
 }
 
-/// Whether a rejection ends the follower: its first login, which had the wrong user name or password. A server that has accepted it before, or
-/// that lacks the session or the number for now, is asked again.
+/// Returns whether a rejection ends the follower: a wrong user name or password in its first login. If the server has accepted the login
+/// before, or the session or the number is not available at the moment, the follower tries again.
 pub fn rejection_ends(code: u8, was_accepted: bool) -> bool
     ensures { result ≡ rejection_ends code was_accepted }
 {
     code == b'A' && !was_accepted
 }
 
-// The fault of a message that could not be recorded.
+// Returns the fault for a message that could not be recorded.
 fn unrecorded(fault: FrameFault) -> SessionFault
     ensures { result ≡ unrecorded fault }
 {
@@ -99,8 +99,8 @@ fn unrecorded(fault: FrameFault) -> SessionFault
     }
 }
 
-/// The fault of a follower that keeps a record: one that could not be written is that of the last message that was taken, where
-/// `next` is the number after it.
+/// Returns the fault of a follower that keeps a record. A failed write is attributed to the last message applied; `next` is the number after
+/// it.
 pub fn record_fault(fault: SessionFault, next: Option<u64>) -> SessionFault
     ensures { result ≡ record_fault fault next }
 {
@@ -113,7 +113,7 @@ pub fn record_fault(fault: SessionFault, next: Option<u64>) -> SessionFault
     }
 }
 
-/// Why a message of the feed is refused, as a replay says it.
+/// Returns the reason why a message of the feed is refused, as a replay reports it.
 pub fn stop_of(cause: Cause) -> Stop
     ensures { result ≡ stop_of cause }
 {
@@ -124,7 +124,7 @@ pub fn stop_of(cause: Cause) -> Stop
     }
 }
 
-// Why a message of the snapshot is refused, as a reader of a snapshot says it.
+// Returns the reason why a message of the snapshot is refused, as a reader of snapshots reports it.
 fn snapshot_fault_of(place: u64, cause: Cause) -> SnapFault
     ensures { result ≡ snapshot_fault_of place cause }
 {

@@ -1,4 +1,4 @@
-//! Whether a file that is written is still the one that was opened, with all that was written.
+//! Checks whether a file that is being written is still the one that was opened, with all bytes that were written.
 ghost use Rattle.std.specs.Prelude.{◌≡◌};
 ghost use Rattle.itch_records.specs.Watching.{change_of};
 
@@ -6,7 +6,7 @@ use std::fmt::{self, Display, Formatter};
 use std::fs::Metadata;
 use std::os::unix::fs::MetadataExt;
 
-/// Which file a path leads to, and how long it is.
+/// The identity of the file at a path, and its length.
 #[derive(Clone, Copy, Debug, PartialEq, Eq)]
 pub struct Seen {
     pub device: u64,
@@ -15,7 +15,7 @@ pub struct Seen {
 }
 
 impl Seen {
-    /// What the system says of a file.
+    /// Returns the values in these metadata.
     pub fn of(metadata: &Metadata) -> Seen {
         Seen {
             device: metadata.dev(),
@@ -25,14 +25,14 @@ impl Seen {
     }
 }
 
-/// What another process did to a file.
+/// A change of a file by another process.
 #[derive(Clone, Copy, Debug, PartialEq, Eq)]
 pub enum Change {
     Removed,
     Replaced,
-    /// It is shorter than what was written.
+    /// The file is shorter than the bytes written.
     CutShort,
-    /// It is longer.
+    /// The file is longer than the bytes written.
     Appended,
 }
 
@@ -47,7 +47,7 @@ impl Display for Change {
     }
 }
 
-/// What was done to a file that was written, where its path leads to `seen` now, if there is a file.
+/// Returns the change of a file that is being written, if there is one. `seen` is the file that its path leads to now, if any.
 pub fn change_of(written: Seen, seen: Option<Seen>) -> Option<Change>
     ensures { result ≡ change_of written seen }
 {

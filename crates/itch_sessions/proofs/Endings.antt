@@ -1,4 +1,4 @@
--- What was served over any reader and writer is an ending by their bytes.
+-- An answer over any reader and writer is an ending, stated by their bytes.
 use Rattle.std.proofs.Common.{◌≡◌, ℕ, List, Option, Result, Ok, Err, Some, None, ap, subst}
 use Rattle.itch_frame.specs.Reading.{Reading}
 use Rattle.itch_frame.specs.declared.tally.Failures.{Failures}

@@ -1,4 +1,4 @@
--- The connections served so far and their lines, and one more.
+-- The connections answered so far and their lines, and one more.
 use Rattle.std.proofs.Common.{◌≡◌, ℕ, ◌+◌, ◌<◌, List, [], ◌∷◌, ◌++◌, length, Option, Ok, Err, refl, sym, ap, subst, ◌∙◌, append_assoc, append-nil, arith, length-append, inl, inr}
 use Rattle.std.proofs.KnownBytes.{Appends-nil, Appends-trans}
 use Rattle.std.specs.Io.KnownBytes.{Appends}
@@ -19,7 +19,7 @@ lines_push n (first ∷ endings) ending =
     ∙ sym (append_assoc (connection_line n first) (connection_lines (n + 1) endings) (connection_line (n + length (first ∷ endings)) ending))
 
 module _ {S W : Type 0} (remaining : S → Option (List ℕ)) (taken : S → Option (List ℕ)) (contents : W → Option (List ℕ)) (failures : W → Failures) (m : Content) (next : ℕ) (config : ServerConfig) where
-  -- this many connections were served
+  -- `count` connections were answered
   pub record AreServed (old : W) (count : ℕ) (mid : W) : Type 0 where
     pub endings : List Ending
     pub counted : length endings ≡ count
@@ -47,7 +47,7 @@ module _ {S W : Type 0} (remaining : S → Option (List ℕ)) (taken : S → Opt
       }
   one_served old mid new count so_far (inr (fault, is, unserved, same)) = absurd (let no_one : ⊥ = cc in no_one)
 
-  -- or it was not
+  -- the next connection failed
   pub serving_failed : (old mid new : W) (count total : ℕ) (fault : SessionFault) → AreServed old count mid → count < total
       → ServesNext remaining taken contents failures m next config (count + 1) mid (Err fault) new → ServesOn remaining taken contents failures m next config total old (Err fault) new
   serving_failed old mid new count total fault so_far within served = (

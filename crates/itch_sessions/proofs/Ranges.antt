@@ -1,4 +1,4 @@
--- A part of a list that loses its front.
+-- A part of a list without its front.
 use Rattle.std.proofs.Common.{◌≡◌, ℕ, ◌+◌, List, take, drop, slice_range, ap, ◌∙◌, sym}
 use Rattle.std.proofs.lemmas.List.{drop-drop}
 use Rattle.std.proofs.lemmas.Slice.{between_is}

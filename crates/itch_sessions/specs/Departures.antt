@@ -5,26 +5,27 @@ use Rattle.itch_live.specs.declared.gone.Gone.TheVariants as gone
 use Rattle.itch_sessions.specs.declared.departure.Departure.{Departure}
 use Rattle.itch_sessions.specs.declared.departure.Departure.TheVariants.{Answered, Played, Rejected, Left, Fault, CutOff, Slowest}
 
--- how the connection of a client ended that is gone for this reason
+-- how a client's connection ended if the client is gone for this reason
 abbrev pub of_gone : Gone → Departure
 of_gone gone.Left = Left
 of_gone gone.Fault = Fault
 of_gone gone.Silent = CutOff
 
--- why a connection is to be closed, if it is: its client is gone, or it is over. It is said of it whether the client sends no more: then it has left
+-- the reason to close a connection, if there is one: its client is gone, or the connection is over; if the client has closed its sending
+-- half, it has left
 abbrev pub ending : Option Gone → Bool → Bool → Option Gone
 ending (Some reason) ended over = Some reason
 ending None ended false = None
 ending None true true = Some gone.Left
 ending None false true = Some gone.Fault
 
--- how a connection ended: a client that was rejected, or served, was so whatever came later
+-- how a connection ended: a rejection or a complete answer takes precedence over anything later
 abbrev pub departure_of : Option ℕ → Option Departure → Gone → Departure
 departure_of (Some code) served reason = Rejected code
 departure_of None (Some served) reason = served
 departure_of None None reason = of_gone reason
 
--- the words of that
+-- the text of an ended connection
 abbrev pub departure_words : Departure → List ℕ
 departure_words (Answered next packets) = codes "accepted at " ++ decimal next ++ codes ", " ++ decimal packets ++ codes " packets"
 departure_words (Played from packets) = codes "accepted from " ++ decimal from ++ codes ", " ++ decimal packets ++ codes " packets"

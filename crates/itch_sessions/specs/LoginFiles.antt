@@ -1,4 +1,4 @@
--- When a file of passwords is read again.
+-- When a password file is read again.
 use Rattle.std.specs.Prelude.{◌==◌, ◌&&◌, Bool, Option, None, Some, if◌then◌else◌}
 use Rattle.itch_sessions.specs.declared.login_file.Version.{Version}
 use Rattle.itch_sessions.specs.declared.login_file.Sight.{Sight}
@@ -6,12 +6,12 @@ use Rattle.itch_sessions.specs.declared.login_file.Sight.TheVariants as sight
 use Rattle.itch_sessions.specs.declared.login_file.Look.{Look}
 use Rattle.itch_sessions.specs.declared.login_file.Look.TheVariants as look
 
--- the same file of the same length, which nothing was done to in between
+-- the same file with the same length, which was not changed in between
 abbrev pub is_same_version : Version → Version → Bool
 is_same_version read version =
     read.device == version.device && read.inode == version.inode && read.length == version.length && read.seconds == version.seconds && read.nanoseconds == version.nanoseconds
 
--- it is read where it is another version than the one that was read; that it is gone is said once
+-- a file is read if its version differs from the one that was read; its loss is reported once
 abbrev pub look_of : Sight → Option Version → Look
 look_of sight.Lost None = look.Same
 look_of (sight.Read read) None = look.Loses

@@ -1,4 +1,4 @@
--- What a session writes and returns.
+-- The output and the result of a session.
 use Rattle.std.specs.Prelude.{◌≡◌, ℕ, ◌<◌, ◌⊎◌, Bool, List, ◌++◌, length, take, Option, Result, Ok, Err}
 use Rattle.std.specs.Io.KnownBytes.{Appends}
 use Rattle.itch_frame.specs.Counting.{failed}
@@ -17,7 +17,7 @@ module _ {W : Type 0} (contents : W → Option (List ℕ)) (failures : W → Fai
   abbrev pub Wrote : List ℕ → W → W → Type 0
   Wrote bytes old new = Appends (contents old) (contents new) bytes × (failures new ≡ failures old)
 
-  -- these bytes were written, or a write failed after a beginning of them
+  -- these bytes were written, or a write failed after a prefix of them
   abbrev pub WritesText : List ℕ → W → Result (Unit {0}) SessionFault → W → Type 0
   WritesText bytes old (Ok done) new = Wrote bytes old new
   WritesText bytes old (Err (session_fault.Write error)) new =
@@ -29,8 +29,8 @@ module _ {W : Type 0} (contents : W → Option (List ℕ)) (failures : W → Fai
   WritesOutput bytes verdict old (Ok answer) new = (answer ≡ verdict) × WritesText bytes old (Ok tt) new
   WritesOutput bytes verdict old (Err fault) new = WritesText bytes old (Err fault) new
 
-  -- What is written and returned of what was fetched: the session failed and nothing is written; or this was fetched, and `output` of it
-  -- is written, with the verdict on it.
+  -- The output and the result after a fetch: the session failed and nothing is written; or it fetched a value, and `output` of this value is
+  -- written, with its verdict.
   abbrev pub Outputs : {X : Type 0} → (Result X SessionFault → Type 0) → (X → List ℕ) → (X → Bool) → W → Result Bool SessionFault → W → Type 0
   Outputs {X} reads output verdict old result new =
       ((fault : SessionFault) × (result ≡ Err fault) × reads (Err fault) × (new ≡ old))

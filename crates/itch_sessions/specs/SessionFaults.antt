@@ -1,4 +1,4 @@
--- The status of a session that failed, and what its line does not say.
+-- The exit status of a failed session, and the details that its line omits.
 use Rattle.std.specs.Prelude.{ℕ, Option, Some, None}
 use Rattle.std.specs.declared.io.Error.{Error}
 use Rattle.itch_frame.specs.Statuses.{frame_error, frame_status}
@@ -15,13 +15,13 @@ use Rattle.itch_sessions.specs.declared.session_fault.SessionDevice.TheVariants.
 use Rattle.itch_sessions.specs.declared.session_fault.SessionFault.{SessionFault}
 use Rattle.itch_sessions.specs.declared.session_fault.SessionFault.TheVariants as session_fault
 
--- a session that ended without what was asked for
+-- the status of a session that ended without the requested data
 abbrev pub soup_status : SoupFault → ℕ
 soup_status (soup.Frame fault) = frame_status fault
 soup_status (soup.Snapshot (snapshot.Rule place reason)) = refusal_status reason
 soup_status fault = 1
 
--- 1 refused; 2 usage; 3 read, write, file or socket; 4 memory
+-- 1 for refused; 2 for usage; 3 for a read, a write, a file or a socket; 4 for memory
 abbrev pub session_status : SessionFault → ℕ
 session_status (session_fault.Open error) = 3
 session_status (session_fault.Folder error) = 3
@@ -40,7 +40,7 @@ abbrev pub cause_at : SessionDevice → Option Error → Option SessionCause
 cause_at device None = None
 cause_at device (Some error) = Some (record { device = device; error = error })
 
--- the system's own error, if a read or a write of the socket failed
+-- the system's error, if a read or a write of the socket failed
 abbrev pub soup_error : SoupFault → Option Error
 soup_error (soup.Frame fault) = frame_error fault
 soup_error fault = None
@@ -56,7 +56,7 @@ cause_of (session_fault.Socket error) = Some (record { device = Socket; error = 
 cause_of (session_fault.Soup fault) = cause_at Socket (soup_error fault)
 cause_of fault = None
 
--- how the peer of a session broke its rules, if the line says no more than that it did
+-- how the peer of a session broke the protocol, if the line of the fault does not say so
 abbrev pub peer_fault : SessionFault → Option SoupFault
 peer_fault (session_fault.Soup (soup.Rejected code)) = None
 peer_fault (session_fault.Soup soup.EndedEarly) = None

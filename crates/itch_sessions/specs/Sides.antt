@@ -1,10 +1,10 @@
--- The two sides of a connection, what is read of it and what is written to it, as contracts see them.
+-- The two sides of a connection, for reading and for writing, in contracts.
 use Rattle.std.specs.Prelude.{ℕ, List, [], Option, None}
 use Rattle.itch_frame.specs.Reading.{Reading}
 use Rattle.itch_frame.specs.declared.reader.Stage.TheVariants.{Going}
 use Rattle.itch_frame.specs.declared.tally.Failures.{Failures}
 
--- the bytes of a side, where they are known, and its failures
+-- the bytes of a side, if they are known, and its failures
 pub record Side : Type 0 where
   pub bytes : Option (List ℕ)
   pub failures : Failures

@@ -21,7 +21,7 @@ use Rattle.itch_sessions.specs.Logins.{ReadsLogin}
 abbrev pub is_login_of : LoginRequest → Login → Bool
 is_login_of login user = is_same_name user.username login.username && is_same_name user.password login.password
 
--- a server of this session that has this user alone
+-- the configuration of a server of this session with this single user
 abbrev pub config_of : List ℕ → Login → ServerConfig
 config_of session user = record { username = user.username; password = user.password; session = session }
 
@@ -30,12 +30,12 @@ verdict_by config (act.Accept next) = Accepted config
 verdict_by config (act.Reject code) = Rejected code
 verdict_by config other = Rejected not_available
 
--- the login of one of the users is judged as at a server that has this user alone; any other is not authorised
+-- the login of one of the users is judged as at a server with this single user; any other login is not authorised
 abbrev pub verdict_for : Option Login → List ℕ → ℕ → LoginRequest → Verdict
 verdict_for None session total login = Rejected not_authorised
 verdict_for (Some user) session total login = verdict_by (config_of session user) (judged (config_of session user) total login).0
 
--- what a client that has not logged in comes to by a packet
+-- the outcome of a packet from a client that has not logged in
 abbrev pub opening_verdict : List Login → List ℕ → ℕ → Packet → Verdict
 opening_verdict users session total (is.Debug text) = Waits
 opening_verdict users session total (is.UnsequencedData payload) = Waits
@@ -50,7 +50,7 @@ is_colon byte = byte == 58
 abbrev pub HasColon : List ℕ → Type 0
 HasColon line = position_or_len is_colon line < length line
 
--- the user of a line stands before its first colon, and the password after it; else the first that is bad is the fault
+-- the user name of a line is before its first colon, and the password after it; or the first of them that is invalid is the fault
 abbrev pub ReadsLine : List ℕ → Result Login LineFault → Type 0
 ReadsLine line (Ok login) = HasColon line × ReadsLogin (before_first is_colon line) (after_first is_colon line) (Ok login)
 ReadsLine line (Err NoColon) = position_or_len is_colon line ≡ length line

@@ -1,4 +1,4 @@
-//! Clients that call.
+//! Incoming connections of a listening port.
 
 use crate::sessions::Listening;
 use mio::net::{TcpListener, TcpStream};
@@ -6,18 +6,18 @@ use mio::{Interest, Registry, Token};
 use std::io::{self, ErrorKind};
 use std::net::{IpAddr, Net, SocketAddr};
 
-/// Who calls.
+/// An incoming connection, or the reason why there is none.
 #[derive(Drop)]
 pub enum Caller {
     /// A client that has connected from this address.
     Stream(TcpStream, IpAddr),
-    /// Nobody for now.
+    /// No client at the moment.
     Nobody,
-    /// Someone whom the system cannot give a socket for now.
+    /// A client may be waiting, but the system cannot provide a socket at the moment.
     NoDescriptor,
 }
 
-/// A port that is listened on, and whether clients may wait there.
+/// A listening port, and whether clients may be waiting there.
 #[derive(Drop)]
 pub struct Callers {
     listener: TcpListener,
@@ -25,7 +25,11 @@ pub struct Callers {
 }
 
 impl Callers {
-    /// Listens on an address, and says on standard error which it is: the port 0 becomes a free one.
+    /// Listens on an address, and prints the actual address to standard error: port 0 is replaced by a free one.
+    ///
+    /// # Errors
+    ///
+    /// The system's error if the port cannot be bound or registered.
     pub fn listen<R: Net + Eprint>(
         rt: &R,
         registry: &Registry,
@@ -33,12 +37,16 @@ impl Callers {
         token: usize,
     ) -> io::Result<Callers> {
         let (callers, address) = Callers::open(rt, registry, address, token)?;
-        // That the line cannot be written is no reason to stop.
+        // A failure to print the line is not a reason to stop.
         let _ = rt.eprintln(&Listening(address));
         Ok(callers)
     }
 
-    /// Listens on an address, and returns which it is.
+    /// Listens on an address, and returns the actual one: port 0 is replaced by a free one.
+    ///
+    /// # Errors
+    ///
+    /// The system's error if the port cannot be bound or registered.
     pub fn open<N: Net>(
         net: &N,
         registry: &Registry,
@@ -55,29 +63,29 @@ impl Callers {
         Ok((callers, address))
     }
 
-    /// Takes note that clients call.
+    /// Notes that clients are waiting.
     pub fn note(&mut self) {
         self.are_waiting = true;
     }
 
-    /// Whether clients may call.
+    /// Returns whether clients may be waiting.
     pub fn are_waiting(&self) -> bool {
         self.are_waiting
     }
 
-    /// The next client that calls.
+    /// Returns the next client that has connected, if there is one.
     pub fn next(&mut self) -> Caller {
         if !self.are_waiting {
             return Caller::Nobody;
         }
         match self.listener.accept() {
             Ok((stream, address)) => {
-                // What is sent is written in pieces as large as it can be, and not to wait.
+                // Every write is as large as possible already, so the system need not hold back data to merge it with later data.
                 let _ = stream.set_nodelay(true);
                 Caller::Stream(stream, address.ip())
             }
             Err(error) => {
-                // Where the system has no more sockets, it is asked again in the next turn.
+                // If the system has no more sockets, the next turn tries again.
                 self.are_waiting = !matches!(error.kind(), ErrorKind::WouldBlock);
                 if self.are_waiting {
                     Caller::NoDescriptor

@@ -1,4 +1,4 @@
-//! How a client's connection ended, and its line.
+//! The end of a client's connection, and its line.
 ghost use Rattle.std.specs.Prelude.{◌≡◌, ◌≤◌, ◌++◌, length, codes, decimal};
 ghost use Rattle.arrayvec.specs.ArrayVec.{array_vec_len};
 ghost use Rattle.itch_sessions.specs.Outputs.{WritesText};
@@ -14,19 +14,20 @@ use itch_live::Gone;
 /// How a client's connection ended.
 #[derive(Clone, Copy, Debug, PartialEq, Eq)]
 pub enum Departure {
-    /// It has the whole snapshot, so many packets of messages, the last of which is its End with this number.
+    /// The client received the complete snapshot: `packets` packets with messages. The last one is the End of Snapshot with the number
+    /// `next`.
     Answered { next: u64, packets: u64 },
-    /// Its login was accepted from this number on, and so many messages were played to it.
+    /// The login was accepted from this number on, and `packets` messages were played to the client.
     Played { from: u64, packets: u64 },
-    /// Its login was rejected with this code.
+    /// The login was rejected with this code.
     Rejected(u8),
-    /// It logged out, or sent no more, before it had all.
+    /// The client logged out, or closed its sending half, before it had received everything.
     Left,
-    /// It broke the protocol, or its socket failed.
+    /// The client broke the protocol, or its socket failed.
     Fault,
-    /// It was silent or took too little for 15 seconds.
+    /// The client was silent, or accepted too little, for 15 seconds.
     CutOff,
-    /// It was the slowest while another one waited for room.
+    /// The client was the slowest when another one waited for room.
     Slowest,
 }
 
@@ -44,8 +45,8 @@ impl From<Gone> for Departure {
     }
 }
 
-/// How the connection of a client ended that is gone for this reason: a client that was rejected with a code, or was served, was so
-/// whatever came later.
+/// Returns how a client's connection ended if the client is gone for this reason. A rejection takes precedence, and then a complete answer,
+/// whatever happened later.
 pub fn departure_of(code: Option<u8>, served: Option<Departure>, gone: Gone) -> Departure
     ensures { result ≡ departure_of code served gone }
 {
@@ -57,6 +58,10 @@ pub fn departure_of(code: Option<u8>, served: Option<Departure>, gone: Gone) -> 
 }
 
 /// Writes the line of a connection.
+///
+/// # Errors
+///
+/// [`SessionFault::Write`] if the output fails.
 pub fn write_departure<W: CountedWrite>(
     out: &mut W,
     number: u64,

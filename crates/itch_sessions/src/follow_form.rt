@@ -1,12 +1,12 @@
-//! The form of what is followed.
+//! The output form of a follower.
 
-/// How the messages that are followed are written.
+/// The form in which a follower writes messages.
 #[derive(Clone, Copy, Debug, PartialEq, Eq)]
 pub enum FollowForm {
-    /// As the blocks of a day file.
+    /// The blocks of a day file.
     Blocks,
-    /// The same after the messages of the snapshot.
+    /// The same, after the messages of the snapshot.
     Whole,
-    /// As lines of JSON.
+    /// JSON, one object per line.
     Json,
 }

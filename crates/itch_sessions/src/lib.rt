@@ -1,10 +1,11 @@
-//! Sessions over sockets, and what the servers that have many of them share.
+//! Sessions over sockets, and the parts that servers with many of them share.
 //!
-//! [`sessions`] has both ends of a session alone: a market that is served, and a snapshot that is fetched. [`Callers`], [`Socket`] and [`Turns`] are
-//! sockets that do not block, [`Link`] has what came of one and what is still to be written, [`Servers`] are those of a feed in turn, and [`Logins`] say
-//! who may log in. A [`SessionFault`] says why a session has failed, a [`Departure`] why a client is gone, and [`log`] writes what happens.
+//! [`sessions`] contains both ends of a single session: serving a market, and fetching a snapshot. [`Callers`], [`Socket`] and [`Turns`] are
+//! for sockets that do not block. A [`Link`] is the connection of one client, [`Servers`] are the servers of a feed, which are tried in turn,
+//! and [`Logins`] are the users who may log in. A [`SessionFault`] is the reason why a session failed, a [`Departure`] is the way in which a
+//! client's connection ended, and [`log`] writes the events.
 //!
-//! Nothing here can be said of what a peer sends or takes. The contracts are of what becomes of it.
+//! The contracts cannot say anything about the bytes that a peer sends or accepts. They state the effect of these bytes.
 #![tactic(auto)]
 
 mod callers;

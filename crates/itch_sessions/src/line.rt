@@ -1,4 +1,4 @@
-//! Lines of text, made in place.
+//! Lines of text in buffers of fixed size.
 ghost use Rattle.std.specs.Prelude.{◌≡◌, ◌≤◌, ◌+◌, ◌++◌, length, decimal};
 ghost use Rattle.arrayvec.specs.ArrayVec.{array_vec_len};
 
@@ -14,7 +14,7 @@ pub fn push<const N: usize>(line: &mut ArrayVec<u8, N>, bytes: &[u8])
     line.try_extend_from_slice(bytes).unwrap();
 }
 
-/// Appends a number in decimal digits, of which it has twenty at most.
+/// Appends a number in decimal, which has at most twenty digits.
 pub fn push_number<const N: usize>(line: &mut ArrayVec<u8, N>, number: u64)
     requires { array_vec_len line.old + 20 ≤ N }
     ensures items { line.new.items ≡ line.old.items ++ decimal number }

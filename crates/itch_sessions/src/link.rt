@@ -9,19 +9,19 @@ use mio::Registry;
 use mio::event::Event;
 use std::io;
 
-/// The connection of a client, and how far it has ended.
+/// The connection of a client, and how much of it has ended.
 #[derive(Drop)]
 pub struct Link {
     socket: Socket,
     who: Who,
-    // Whether the client sends no more, whether nothing more is sent to it, and whether a read or a write has failed.
+    // Whether the client has closed its sending half, whether the server has closed its own, and whether a read or a write has failed.
     has_ended: bool,
     has_all: bool,
     has_failed: bool,
 }
 
 impl Link {
-    /// The connection of this client.
+    /// Creates the connection of this client.
     pub fn new(socket: Socket, who: Who) -> Link {
         Link {
             socket,
@@ -36,22 +36,22 @@ impl Link {
         self.who.number
     }
 
-    /// Whose connection it is.
+    /// Returns the identity of the client.
     pub fn who(&self) -> Who {
         self.who
     }
 
-    /// Takes note of the user name that a login gives.
+    /// Records the user name of a login.
     pub fn set_user(&mut self, user: User) {
         self.who.user = Some(user);
     }
 
-    /// Takes note of what is ready.
+    /// Records the readiness reported by an event.
     pub fn note(&mut self, event: &Event) {
         self.socket.note(event);
     }
 
-    /// Whether there is something to read, or to write if something is pending, before anything else is ready.
+    /// Returns whether there may be bytes to read, or room to write pending ones, without waiting for another event.
     pub fn is_busy(&self, is_pending: bool) -> bool {
         self.socket.is_readable() || (is_pending && self.socket.is_writable())
     }
@@ -61,12 +61,12 @@ impl Link {
         self.socket.move_to(registry, token)
     }
 
-    /// Has the next write tried, also where the system has not reported room.
+    /// Makes the next write try the socket, even if the system has not reported room.
     pub fn try_to_write(&mut self) {
         self.socket.try_to_write();
     }
 
-    /// Reads what the client has said into the front of a buffer that is not empty, and returns how many bytes that is.
+    /// Reads bytes from the client into the front of a buffer that is not empty, and returns how many were read.
     pub fn read(&mut self, buffer: &mut [u8]) -> usize
         ensures { result ≤ length buffer.new }
     {
@@ -84,7 +84,7 @@ impl Link {
         }
     }
 
-    /// Writes bytes as far as they are taken now, and returns how many were.
+    /// Writes as many of these bytes as the socket accepts now, and returns how many it accepted.
     pub fn write(&mut self, bytes: &[u8]) -> usize
         ensures { result ≤ length bytes.now }
     {
@@ -100,7 +100,7 @@ impl Link {
         }
     }
 
-    /// Ends the sending half, once.
+    /// Shuts down the sending half, once.
     pub fn end_sending(&mut self) {
         if !self.has_all {
             self.has_all = true;
@@ -108,13 +108,14 @@ impl Link {
         }
     }
 
-    /// Whether the client has all that it is told: the sending half is ended.
+    /// Returns whether the sending half is shut down, because the client has received everything.
     pub fn has_all(&self) -> bool {
         self.has_all
     }
 
-    /// Why the connection is to be closed, if it is: its client is gone, its socket has failed, or it sends no more and waits for
-    /// nothing. A client that sends no more has left, also where its socket fails afterwards.
+    /// Returns the reason to close the connection, if there is one: its client is gone, its socket has failed, or the client has closed its
+    /// sending half and waits for nothing. A client that has closed its sending half counts as [`Gone::Left`], even if its socket fails
+    /// afterwards.
     pub fn ending(&self, gone: Option<Gone>, waits: bool) -> Option<Gone>
         ensures { result ≡ ending gone self.now.has_ended (self.now.has_failed || (self.now.has_ended && not waits)) }
     {

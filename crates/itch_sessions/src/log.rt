@@ -1,4 +1,4 @@
-//! Lines of a server that never wait: a pipe that nobody reads, or that is closed, costs lines and no more.
+//! The lines of a server. Writing them never blocks: if a pipe is full or closed, lines are lost, and nothing else happens.
 
 pub mod entry;
 pub mod form;
@@ -25,21 +25,21 @@ const OUTPUT: RawFd = 1;
 
 const ERROR: RawFd = 2;
 
-/// Lost lines are counted in a line once a minute.
+/// The interval in milliseconds at which a line reports the number of lost lines.
 const REPORT_MS: u64 = 60_000;
 
-/// Standard error, for what becomes of a server, and standard output, for a line about each client.
+/// Standard error for the events of a server, and standard output for the line of each client.
 #[derive(Drop)]
 pub struct Log<'a, R> {
     rt: &'a R,
     form: LogForm,
-    // The time of this turn, in milliseconds since 1970, as far as the clock says so.
+    // The time of this turn in milliseconds since 1970, if the clock provides it.
     time: Option<u64>,
     output: Outlet,
     error: Outlet,
     is_mute: bool,
     lost: u64,
-    // Those before them, which were reported.
+    // The lost lines that were reported already.
     lost_before: u64,
     reported_ms: u64,
 }
@@ -62,7 +62,11 @@ impl<'a, R: Eprint> Log<'a, R> {
         })
     }
 
-    /// Another one, to the same streams.
+    /// Creates another log with the same form, to the same streams.
+    ///
+    /// # Errors
+    ///
+    /// [`AllocError`] if memory is refused.
     pub fn another(&self) -> Result<Log<'a, R>, AllocError>
     where
         R: Net + Clock + AllocGlobal,
@@ -70,22 +74,22 @@ impl<'a, R: Eprint> Log<'a, R> {
         Log::new(self.rt, self.form)
     }
 
-    /// How many lines were lost.
+    /// Returns the number of lost lines.
     pub fn lost(&self) -> u64 {
         self.lost_before.saturating_add(self.lost)
     }
 
-    /// Whether its lines have the cause of a loss.
+    /// Returns whether the lines include the cause of a loss.
     pub fn has_causes(&self) -> bool {
         !matches!(self.form, LogForm::Plain)
     }
 
-    /// What it writes with.
+    /// Returns the runtime that it writes with.
     pub fn runtime(&self) -> &'a R {
         self.rt
     }
 
-    /// Looks at the clock: what is said until the next look has this time.
+    /// Reads the clock. Lines until the next call carry this time.
     pub fn look_at_clock(&mut self)
     where
         R: Clock,
@@ -95,12 +99,12 @@ impl<'a, R: Eprint> Log<'a, R> {
         }
     }
 
-    /// Says nothing from now on.
+    /// Suppresses all further events on standard error.
     pub fn mute(&mut self) {
         self.is_mute = true;
     }
 
-    /// Says a line on standard error.
+    /// Writes a line to standard error.
     pub fn say<L: Event>(&mut self, line: &L) {
         if !self.is_mute && !self.says(line) {
             self.lost = self.lost.saturating_add(1);
@@ -122,12 +126,12 @@ impl<'a, R: Eprint> Log<'a, R> {
         said.is_ok()
     }
 
-    // The time of this turn, as it is written.
+    // Returns the time of this turn as text.
     fn time(&self) -> Option<[u8; UTC]> {
         utc(self.time?)
     }
 
-    /// Writes what has become of a client's connection: plain lines have only its end, on standard output.
+    /// Writes an event of a client's connection. In plain form only the end of the connection is written, to standard output.
     pub fn tell<W: CountedWrite>(&mut self, out: &mut W, visit: &Visit) {
         match (self.form, visit.happening) {
             (LogForm::Plain, Happening::Ended(departure)) => {
@@ -141,7 +145,7 @@ impl<'a, R: Eprint> Log<'a, R> {
         }
     }
 
-    /// Says how many lines were lost, once a minute.
+    /// Reports the number of lost lines, at most once per minute.
     pub fn report(&mut self, now_ms: u64) {
         if self.lost == 0 || now_ms < self.reported_ms.saturating_add(REPORT_MS) {
             return;
@@ -154,11 +158,11 @@ impl<'a, R: Eprint> Log<'a, R> {
     }
 }
 
-// A stream that lines are written to.
+// A stream to which lines are written.
 #[derive(Drop)]
 struct Outlet {
     fd: RawFd,
-    // None where it is a file, which never waits for a reader.
+    // `None` if it is a file, which never blocks.
     poll: Option<Poll>,
     events: Events<Global>,
 }
@@ -172,7 +176,7 @@ impl Outlet {
         })
     }
 
-    // Whether a line of less than a page can be written without waiting. What is wrong with the stream shows when it is written.
+    // Returns whether a line of less than a page can be written without blocking. A fault of the stream shows when it is written.
     fn has_room(&mut self) -> bool {
         let Some(poll) = &mut self.poll else {
             return true;

@@ -1,11 +1,11 @@
-//! When a file of passwords is read again.
+//! When a password file is read again.
 ghost use Rattle.std.specs.Prelude.{◌≡◌};
 ghost use Rattle.itch_sessions.specs.LoginFiles.{is_same_version, look_of};
 
 use std::fs::Metadata;
 use std::os::unix::fs::MetadataExt;
 
-/// Which file a path leads to, how long it is, and when it or its rights were changed last, in seconds and nanoseconds.
+/// The identity of a file, its length, and the time of the last change to it or its attributes, in seconds and nanoseconds.
 #[derive(Clone, Copy, Debug, PartialEq, Eq)]
 pub struct Version {
     pub device: u64,
@@ -16,7 +16,7 @@ pub struct Version {
 }
 
 impl Version {
-    /// What the system says of a file.
+    /// Returns the version in these metadata.
     pub fn of(metadata: &Metadata) -> Version {
         Version {
             device: metadata.dev(),
@@ -28,27 +28,27 @@ impl Version {
     }
 }
 
-/// A file as it was looked at last.
+/// The last known state of a file.
 #[derive(Clone, Copy, Debug, PartialEq, Eq)]
 pub enum Sight {
-    /// This version was read, whether or not its contents are right.
+    /// This version was read, whether or not its contents are valid.
     Read(Version),
-    /// It was not there, or could not be read.
+    /// The file did not exist, or could not be read.
     Lost,
 }
 
-/// What is done about a file that is looked at.
+/// The action after a look at a file.
 #[derive(Clone, Copy, Debug, PartialEq, Eq)]
 pub enum Look {
-    /// Nothing: it is as it was.
+    /// None: the file has not changed.
     Same,
-    /// It is read.
+    /// Read the file.
     Read(Version),
-    /// It is no longer there, which is said once.
+    /// The file no longer exists, which is reported once.
     Loses,
 }
 
-/// What is done about a file that has this version now, if it is there.
+/// Returns the action for a file that has this version now, if it exists.
 pub fn look_of(last: Sight, version: Option<Version>) -> Look
     ensures { result ≡ look_of last version }
 {

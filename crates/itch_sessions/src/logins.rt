@@ -1,4 +1,4 @@
-//! The logins that a server accepts, or that a client gives: words of the command line, or those of a file, which is read again when it has changed.
+//! The logins that a server accepts, or that a client uses: from the command line, or from a file that is read again when it has changed.
 
 use crate::log::Log;
 use crate::log::entry::{Event, Level, write_shown, write_text};
@@ -13,28 +13,28 @@ use std::fs::{self, File};
 use std::io::{self, ErrorKind, Read};
 use std::rt::Files;
 
-/// Files are looked at this often.
+/// The interval in milliseconds at which files are checked.
 const LOOK_MS: u64 = 1_000;
 
-/// More than this of a file with a password is not read: a password that is longer is refused anyway.
+/// At most this many bytes of a password file are read. A longer password is refused anyway.
 const PASSWORD_BYTES: u64 = 4_096;
 
 /// A longer file of users is refused.
 const USERS_BYTES: u64 = 65_536;
 
-/// Where logins are.
+/// The source of logins.
 #[derive(Clone, Copy)]
 pub enum LoginSource<'a> {
-    /// A user name and a password that stay the same.
+    /// A fixed user name and password.
     Words { user: &'a str, password: &'a str },
     /// A user name, and the file whose first line is the password.
     PasswordFile { user: &'a str, path: &'a str },
-    /// A file with a user name, a colon and a password on each line that is not empty.
+    /// A file whose nonempty lines consist of a user name, a colon and a password.
     UserFile { path: &'a str },
 }
 
 impl<'a> LoginSource<'a> {
-    /// The path of the file, if there is one.
+    /// Returns the path of the file, if there is one.
     pub fn path(&self) -> Option<&'a str> {
         match self {
             LoginSource::Words { .. } => None,
@@ -43,16 +43,16 @@ impl<'a> LoginSource<'a> {
     }
 }
 
-/// Why logins cannot be read.
+/// The reason why logins cannot be read.
 #[derive(Debug, Drop)]
 pub enum LoginsFault {
     /// The file cannot be read.
     Open(io::Error),
-    /// The one user name or its password is wrong, or memory was refused.
+    /// The single user name or its password is invalid, or memory was refused.
     Login(SessionFault),
-    /// The line of this number, the first of which is 1, is wrong.
+    /// The line with this number is invalid. The first line has the number 1.
     Line { number: u64, fault: LineFault },
-    /// The file has no user.
+    /// The file contains no user.
     NoUser,
     /// The file has more than 65,536 bytes.
     TooLong,
@@ -84,20 +84,24 @@ impl From<SessionFault> for LoginsFault {
     }
 }
 
-/// The logins of one source. There is always one at least.
+/// The logins of a source. There is always at least one.
 #[derive(Drop)]
 pub struct Logins<'a> {
-    // None where they stay the same.
+    // `None` if the logins are fixed.
     file: Option<LoginSource<'a>>,
     first: Login,
     list: Vec<Login>,
-    // The file as it was looked at last, and when that was.
+    // The last known state of the file, and the time at which it was checked.
     sight: Sight,
     looked_ms: u64,
 }
 
 impl<'a> Logins<'a> {
-    /// Reads the logins.
+    /// Reads the logins of a source.
+    ///
+    /// # Errors
+    ///
+    /// A [`LoginsFault`] if the source cannot be read or is invalid.
     pub fn read<R: Files<File = File> + AllocGlobal>(
         rt: &R,
         source: LoginSource<'a>,
@@ -116,7 +120,11 @@ impl<'a> Logins<'a> {
         })
     }
 
-    /// One login that stays the same.
+    /// Creates logins with a single one, which is fixed.
+    ///
+    /// # Errors
+    ///
+    /// [`AllocError`] if memory is refused.
     pub fn of(alloc: Global, login: &Login) -> Result<Logins<'static>, AllocError> {
         let list = one(alloc, *login)?;
         Ok(Logins {
@@ -128,12 +136,12 @@ impl<'a> Logins<'a> {
         })
     }
 
-    /// Those who may log in.
+    /// Returns the users who may log in.
     pub fn list(&self) -> &[Login] {
         self.list.as_slice()
     }
 
-    /// Whom a client logs in as.
+    /// Returns the login that a client uses.
     pub fn first(&self) -> Login {
         self.first
     }
@@ -142,13 +150,13 @@ impl<'a> Logins<'a> {
         self.file?.path()
     }
 
-    /// Whether the file is to be looked at.
+    /// Returns whether the file is due to be checked.
     pub fn is_due(&self, now_ms: u64) -> bool {
         self.path().is_some() && now_ms.saturating_sub(self.looked_ms) >= LOOK_MS
     }
 
-    /// Looks at the file, and reads it where it has changed. One that cannot be read, or is wrong, changes nothing, which is said once.
-    /// These are the logins of `whose`.
+    /// Checks the file, and reads it if it has changed. A file that cannot be read or is invalid changes nothing, and is reported once.
+    /// `whose` names these logins in the log.
     pub fn look<R: Files<File = File> + Eprint + AllocGlobal>(
         &mut self,
         log: &mut Log<'_, R>,
@@ -199,7 +207,7 @@ impl<'a> Logins<'a> {
                 });
             }
             Err(fault) => {
-                // What is no text is read no better the next time.
+                // A file that is not text does not become readable by another attempt.
                 let is_lost = match &fault {
                     LoginsFault::Open(error) => !matches!(error.kind(), ErrorKind::InvalidData),
                     _ => false,
@@ -221,7 +229,7 @@ impl<'a> Logins<'a> {
     }
 }
 
-// What has become of a file of logins.
+// The outcome of reading a file of logins again.
 #[derive(Clone, Copy)]
 struct LoginLine<'a, 'b, 'c> {
     whose: &'a str,
@@ -278,7 +286,7 @@ fn seen(metadata: &io::Result<fs::Metadata>) -> Option<Version> {
     }
 }
 
-// The logins of a source, and the first of them.
+// Returns the logins of a source, and the first of them.
 fn read_list<R: Files<File = File> + AllocGlobal>(
     rt: &R,
     source: LoginSource<'_>,
@@ -294,7 +302,7 @@ fn read_list<R: Files<File = File> + AllocGlobal>(
     Ok((login, one(rt.alloc(), login)?))
 }
 
-// The users of the file of a path.
+// Returns the users in a file, and the first of them.
 fn read_listed<R: Files<File = File> + AllocGlobal>(
     rt: &R,
     path: &str,
@@ -316,7 +324,7 @@ fn one(alloc: Global, login: Login) -> Result<Vec<Login>, AllocError> {
     Ok(list)
 }
 
-// The users of the lines of a text that are not empty.
+// Returns the users in the nonempty lines of a text.
 fn read_users(alloc: Global, text: &str) -> Result<Vec<Login>, LoginsFault> {
     let mut users = Vec::new(alloc);
     let mut number = 0u64;

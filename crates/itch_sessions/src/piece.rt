@@ -1,4 +1,4 @@
-//! Bytes of a socket that were read and not handed on yet.
+//! Bytes read from a socket that were not passed on yet.
 ghost use Rattle.std.specs.Prelude.{◌≡◌, ◌≤◌, [], length, drop, IfOk};
 
 use crate::socket::{Got, Socket};
@@ -6,10 +6,10 @@ use std::alloc::{AllocError, Global};
 use std::io;
 use std::marker::Model;
 
-/// What is read at once, at most.
+/// The most bytes of one read.
 const PIECE: usize = 1 << 16;
 
-/// Bytes of a socket that were read and not handed on yet.
+/// Bytes read from a socket that were not passed on yet.
 #[derive(Drop)]
 pub struct Piece {
     buffer: Vec<u8>,
@@ -29,7 +29,11 @@ impl Model for Piece {
 }
 
 impl Piece {
-    /// No bytes yet. All memory is taken here, 65,536 bytes.
+    /// Creates an empty one. It allocates all its memory here, 65,536 bytes.
+    ///
+    /// # Errors
+    ///
+    /// [`AllocError`] if memory is refused.
     pub fn new(alloc: Global) -> Result<Piece, AllocError>
         ensures { IfOk result (λ piece. piece ≡ []) }
     {
@@ -40,7 +44,7 @@ impl Piece {
         })
     }
 
-    /// The bytes that are to be handed on.
+    /// Returns the bytes to be passed on.
     pub fn bytes(&self) -> &[u8]
         ensures { result.now ≡ self.now }
     {
@@ -51,7 +55,7 @@ impl Piece {
         self.from == self.to
     }
 
-    /// Takes note that the first `count` bytes were handed on.
+    /// Records that the first `count` bytes were passed on.
     #[tactic(auto, using(crate::proofs::Ranges::front_passed))]
     pub fn passed(&mut self, count: usize)
         requires { count ≤ length self.old }
@@ -60,7 +64,7 @@ impl Piece {
         self.from += count;
     }
 
-    /// Forgets all bytes.
+    /// Drops all bytes.
     pub fn clear(&mut self)
         ensures { self.new ≡ [] }
     {
@@ -68,7 +72,11 @@ impl Piece {
         self.to = 0;
     }
 
-    /// Reads what a socket has, in place of the bytes before.
+    /// Reads the available bytes of a socket, in place of the previous ones.
+    ///
+    /// # Errors
+    ///
+    /// The system's error if the read fails.
     pub fn fill(&mut self, socket: &mut Socket) -> io::Result<Got> {
         self.clear();
         let got = socket.read(&mut self.buffer[..])?;

@@ -1,12 +1,12 @@
 //! The servers that a live server or a follower connects to.
 
-/// The most servers that one feed may have.
+/// The most servers of one feed.
 pub const MOST_FEEDS: usize = 8;
 
-/// A server: its name or its address, and its port.
+/// A server: its host name or address, and its port.
 #[derive(Clone, Copy, Debug, PartialEq, Eq)]
 pub struct Place<'a> {
-    /// Both as they were written.
+    /// Both as given on the command line.
     pub words: &'a str,
     pub host: &'a str,
     pub port: u16,
@@ -16,12 +16,12 @@ pub struct Place<'a> {
 #[derive(Clone, Copy, Debug, PartialEq, Eq)]
 pub struct Feeds<'a> {
     pub first: Place<'a>,
-    /// Those after it, with nothing between them.
+    /// The servers after the first one, without gaps.
     pub others: [Option<Place<'a>>; MOST_FEEDS - 1],
 }
 
 impl<'a> Feeds<'a> {
-    /// One server alone.
+    /// Creates a list of a single server.
     pub fn one(first: Place<'a>) -> Feeds<'a> {
         Feeds {
             first,
@@ -29,7 +29,7 @@ impl<'a> Feeds<'a> {
         }
     }
 
-    /// The server at a place, the first of which is 0.
+    /// Returns the server with this index, starting at 0.
     pub fn get(&self, place: usize) -> Option<Place<'a>> {
         if place == 0 {
             return Some(self.first);
@@ -40,7 +40,7 @@ impl<'a> Feeds<'a> {
         }
     }
 
-    /// Whether there is one alone.
+    /// Returns whether there is only one server.
     pub fn is_one(&self) -> bool {
         self.get(1).is_none()
     }

@@ -1,13 +1,13 @@
-//! How long a rejection waits: whoever guesses passwords is told of each guess later than of the one before.
+//! The delay of rejections: each further guess of a password from the same address is answered later than the one before.
 
 use crate::spot::wait_after;
 use std::alloc::{AllocError, Global};
 use std::net::IpAddr;
 
-/// Of so many addresses it is known. Where there are more, the one that was quiet for longest is forgotten.
+/// The number of addresses that are remembered. After that, the address with the oldest rejection is forgotten.
 const MOST: usize = 256;
 
-// An address whose logins were rejected: how long the last rejection waited, and when that login came.
+// An address with rejected logins: the delay of the last rejection, and the time of that login.
 #[derive(Clone, Copy)]
 struct Refusal {
     address: IpAddr,
@@ -15,21 +15,25 @@ struct Refusal {
     at_ms: u64,
 }
 
-/// The addresses whose logins were rejected.
+/// The addresses with rejected logins.
 #[derive(Drop)]
 pub struct Refusals {
     known: Vec<Refusal>,
 }
 
 impl Refusals {
-    /// None yet. All memory is taken here.
+    /// Creates an empty one. It allocates all its memory here.
+    ///
+    /// # Errors
+    ///
+    /// [`AllocError`] if memory is refused.
     pub fn new(alloc: Global) -> Result<Refusals, AllocError> {
         Ok(Refusals {
             known: Vec::with_capacity(alloc, MOST)?,
         })
     }
 
-    /// For how many milliseconds the rejection of a login from this address waits.
+    /// Returns the delay in milliseconds of the rejection of a login from this address, and remembers it.
     pub fn delay_of(&mut self, address: IpAddr, now_ms: u64) -> u64 {
         let (last_ms, passed_ms) = match self.known.iter().find(|it| it.address == address) {
             Some(last) => (last.wait_ms, now_ms.saturating_sub(last.at_ms)),
@@ -62,7 +66,7 @@ impl Refusals {
         }
     }
 
-    // The place of the address that was quiet for longest, where there is no room for another one.
+    // Returns the place of the address with the oldest rejection, if there is no room for another one.
     fn oldest_if_full(&self) -> Option<usize> {
         if self.known.len() < MOST {
             return None;

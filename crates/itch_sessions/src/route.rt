@@ -1,20 +1,20 @@
-//! The servers of a feed and of snapshots, which address of them is tried next, and when.
+//! The servers of a feed and of snapshots: which of their addresses is tried next, and when.
 
 use crate::places::{Feeds, Place};
 use crate::spot::{Spot, pause_after, spot_after};
 use std::alloc::Global;
 use std::net::{Net, SocketAddr, ToSocketAddrs};
 
-/// The servers of a feed, and the server of snapshots. Where a name has more than one address, they are tried in turn.
+/// The servers of a feed, and the snapshot server. If a name has several addresses, they are tried in turn.
 #[derive(Clone, Copy)]
 pub struct Servers<'a> {
     pub feeds: Feeds<'a>,
-    /// None where the feed's first message is asked for.
+    /// `None` to start with the feed's first message.
     pub glimpse: Option<Place<'a>>,
 }
 
 impl<'a> Servers<'a> {
-    // A server of the feed, or that of snapshots.
+    // Returns a server of the feed, or the snapshot server.
     fn get(&self, live: bool, server: usize) -> Option<Place<'a>> {
         if live {
             return self.feeds.get(server);
@@ -23,22 +23,22 @@ impl<'a> Servers<'a> {
     }
 }
 
-/// Which address is tried next.
+/// The address to try next.
 #[derive(Drop)]
 pub struct Route<'a> {
     servers: Servers<'a>,
     spot: Spot,
-    // The addresses that were found for the name of the server at that spot.
+    // The addresses found for the name of the current server.
     found: Vec<SocketAddr>,
-    // The one address that is tried, where there is only one.
+    // The only address to try, if it is fixed.
     only: Option<SocketAddr>,
-    // How long the last wait was, and when a login was accepted since.
+    // The length of the last wait, and the time at which a login was accepted since.
     wait_ms: u64,
     accepted_ms: Option<u64>,
 }
 
 impl<'a> Route<'a> {
-    /// Begins with the first address.
+    /// Creates a route that begins with the first address.
     pub fn new(alloc: Global, servers: Servers<'a>) -> Route<'a> {
         Route {
             servers,
@@ -50,7 +50,7 @@ impl<'a> Route<'a> {
         }
     }
 
-    /// Leads to this address alone.
+    /// Restricts the route to this address.
     pub fn keep_to(&mut self, address: SocketAddr) {
         self.only = Some(address);
     }
@@ -59,12 +59,12 @@ impl<'a> Route<'a> {
         self.servers
     }
 
-    /// The place of the server that is connected to, or is next, among those of the feed.
+    /// Returns the index of the current or next server among those of the feed.
     pub fn server(&self) -> usize {
         self.spot.server
     }
 
-    /// What that server is called on the command line.
+    /// Returns the name of that server on the command line.
     pub fn name(&self, live: bool) -> Option<&'a str> {
         match self.servers.get(live, self.spot.server) {
             Some(place) => Some(place.words),
@@ -72,7 +72,7 @@ impl<'a> Route<'a> {
         }
     }
 
-    /// The address to connect to, if one is found. The name of a server is looked up whenever its turn comes.
+    /// Returns the address to connect to, if one is found. The name of a server is resolved each time its turn comes.
     pub fn next<N: Net>(&mut self, net: &N, live: bool) -> Option<SocketAddr> {
         if self.only.is_some() {
             return self.only;
@@ -98,17 +98,17 @@ impl<'a> Route<'a> {
         }
     }
 
-    /// Takes note that a login was accepted there at this moment.
+    /// Records that a login was accepted there at this time.
     pub fn accept(&mut self, now_ms: u64) {
         self.accepted_ms = Some(now_ms);
     }
 
-    /// Begins with the first address of another kind of server.
+    /// Starts again with the first address, of another kind of server.
     pub fn begin(&mut self) {
         self.spot = Spot::FIRST;
     }
 
-    /// Takes note that the connection is lost, or was not made, and returns how many milliseconds to wait before the next one.
+    /// Records that the connection is lost, or could not be made. Returns how many milliseconds to wait before the next one.
     pub fn lose(&mut self, live: bool, now_ms: u64) -> u64 {
         let stayed_ms = match self.accepted_ms.take() {
             Some(accepted_ms) => now_ms.saturating_sub(accepted_ms),

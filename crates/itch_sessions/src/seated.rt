@@ -1,4 +1,4 @@
-//! The addresses of the clients that hold a place.
+//! The addresses of the clients with a place.
 
 use std::alloc::{AllocError, Global};
 use std::net::IpAddr;
@@ -10,7 +10,11 @@ pub struct Seated {
 }
 
 impl Seated {
-    /// So many free places.
+    /// Creates this number of free places.
+    ///
+    /// # Errors
+    ///
+    /// [`AllocError`] if memory is refused.
     pub fn new(alloc: Global, places: usize) -> Result<Seated, AllocError> {
         let mut addresses = Vec::with_capacity(alloc, places)?;
         for _place in 0..places {
@@ -19,19 +23,19 @@ impl Seated {
         Ok(Seated { addresses })
     }
 
-    /// Takes note of who holds a place, if anyone does.
+    /// Records the address of the client at a place, or that the place is free.
     pub fn set(&mut self, place: usize, address: Option<IpAddr>) {
         if let Some(seat) = self.addresses.get_mut(place) {
             *seat = address;
         }
     }
 
-    /// The address of the client at a place.
+    /// Returns the address of the client at a place, if there is one.
     pub fn at(&self, place: usize) -> Option<IpAddr> {
         *self.addresses.get(place)?
     }
 
-    /// How many places clients from this address hold.
+    /// Returns the number of places with clients from this address.
     pub fn of(&self, address: IpAddr) -> usize {
         self.addresses
             .iter()

@@ -1,4 +1,4 @@
-//! Why a session over sockets has failed: its line on standard error, and the program's status.
+//! The faults of sessions over sockets, with their lines on standard error and the exit statuses.
 ghost use Rattle.std.specs.Prelude.{◌≡◌, ◌≢◌};
 ghost use Rattle.std.specs.IoError.{error_kind};
 ghost use Rattle.itch_sessions.specs.SessionFaults.{cause_at, cause_of, peer_fault, session_status, soup_error, soup_status};
@@ -12,15 +12,15 @@ use std::error::Error;
 use std::fmt::{self, Display, Formatter};
 use std::io::{self, ErrorKind};
 
-/// Why a session over sockets, a live server or what follows a feed has failed. What was written before, as the lines of connections,
-/// stays.
+/// The reason why a session over sockets, a live server or a follower of a feed has failed. Output that was written before, such as the lines
+/// of connections, is kept.
 ///
-/// `Display` gives the line for standard error, without its line feed, and allocates nothing.
+/// `Display` writes the line for standard error, without its line feed, and allocates nothing.
 #[derive(Debug, Drop)]
 pub enum SessionFault {
-    /// The day file that is played, or that a feed is recorded in, cannot be opened.
+    /// The day file that is played, or to which a feed is recorded, cannot be opened.
     Open(io::Error),
-    /// The folder of snapshots cannot be opened or written to.
+    /// The folder of snapshots cannot be opened or written.
     Folder(io::Error),
     /// A message of a day file or a feed was refused, or cannot be read or recorded.
     Stopped(ReplayEnd),
@@ -28,24 +28,24 @@ pub enum SessionFault {
     Snapshot(SnapFault),
     /// The output cannot be written.
     Write(io::Error),
-    /// A socket was not bound, connected, accepted or set up.
+    /// A socket could not be bound, connected, accepted or set up.
     Socket(io::Error),
-    /// A session ended without what was asked for.
+    /// A session ended without the requested data.
     Soup(SoupFault),
-    /// The user name is not 1 to 6 printable characters.
+    /// The user name does not consist of 1 to 6 printable characters.
     BadUser,
-    /// The password is not 1 to 10 printable characters.
+    /// The password does not consist of 1 to 10 printable characters.
     BadPassword,
-    /// There are more messages than can be served or played: the number after the last would be none.
+    /// There are more messages than can be served or played: the message after the last would have no valid number.
     TooMany,
     /// Memory was refused.
     OutOfMemory,
 }
 
-/// What a session reads or writes.
+/// A device that a session reads or writes.
 #[derive(Clone, Copy, Debug, PartialEq, Eq)]
 pub enum SessionDevice {
-    /// The day file that is played, or that a feed is recorded in.
+    /// The day file that is played, or to which a feed is recorded.
     DayFile,
     /// The folder of snapshots.
     Folder,
@@ -54,7 +54,7 @@ pub enum SessionDevice {
     Socket,
 }
 
-/// The device that a session failed at, and the system's own error.
+/// The device that failed in a session, and the system's error.
 #[derive(Clone, Copy, Debug)]
 pub struct SessionCause {
     pub device: SessionDevice,
@@ -62,7 +62,7 @@ pub struct SessionCause {
 }
 
 impl SessionFault {
-    /// The fault of a system call: `OutOfMemory` if the error says so, otherwise `otherwise`.
+    /// Returns the fault for an error of a system call: `OutOfMemory` if the error says so, otherwise `otherwise`.
     pub fn of_system(error: io::Error, otherwise: SessionFault) -> SessionFault
         ensures memory { error_kind error ≡ ErrorKind.OutOfMemory → result ≡ SessionFault.OutOfMemory }
         ensures otherwise { error_kind error ≢ ErrorKind.OutOfMemory → result ≡ otherwise }
@@ -73,7 +73,7 @@ impl SessionFault {
         }
     }
 
-    /// The status that the program ends with: 1 refused, 2 usage, 3 read, write, file or socket, 4 memory.
+    /// Returns the exit status of the program: 1 for refused, 2 for usage, 3 for a read, a write, a file or a socket, 4 for memory.
     pub fn status(&self) -> u8
         ensures { result ≡ session_status self.now }
     {
@@ -89,7 +89,7 @@ impl SessionFault {
         }
     }
 
-    /// The device that failed, with the system's own error: none if no device failed, or if memory ran out.
+    /// Returns the device that failed, with the system's error. Returns `None` if no device failed, or if memory ran out.
     pub fn cause(&self) -> Option<SessionCause>
         ensures { result ≡ cause_of self.now }
     {
@@ -105,7 +105,7 @@ impl SessionFault {
         }
     }
 
-    /// How the peer of a session broke its rules: none if the fault's line says what happened, or if nothing of the kind did.
+    /// Returns how the peer of a session broke the protocol. Returns `None` if it did not, or if the line of the fault says so already.
     pub fn peer_fault(&self) -> Option<SoupFault>
         ensures { result ≡ peer_fault self.now }
     {
@@ -137,7 +137,7 @@ fn soup_status(fault: &SoupFault) -> u8
     }
 }
 
-// The system's own error, if a read or a write of the socket failed.
+// Returns the system's error, if a read or a write of the socket failed.
 fn soup_error(fault: &SoupFault) -> Option<io::Error>
     ensures { result ≡ soup_error fault.now }
 {
@@ -147,7 +147,7 @@ fn soup_error(fault: &SoupFault) -> Option<io::Error>
     }
 }
 
-// A device, if it failed with a system's error.
+// Returns a device, if it failed with a system's error.
 fn cause_at(device: SessionDevice, error: Option<io::Error>) -> Option<SessionCause>
     ensures { result ≡ cause_at device error }
 {
@@ -179,7 +179,7 @@ impl Display for SessionFault {
     }
 }
 
-// Why a session ended without what was asked for. What only says that the peer broke the rules is one line.
+// Writes why a session ended without the requested data. All faults of the peer share one line.
 fn write_soup<W: fmt::Write>(fault: &SoupFault, f: &mut Formatter<W>) -> fmt::Result {
     match fault {
         SoupFault::Rejected(code) => {

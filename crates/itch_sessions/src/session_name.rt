@@ -6,14 +6,14 @@ ghost use Rattle.itch_soup.specs.Names.{session_name};
 use itch_codec::Alpha;
 use itch_codec::spaces::after_spaces;
 
-/// Whether these are different sessions. A name may be padded at either end.
+/// Returns whether these are different sessions. A name may be padded at either end.
 pub fn is_another(session: &Alpha<10>, named: &Alpha<10>) -> bool
     ensures { result ≡ is_another session.now named.now }
 {
     name_of(session) != name_of(named)
 }
 
-/// A session's name without the spaces at both ends.
+/// Returns a session's name without the spaces at both ends.
 pub fn name_of(session: &Alpha<10>) -> &[u8]
     ensures { result.now ≡ session_name session.entry.now }
 {

@@ -1,10 +1,10 @@
-//! The two ends of a SoupBinTCP 3.00 session over sockets: a market served, and a snapshot fetched. What the two ends say to each
-//! other is `itch_soup`'s.
+//! The two ends of a SoupBinTCP 3.00 session over sockets: serving a market, and fetching a snapshot. `itch_soup` defines the packets that
+//! the two ends exchange.
 //!
-//! [`serve_market`] serves the snapshot of a market to one connection after another, with a line for each:
-//! the clauses say what is served and how each connection ended, in terms of what its socket gave and took. No peer keeps the
-//! others waiting for longer than [`time_left`] allows. [`fetch`] logs in, receives a snapshot and writes it in canonical form;
-//! [`fetch_rest`] writes the messages from a number on as they come. A [`Login`] is the user name and the password of both ends.
+//! [`serve_market`] serves the snapshot of a market to one connection after another, and writes a line for each. Its clauses state the bytes
+//! that are served, and how each connection ended, in terms of the bytes that its socket sent and accepted. No peer keeps the others waiting
+//! for longer than [`time_left`] allows. [`fetch`] logs in, receives a snapshot and writes it in canonical form; [`fetch_rest`] writes the
+//! messages from a number on, as received. A [`Login`] is the user name and the password of both ends.
 //!
 //! ```
 //! let login = Login::new("desk", "secret")?;

@@ -1,4 +1,4 @@
-//! A socket, and whether it is ready.
+//! A socket that does not block, and its readiness.
 ghost use Rattle.std.specs.Prelude.{◌≤◌, length, IfOk};
 ghost use Rattle.itch_sessions.specs.Sockets.{IsWithin};
 
@@ -8,19 +8,19 @@ use mio::{Interest, Registry, Token};
 use std::io::{self, ErrorKind, Read, Write};
 use std::net::Shutdown;
 
-/// What a read has come to.
+/// The outcome of a read.
 #[derive(Clone, Copy, Debug, PartialEq, Eq)]
 pub enum Got {
-    /// So many bytes, at least one.
+    /// This number of bytes, at least one.
     Bytes(usize),
-    /// None for now.
+    /// No bytes at the moment.
     Nothing,
-    /// The peer sends no more.
+    /// The peer has closed its sending half.
     Ended,
 }
 
-/// A socket, and whether it may be read and written without waiting. It is reported ready once at each change, so each is kept until
-/// a call would have to wait.
+/// A socket, and whether it can be read and written without blocking. The system reports readiness once per change, so both flags are kept
+/// until a call would block.
 #[derive(Drop)]
 pub struct Socket {
     stream: TcpStream,
@@ -29,7 +29,11 @@ pub struct Socket {
 }
 
 impl Socket {
-    /// Registers a socket under this number. One that is connected is ready as far as is known.
+    /// Registers a socket under this number. A connected socket is assumed to be ready.
+    ///
+    /// # Errors
+    ///
+    /// The system's error if it cannot be registered.
     pub fn register(
         registry: &Registry,
         stream: TcpStream,
@@ -49,7 +53,7 @@ impl Socket {
         })
     }
 
-    /// Takes note of what is ready.
+    /// Records the readiness reported by an event.
     pub fn note(&mut self, event: &Event) {
         let over = event.is_error() || event.is_read_closed();
         self.readable = self.readable || event.is_readable() || over;
@@ -64,7 +68,11 @@ impl Socket {
         self.writable
     }
 
-    /// Registers it under another number. What is ready is reported anew.
+    /// Registers it under another number. The system then reports its readiness again.
+    ///
+    /// # Errors
+    ///
+    /// The system's error if it cannot be registered.
     pub fn move_to(&mut self, registry: &Registry, token: usize) -> io::Result<()> {
         registry.reregister(
             &mut self.stream,
@@ -73,12 +81,17 @@ impl Socket {
         )
     }
 
-    /// Has the next write tried, also where the system has not reported room: it does so only once a third of its buffer is free.
+    /// Makes the next write try the socket, even if the system has not reported room. The system does so only when a third of its buffer is
+    /// free.
     pub fn try_to_write(&mut self) {
         self.writable = true;
     }
 
-    /// Reads what is there into the front of a buffer that is not empty.
+    /// Reads the available bytes into the front of a buffer that is not empty.
+    ///
+    /// # Errors
+    ///
+    /// The system's error if the read fails.
     pub fn read(&mut self, buffer: &mut [u8]) -> io::Result<Got>
         ensures { IfOk result (IsWithin (length buffer.new)) }
     {
@@ -102,7 +115,11 @@ impl Socket {
         }
     }
 
-    /// Writes bytes as far as they are taken now, and returns how many were.
+    /// Writes as many of these bytes as the socket accepts now, and returns how many it accepted.
+    ///
+    /// # Errors
+    ///
+    /// The system's error if the write fails.
     pub fn write(&mut self, bytes: &[u8]) -> io::Result<usize>
         ensures { IfOk result (λ count. count ≤ length bytes.now) }
     {
@@ -122,7 +139,7 @@ impl Socket {
         }
     }
 
-    /// Ends the sending half.
+    /// Shuts down the sending half.
     pub fn end_sending(&mut self) {
         let _ = self.stream.shutdown(Shutdown::Write);
     }

@@ -1,4 +1,4 @@
-//! Descriptors that clients do not get: a server that has many clients still connects to its feed, and writes its snapshots.
+//! File descriptors that are kept from clients, so that a server with many clients can still connect to its feed and write its snapshots.
 
 use std::alloc::{AllocError, Global};
 use std::fs::{self, File};
@@ -7,10 +7,10 @@ use std::rt::Files;
 /// A file that can always be opened.
 const ANY: &str = "/dev/null";
 
-/// So many descriptors are spared.
+/// The number of descriptors that are kept.
 pub const SPARED: usize = 3;
 
-/// Open files that give up their descriptors where those are needed.
+/// Open files that give up their descriptors when these are needed.
 #[derive(Drop)]
 pub struct Spare {
     files: Vec<File>,
@@ -18,7 +18,11 @@ pub struct Spare {
 }
 
 impl Spare {
-    /// Room for so many, none of which is open yet.
+    /// Creates one with room for `most` files, none of which is open yet.
+    ///
+    /// # Errors
+    ///
+    /// [`AllocError`] if memory is refused.
     pub fn new(alloc: Global, most: usize) -> Result<Spare, AllocError> {
         Ok(Spare {
             files: Vec::with_capacity(alloc, most)?,
@@ -26,7 +30,7 @@ impl Spare {
         })
     }
 
-    /// Opens what is missing, and says whether all are open: otherwise no client gets a descriptor.
+    /// Opens the missing files, and returns whether all are open. If not, clients get no descriptors.
     pub fn hold<R: Files<File = File>>(&mut self, rt: &R) -> bool {
         for _ in self.files.len()..self.most {
             let Ok(file) = fs::open(rt, ANY) else {
@@ -39,7 +43,7 @@ impl Spare {
         true
     }
 
-    /// Gives up all of them.
+    /// Closes all of them.
     pub fn release(&mut self) {
         self.files.clear();
     }

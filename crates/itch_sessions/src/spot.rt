@@ -1,16 +1,16 @@
-//! Whose turn it is to be connected to, and when.
+//! Which server is connected to next, and when.
 ghost use Rattle.std.specs.Prelude.{◌≡◌, ◌==◌, ◌&&◌};
 ghost use Rattle.itch_sessions.specs.Routes.{pause_after, spot_after, wait_after};
 
-/// How long a follower waits before it connects again, after the first failure and at most; and for how long a server has to stay
-/// before the next failure counts as the first.
+/// The wait of a follower before it connects again, after the first failure and at most; and how long a server must stay connected for the
+/// next failure to count as the first one. All in milliseconds.
 const FIRST_WAIT_MS: u64 = 100;
 
 const LONGEST_WAIT_MS: u64 = 5_000;
 
 const STEADY_MS: u64 = 60_000;
 
-/// One of several servers, and one of the addresses that were found for its name. Both are counted from 0.
+/// A server, and one of the addresses found for its name. Both are counted from 0.
 #[derive(Clone, Copy, Debug, PartialEq, Eq)]
 pub struct Spot {
     pub server: usize,
@@ -31,8 +31,8 @@ impl Spot {
     }
 }
 
-/// Whose turn is next: that of the server's next address, of which `found` were found, then of the next server's first one, and after the last
-/// server of the first.
+/// Returns the next spot: the server's next address, of the `found` ones, then the first address of the next server, and after the last
+/// server the first one.
 pub fn spot_after(spot: Spot, found: usize, has_another: bool) -> Spot
     ensures { result ≡ spot_after spot found has_another }
 {
@@ -51,15 +51,15 @@ pub fn spot_after(spot: Spot, found: usize, has_another: bool) -> Spot
     }
 }
 
-/// How long to wait before the next connection, and how long that counts as when the one after it is due.
+/// The wait before the next connection, and the wait that the one after it is computed from.
 #[derive(Clone, Copy, Debug, PartialEq, Eq)]
 pub struct Pause {
     pub wait_ms: u64,
     pub counts_ms: u64,
 }
 
-/// How long to wait before the next connection, where the last wait was so long and a server stayed for so long since: none before another address,
-/// so that each is tried before the first one's turn comes again.
+/// Returns the wait before the next connection, from the last wait and the time for which a server stayed connected since. There is no wait
+/// before another address, so that each is tried before the first one's turn comes again.
 pub fn pause_after(last_ms: u64, stayed_ms: u64, is_first: bool) -> Pause
     ensures { result ≡ pause_after last_ms stayed_ms is_first }
 {
@@ -76,8 +76,8 @@ pub fn pause_after(last_ms: u64, stayed_ms: u64, is_first: bool) -> Pause
     }
 }
 
-/// How long to wait before the first server's turn comes again: twice as long as the last time, from a tenth of a second to five seconds. A server
-/// that stayed for a minute is asked again as after a first failure.
+/// Returns the wait before the first server's turn comes again: twice the last one, from a tenth of a second to five seconds. After a server
+/// that stayed connected for a minute, it is that of a first failure.
 pub fn wait_after(last_ms: u64, stayed_ms: u64) -> u64
     ensures { result ≡ wait_after last_ms stayed_ms }
 {

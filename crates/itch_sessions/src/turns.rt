@@ -1,4 +1,4 @@
-//! The turns of a server: which sockets are ready, and which moment it is.
+//! The turns of a server: which sockets are ready, and the time.
 
 use crate::session_fault::SessionFault;
 use mio::{Events, Poll, Registry};
@@ -8,7 +8,7 @@ use std::net::Net;
 use std::rt::Clock;
 use std::time::{Duration, Instant};
 
-/// The sockets that a server waits for, and the moment at which it began.
+/// The sockets that a server waits for, and the time at which it began.
 #[derive(Drop)]
 pub struct Turns<'a, C> {
     clock: &'a C,
@@ -18,7 +18,11 @@ pub struct Turns<'a, C> {
 }
 
 impl<'a, C: Clock> Turns<'a, C> {
-    /// Begins now, with no socket. So many are reported ready at once, at most.
+    /// Begins now, without sockets. At most `events` sockets are reported per wait.
+    ///
+    /// # Errors
+    ///
+    /// [`SessionFault::Socket`] if the clock or the system fails, [`SessionFault::OutOfMemory`] if memory is refused.
     pub fn begin<R: Net + AllocGlobal>(
         rt: &R,
         clock: &'a C,
@@ -32,28 +36,37 @@ impl<'a, C: Clock> Turns<'a, C> {
         })
     }
 
-    /// Where sockets are registered.
+    /// Returns the registry of the sockets.
     pub fn registry(&self) -> &Registry {
         self.poll.registry()
     }
 
-    /// Waits until a socket is ready, but no longer than this, and returns how many milliseconds have passed since the beginning.
+    /// Waits until a socket is ready, at most this long, and returns the milliseconds since the beginning.
+    ///
+    /// # Errors
+    ///
+    /// [`SessionFault::Socket`] if the system fails.
     pub fn wait(&mut self, most_ms: u64) -> Result<u64, SessionFault> {
         self.poll(most_ms)?;
         if self.events.is_empty() {
-            // A wait that a signal cuts off ends so too. The process may have been stopped: nobody is silent who was not asked.
+            // A signal also ends a wait early. The process may have been stopped meanwhile, so a client counts as silent only if its socket
+            // was checked.
             self.poll(0)?;
         }
         self.now()
     }
 
-    /// How many milliseconds have passed since the beginning.
+    /// Returns the milliseconds since the beginning.
+    ///
+    /// # Errors
+    ///
+    /// [`SessionFault::Socket`] if the clock fails.
     pub fn now(&self) -> Result<u64, SessionFault> {
         let passed = called(self.begun.elapsed(self.clock))?;
         Ok(u64::try_from(passed.as_millis()).unwrap_or(u64::MAX))
     }
 
-    /// Whether so many milliseconds have passed, or the clock does not say.
+    /// Returns whether this number of milliseconds has passed, or the clock fails.
     pub fn is_past(&self, most_ms: u64) -> bool {
         match self.now() {
             Ok(now_ms) => now_ms >= most_ms,
@@ -66,13 +79,13 @@ impl<'a, C: Clock> Turns<'a, C> {
         called(self.poll.poll(&mut self.events, Some(most)))
     }
 
-    /// What the last wait has found ready.
+    /// Returns the events of the last wait.
     pub fn events(&self) -> &Events<Global> {
         &self.events
     }
 }
 
-/// What a call of the system about sockets or the clock gives, or its fault.
+/// Returns the result of a system call about sockets or the clock, or its fault.
 pub fn called<T>(done: io::Result<T>) -> Result<T, SessionFault> {
     match done {
         Ok(value) => Ok(value),

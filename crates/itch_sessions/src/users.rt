@@ -1,4 +1,4 @@
-//! The users of a server: whose logins it accepts, and what a line of their file says.
+//! The users of a server: whose logins it accepts, and the lines of a user file.
 ghost use Rattle.std.specs.Prelude.{◌≡◌, ◌<◌, ◌^◌};
 ghost use Rattle.std.specs.List.{find};
 ghost use Rattle.std.specs.Option.{option_copied};
@@ -16,22 +16,22 @@ const NOT_AUTHORISED: u8 = b'A';
 
 const NOT_AVAILABLE: u8 = b'S';
 
-/// What a client comes to that has not logged in, when it sends a packet.
+/// The outcome of a packet from a client that has not logged in.
 #[derive(Clone, Copy)]
 pub enum Verdict {
-    /// The packet is no login, and changes nothing.
+    /// The packet is not a login, and changes nothing.
     Waits,
-    /// Its login is accepted, by this configuration.
+    /// The login is accepted, by this configuration.
     Accepted(ServerConfig),
-    /// Its login is rejected with this code.
+    /// The login is rejected with this code.
     Rejected(u8),
-    /// It has logged out.
+    /// The client has logged out.
     Left,
-    /// It has broken the protocol.
+    /// The client has broken the protocol.
     Fault,
 }
 
-/// What a client that has not logged in comes to by this packet, at a server of `total` messages with these users.
+/// Returns the outcome of this packet from a client that has not logged in, at a server of `total` messages with these users.
 pub fn verdict_of(users: &[Login], session: &Alpha<10>, total: u64, packet: &Packet<'_>) -> Verdict
     requires { total < 10 ^ 19 }
     ensures { result ≡ opening_verdict users.now session.now total packet.now }
@@ -47,7 +47,7 @@ pub fn verdict_of(users: &[Login], session: &Alpha<10>, total: u64, packet: &Pac
     }
 }
 
-// What a client comes to by a login at a server that has one user alone.
+// Returns the outcome of a login at a server with a single user.
 fn verdict_by(config: &ServerConfig, total: u64, login: &Packet<'_>) -> Verdict
     requires { total < 10 ^ 19 }
     ensures { result ≡ verdict_by config.now (server_answer (new_server config.now total 0) login.now) }
@@ -59,14 +59,14 @@ fn verdict_by(config: &ServerConfig, total: u64, login: &Packet<'_>) -> Verdict
     }
 }
 
-/// The first of these users whose name and password a login has, if there is one.
+/// Returns the first of these users with the name and the password of a login, if there is one.
 pub fn user_of<'a>(users: &'a [Login], login: &LoginRequest) -> Option<&'a Login>
     ensures { option_copied result ≡ find (is_login_of login.now) users.now }
 {
     users.iter().find(|user| is_login_of(login, user))
 }
 
-// Whether a login has the name and the password of a user, compared as SoupBinTCP compares them.
+// Returns whether a login has the name and the password of a user, compared as in SoupBinTCP.
 fn is_login_of(login: &LoginRequest, user: &Login) -> bool
     ensures { result ≡ is_login_of login.now user.now }
 {
@@ -80,14 +80,14 @@ fn is_same_name<const N: usize>(name: &Alpha<N>, other: &Alpha<N>) -> bool
     name.text().eq_ignore_ascii_case(other.text())
 }
 
-/// What is wrong with a line of a file of users.
+/// The fault of a line in a user file.
 #[derive(Clone, Copy, Debug, PartialEq, Eq)]
 pub enum LineFault {
-    /// No colon ends the user name.
+    /// There is no colon after the user name.
     NoColon,
-    /// The user name is not 1 to 6 printable characters.
+    /// The user name does not consist of 1 to 6 printable characters.
     BadUser,
-    /// The password is not 1 to 10 printable characters.
+    /// The password does not consist of 1 to 10 printable characters.
     BadPassword,
 }
 
@@ -101,7 +101,11 @@ impl Display for LineFault {
     }
 }
 
-/// Reads a line of a file of users, without its line ending: a user name, a colon, and a password, which may have colons too.
+/// Reads a line of a user file, without its line ending: a user name, a colon, and a password, which may contain colons.
+///
+/// # Errors
+///
+/// The [`LineFault`] of the line.
 pub fn read_user(line: &str) -> Result<Login, LineFault>
     ensures { ReadsLine line.now result }
 {

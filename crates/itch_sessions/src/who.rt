@@ -1,4 +1,4 @@
-//! Whose connection it is, and what becomes of it.
+//! The client of a connection, and its events.
 
 use crate::departure::Departure;
 use crate::log::entry::{
@@ -9,10 +9,10 @@ use std::fmt::{self, Display, Formatter};
 use std::net::IpAddr;
 use std::str;
 
-/// Whose connection it is.
+/// The client of a connection.
 #[derive(Clone, Copy, Debug)]
 pub struct Who {
-    /// The connections are numbered from 1.
+    /// The number of the connection, starting at 1.
     pub number: u64,
     pub address: IpAddr,
     /// The user name of its login, once it was read.
@@ -23,7 +23,7 @@ pub struct Who {
 }
 
 impl Who {
-    /// A connection that has not logged in yet.
+    /// Creates a client that has not logged in yet.
     pub fn new(number: u64, address: IpAddr, now_ms: u64) -> Who {
         Who {
             number,
@@ -35,14 +35,14 @@ impl Who {
     }
 }
 
-/// A user name, with spaces at its end.
+/// A user name, padded with spaces at its end.
 #[derive(Clone, Copy, Debug)]
 pub struct User {
     name: [u8; 6],
 }
 
 impl User {
-    /// The user of this name, or of its first six bytes.
+    /// Creates the user with this name, or its first six bytes.
     pub fn new(text: &str) -> User {
         let mut name = [b' '; 6];
         for (to, from) in name.iter_mut().zip(text.as_bytes()) {
@@ -56,7 +56,7 @@ impl User {
     }
 }
 
-/// What has become of a connection.
+/// An event of a connection.
 #[derive(Clone, Copy, Debug)]
 pub enum Happening {
     Connected,
@@ -66,7 +66,7 @@ pub enum Happening {
     Ended(Departure),
 }
 
-/// What has become of whose connection, so many milliseconds after it was made.
+/// An event of a client's connection, with the milliseconds since it connected.
 #[derive(Clone, Copy, Debug)]
 pub struct Visit {
     pub who: Who,
@@ -135,7 +135,7 @@ fn level_of(departure: Departure) -> Level {
     }
 }
 
-// Writes how a connection ended, and a number or a code with it.
+// Writes how a connection ended, with its number or code.
 fn write_departure<W: fmt::Write>(
     f: &mut Formatter<W>,
     form: LogForm,

@@ -1,4 +1,4 @@
--- Payloads as they are read where only some locates are wanted.
+-- Payloads as they are read if only some locates are wanted.
 use mathlib.Core.Path.{fun_ext}
 use Rattle.std.proofs.Common.{◌≡◌, ℕ, Bool, true, false, cond, List, map, None, Ok, sym, ap, ◌∙◌, subst, arith}
 use Rattle.std.specs.List.{AllByRecursion}
@@ -57,13 +57,13 @@ module _ (wanted : ℕ → Bool) where
   pub all_full : (ps : List (List ℕ)) → AllByRecursion IsFull ps → AllByRecursion IsFull (map (as_read wanted) ps)
   all_full ps full = All-map_rec IsFull (as_read wanted) ps (All-weaker_rec IsFull (λ p. IsFull (as_read wanted p)) read_full ps full)
 
-  -- End of Snapshot stays what it is
+  -- End of Snapshot is read unchanged
   pub read_number : (p : List ℕ) → closing_number (as_read wanted p) ≡ closing_number p
   read_number p =
       by_test (is_skipped wanted p)
       (λ skip. ap closing_number (read_skipped p skip) ∙ idle_number ∙ sym (skipped_number wanted p skip))
       (λ stays. ap closing_number (read_stays p stays))
 
--- where all locates are wanted, each payload is read as it is
+-- if all locates are wanted, each payload is read unchanged
 pub all_as_is : (wanted : ℕ → Bool) → ((l : ℕ) → wanted l ≡ true) → as_read wanted ≡ read_by None
 all_as_is wanted all = fun_ext (λ p. read_stays wanted p (none_skipped wanted all p))

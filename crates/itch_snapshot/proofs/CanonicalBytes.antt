@@ -1,4 +1,4 @@
--- The canonical bytes of a market are those of no other one.
+-- The canonical bytes of a market belong to no other market.
 use Rattle.std.proofs.Common.{◌≡◌, List, [], ◌∷◌, map, refl, sym, ap, ap₂, subst}
 use Rattle.std.specs.List.{AllByRecursion}
 use Rattle.itch_codec.specs.declared.message.Message.{Message}
@@ -19,11 +19,11 @@ use Rattle.itch_snapshot.proofs.OneSnapshot.{snap_same, same_snap, replayed_same
 use Rattle.itch_snapshot.proofs.SpelledMessages.{IsSpelled, snap_spelled}
 use Rattle.itch_codec.proofs.Spelling.{Spells-spelling, same_message}
 
--- one spelling is that of one message
+-- equal bytes belong to equal messages
 spelling_one : (x y : Message) → IsMessage x → IsMessage y → spelling x ≡ spelling y → x ≡ y
 spelling_one x y fit fine e = same_message x y (spelling x) (Spells-spelling x fit) (subst (Spells y) (sym e) (Spells-spelling y fine))
 
--- and so for lists of messages
+-- and equal lists of bytes to equal lists of messages
 spellings_one : (xs ys : List Message) → AreMessages xs → AreMessages ys → map spelling xs ≡ map spelling ys → xs ≡ ys
 spellings_one [] [] fit fine e = refl
 spellings_one [] (y ∷ ys) fit fine e = absurd (cc e)
@@ -36,7 +36,7 @@ spellings_one (x ∷ xs) (y ∷ ys) fit fine e =
 payloads : (xs : List Message) → AllByRecursion IsSpelled xs → AllByRecursion IsPayload (map spelling xs)
 payloads xs spelled = All-map_rec IsPayload spelling xs (All-weaker_rec IsSpelled (λ x. IsPayload (spelling x)) (λ x h. h.short) xs spelled)
 
--- the blocks of messages that fit are those of no other messages
+-- the blocks of messages that fit belong to no other messages
 pub wire_one : (xs ys : List Message) → AllByRecursion IsSpelled xs → AllByRecursion IsSpelled ys → blocks (map spelling xs) ≡ blocks (map spelling ys) → xs ≡ ys
 wire_one xs ys fit fine e =
     spellings_one xs ys (All-weaker_rec IsSpelled IsMessage (λ x h. h.fits) xs fit) (All-weaker_rec IsSpelled IsMessage (λ x h. h.fits) ys fine)
@@ -52,7 +52,7 @@ same_canon m n good fine e = same_snap m n good fine (wire_one (snap m) (snap n)
 pub canon_again : (m : Content) → IsGood m → canon (run (snap m)) ≡ canon m
 canon_again m good = canon_same (run (snap m)) m (replayed_same m good)
 
--- a market has one text in whichever order its orders stand
+-- a market has the same canonical bytes for any order of its orders
 pub canon-laid : (m : Content) → IsGood m → canon (laid m) ≡ canon m
 canon-laid m good = canon_same (laid m) m (laid_is_same m good)
 

@@ -1,4 +1,4 @@
--- A market is known by its parts.
+-- A market is determined by its parts.
 use Rattle.std.proofs.Common.{◌≡◌, ℕ, ◌<◌, ◌≤◌, ◌==◌, ◌&&◌, ◌||◌, nat_lt, Bool, true, false, List, [], ◌∷◌, map, Option, Some, None, refl, sym, ap, ◌∙◌, arith}
 use Rattle.std.specs.Prelude.{◌↔◌}
 use Rattle.std.specs.List.{AllByRecursion, list_any}
@@ -32,7 +32,7 @@ parts_same : (sets : List (ℕ → Bool)) (m n : Content) → Same m n → HaveS
 parts_same [] m n same = tt
 parts_same (wanted ∷ sets) m n same = (part_same wanted m n same, parts_same sets m n same)
 
--- a set with this locate, and the markets cut down to it
+-- a set with this locate, and the markets restricted to it
 record PartWith (m n : Content) (locate : ℕ) : Type 0 where
   wanted : ℕ → Bool
   there : wanted locate ≡ true

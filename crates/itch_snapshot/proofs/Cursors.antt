@@ -1,4 +1,4 @@
--- What is still to come of a snapshot: all of it at first, and one message less after each one.
+-- The remaining messages of a snapshot: all of them at first, and one fewer after each step.
 use Rattle.std.proofs.Common.{◌≡◌, ℕ, Bool, List, [], ◌∷◌, ◌++◌, map, filter, find, flat_map, append_assoc, Option, Some, None, IsSome, IfSome, option_map, refl, sym, ap, ap₂, ◌∙◌, subst}
 use Rattle.std.specs.List.{AllByRecursion}
 use Rattle.std.specs.Map.{keys_of}
@@ -22,7 +22,7 @@ pub parts_of : (m : Content) (es : List (ℕ × Listing)) → AllByRecursion (λ
 parts_of m [] here = refl
 parts_of m (e ∷ es) here = ap₂ ◌++◌ (ap (found_part m.orders e.0) here.0) (parts_of m es here.1)
 
--- at first all of the snapshot list is left
+-- at first the complete snapshot list remains
 pub left_snap : (m : Content) → left m m.event None None (finite.keys m.securities) ≡ snap m
 left_snap m = ap (λ parts. event_part m.event ++ parts) (parts_of m (finite.entries m.securities) (each_entry m.securities))
 
@@ -30,7 +30,7 @@ left_snap m = ap (λ parts. event_part m.event ++ parts) (parts_of m (finite.ent
 pub cursor_among : (m : Content) (wanted : ℕ → Bool) → IsCursor m None (filter wanted (finite.keys m.securities))
 cursor_among m wanted = record { live = tt; listed = All-filter_rec (λ l. IsSome (finite.get m.securities l)) wanted (finite.keys m.securities) (each_listed m.securities) }
 
--- with no set all locates are wanted
+-- without a set, all locates are wanted
 pub all_in : (locates : List ℕ) → filter (in_set None) locates ≡ locates
 all_in [] = refl
 all_in (l ∷ ls) = ap (λ ks. l ∷ ks) (all_in ls)
@@ -49,7 +49,7 @@ live_named : (orders : List Order) (stock : List ℕ) (placed : Option Placed) (
 live_named orders stock None x e live = tt
 live_named orders stock (Some p) x e live = subst (λ o. IfSome o (λ y. book.get orders y.reference ≡ Some y)) (sym e) live
 
--- a market's orders, as the book that holds them has them
+-- a market's orders, as stored in its book
 module _ (m : Content) (orders : List Order) (kept : book.IsBook orders) (same : orders ≡ m.orders) where
   listed_book : book.IsBook m.orders
   listed_book = subst book.IsBook same kept
@@ -64,7 +64,7 @@ module _ (m : Content) (orders : List Order) (kept : book.IsBook orders) (same :
   first_there : (placed : Option Placed) (locate : ℕ) → its_order placed ≡ find (book.is_in locate) orders → its_order placed ≡ find (book.is_in locate) m.orders
   first_there placed locate first = first ∙ ap (λ os. find (book.is_in locate) os) same
 
-  -- an order is given, and the next one after it is still to come
+  -- an order is returned, and the next one after it remains
   pub order_given : (event : Option ℕ) (states spent : Option (List Message)) (order next : Option NamedOrder) (locates : List ℕ) (x : NamedOrder) (placed : Option Placed)
       → IsCursor m order locates → event ≡ None → listed states ≡ [] → listed spent ≡ [] → order ≡ Some x → next ≡ named x.stock placed → its_order placed ≡ book.after orders x.order.reference
       → left m event states order locates ≡ order_part x.stock x.order ∷ left m None spent next locates
@@ -83,7 +83,7 @@ module _ (m : Content) (orders : List Order) (kept : book.IsBook orders) (same :
         listed = cursor.listed;
       }
 
-  -- the directory entry of a locate is given, and the rest of what is said of the locate is still to come
+  -- the directory entry of a locate is returned, and the other messages about the locate remain
   pub locate_given : (event : Option ℕ) (states next_states : Option (List Message)) (order next : Option NamedOrder)
       (locates others : List ℕ) (locate : ℕ) (s : Listing) (placed : Option Placed)
       → event ≡ None → listed states ≡ [] → order ≡ None → locates ≡ locate ∷ others → finite.get m.securities locate ≡ Some s

@@ -1,4 +1,4 @@
--- A day file that is cut at any message: a snapshot may stand in place of the messages before the cut.
+-- A day file that is cut at any message: a snapshot can replace the messages before the cut.
 use Rattle.std.proofs.Common.{◌≡◌, ℕ, List, ◌++◌, map, length, None, sym, subst, arith, length-append}
 use Rattle.std.proofs.lemmas.List.{map-append}
 use Rattle.itch_codec.specs.Fields.{AreBytes}

@@ -1,4 +1,4 @@
--- The snapshots of what the messages of a day leave.
+-- The snapshots of the markets after the messages of a day.
 use Rattle.std.proofs.Common.{◌≡◌, ℕ, ◌-◌, ◌<◌, ◌≤◌, ◌^◌, ◌↔◌, List, map, length, Option, IsNone, IfSome, sym, ap, ◌∙◌, subst, arith}
 use Rattle.std.specs.List.{AllByRecursion}
 use Rattle.std.proofs.lemmas.List.{length-map}
@@ -21,7 +21,7 @@ use Rattle.itch_snapshot.specs.Snapshot.{snap}
 use Rattle.itch_snapshot.proofs.OneSnapshot.{snap_same, same_snap, snap-laid}
 use Rattle.itch_snapshot.proofs.Sizes.{short_snap}
 
--- what was taken from the empty market has no more messages than were taken
+-- a market after messages from the empty market has no more snapshot messages than those
 pub taken_short : (ps : List (List ℕ)) (n : Content) → AllByRecursion Fits ps → NoCause empty ps → n ≡ laid (run (map message_of ps)) → length (snap n) ≤ length ps
 taken_short ps n fits none left =
     let ms = map message_of ps in
@@ -30,11 +30,11 @@ taken_short ps n fits none left =
     let same : snap n ≡ snap (run ms) = ap snap left ∙ snap_same (laid (run ms)) (run ms) (laid_is_same (run ms) (run_good ms fit follow)) in
     omega (arith, ap length same, short_snap ms fit follow, length-map ps message_of)
 
--- what was taken leaves a market that can be written
+-- a market after messages that were taken can be written
 pub taken_few : (limit : Limit) (ps : List (List ℕ)) (n : Content) → AllByRecursion Fits ps → AreTaken limit ps → n ≡ laid (run (map message_of ps)) → length (snap n) < 10 ^ 19
 taken_few limit ps n fits taken left = omega (arith, taken_short ps n fits taken.taken left, taken.few)
 
--- markets part where they do in any order of their orders
+-- the position of the first difference of markets does not depend on the order of their orders
 pub parts-laid : (m n one other : Content) (place : Option ℕ) → IsGood m → IsGood n → one ≡ laid m → other ≡ laid n
     → IfSome place (λ k. (0 < k) × IsParting (snap one) (snap other) (k - 1)) → IsNone place ↔ Same one other → IsPartPlace m n place
 parts-laid m n one other place good fine left right parting none = record {

@@ -1,4 +1,4 @@
--- What a failed write of several blocks leaves of their joined bytes.
+-- The written bytes after a failed write of several blocks.
 use Rattle.std.proofs.Common.{◌≡◌, ℕ, ◌+◌, ◌<◌, ◌≤◌, List, [], ◌∷◌, ◌++◌, map, length, take, Option, Err, sym, ap, subst, ◌∙◌, append-nil, arith, length-append}
 use Rattle.std.proofs.lemmas.List.{take-append-le}
 use Rattle.std.proofs.Math.Seq.{take-append-add}
@@ -17,7 +17,7 @@ use Rattle.itch_snapshot.specs.Bytes.{canon, closing}
 use Rattle.itch_snapshot.specs.Snapshot.{snap}
 use Rattle.itch_snapshot.specs.Writes.{payloads}
 
--- some blocks and a beginning of the next one are a beginning of all of them
+-- some blocks and a prefix of the next one are a prefix of all of them
 beginning : (done more : List (List ℕ)) (payload : List ℕ) (sent : ℕ) → sent < length (block payload)
     → take (length (blocks done) + sent) (blocks (done ++ payload ∷ more)) ≡ blocks done ++ take sent (block payload)
 beginning done more payload sent within =
@@ -39,7 +39,7 @@ snapshot_blocks m next =
     blocks-append (map spelling (snap m)) (spelling (is.End next) ∷ []) ∙ ap (λ t. canon m ++ t) (append-nil (closing next))
 
 module _ {W : Type 0} (contents : W → Option (List ℕ)) (failures : W → Failures) where
-  -- a snapshot that was not written whole
+  -- a snapshot that was not written completely
   pub snapshot_cut : (m : Content) (next sent : ℕ) (error : Error) (old new : W) → WriteBlocks contents failures old (payloads m next) (Err (Write sent error)) new
       → (n : ℕ) × (n < length (canon m ++ closing next)) × Appends (contents old) (contents new) (take n (canon m ++ closing next))
       × (failures new ≡ failed error (failures old))

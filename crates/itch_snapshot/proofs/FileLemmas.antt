@@ -50,14 +50,14 @@ end_of_number (is.BrokenTrade m) next h = cc
 end_of_number (is.End n) next h = cc
 end_of_number (is.Other bytes) next h = cc
 
--- is refused everywhere
+-- is refused in every market
 pub unrefused_number : (m : Content) (x : Message) → reason m x ≡ None → number_in x ≡ None
 unrefused_number m x none = by_number (number_in x) refl where
   by_number : (n : Option ℕ) → number_in x ≡ n → number_in x ≡ None
   by_number None is_none = is_none
   by_number (Some next) is_next = let refused : Some UnexpectedEnd ≡ None = sym (ap (reason m) (end_of_number x next is_next)) ∙ none in cc
 
--- a payload has the closing number of the message that it spells
+-- a payload has the closing number of its message
 number-Spells : (x : Message) (p : List ℕ) → Spells x p → closing_number p ≡ number_in x
 number-Spells x p spells = ap (λ f. number_by f p) (fault-Spells x p spells) ∙ ap number_in (sym (message_of-Spells x p spells))
 
@@ -67,7 +67,7 @@ Spells-number p next closes = by_fault (fault p) refl closes where
   by_fault (Some f) is number = absurd (let no_one : ⊥ = cc in no_one)
   by_fault None is number = subst (λ x. Spells x p) (end_of_number (message_of p) next number) (Spells-message_of p is)
 
--- a payload that has no fault is not empty
+-- a payload without a fault is not empty
 some_bytes : (p : List ℕ) → fault p ≡ None → 0 < length p
 some_bytes [] clean = absurd (let no_one : ⊥ = cc in no_one)
 some_bytes (x ∷ p) clean = omega arith
@@ -75,7 +75,7 @@ some_bytes (x ∷ p) clean = omega arith
 end_full : (next : ℕ) (p : List ℕ) → Spells (is.End next) p → IsFull p
 end_full next p spells = let size : length p ≡ 21 = spells.size in (omega arith, omega arith)
 
--- spelled messages are those of their payloads
+-- the messages are those of their payloads
 pub spelled_is : (ms : List Message) (ps : List (List ℕ)) → AreSpelled ms ps → ms ≡ map message_of ps
 spelled_is [] [] spelled = refl
 spelled_is [] (p ∷ ps) spelled = absurd spelled
@@ -98,7 +98,7 @@ spelled_none m (x ∷ xs) (p ∷ ps) spelled follows zero within =
 spelled_none m (x ∷ xs) (p ∷ ps) spelled follows (suc k) within =
     spelled_none (effect m (message_of p)) xs ps spelled.1 (subst (λ y. FollowsFrom (effect m y) xs) (message_of-Spells x p spelled.0) follows.1) k (omega arith)
 
--- and none of them is an End of Snapshot
+-- and no payload is an End of Snapshot
 no_end_spelled : (m : Content) (ms : List Message) (ps : List (List ℕ)) → AreSpelled ms ps → FollowsFrom m ms → AllByRecursion (λ p. closing_number p ≡ None) ps
 no_end_spelled m [] [] spelled follows = tt
 no_end_spelled m [] (p ∷ ps) spelled follows = absurd spelled
@@ -106,7 +106,7 @@ no_end_spelled m (x ∷ xs) [] spelled follows = absurd spelled
 no_end_spelled m (x ∷ xs) (p ∷ ps) spelled follows =
     (number-Spells x p spelled.0 ∙ unrefused_number m x follows.0, no_end_spelled (effect m x) xs ps spelled.1 follows.1)
 
--- the first End of Snapshot is one
+-- the first End of Snapshot is unique
 record SameEnd (ps qs : List (List ℕ)) (p q r s : List ℕ) : Type 0 where
   before : ps ≡ qs
   there : p ≡ q
@@ -133,7 +133,7 @@ one_end (x ∷ ps) (y ∷ qs) p q r s n k same fit fine small short none no_one 
     let rest = one_end ps qs p q r s n k first.1 fit.1 fine.1 small short none.1 no_one.1 closes ends in
     record { before = λ i. first.0 i ∷ rest.before i; there = rest.there; following = rest.following }
 
--- a file closes in one way
+-- a file closes in only one way
 pub record SameFile (r s : List ℕ) (ms ns : List Message) (n k : ℕ) : Type 0 where
   pub messages : ms ≡ ns
   pub number : n ≡ k
@@ -153,7 +153,7 @@ closes_once bytes r s ms ns n k one other =
       rest = same.following;
     }
 
--- the payload after k blocks is the one at that place of the day
+-- the payload after k blocks is the one at that position of the day
 slice_there : (ps : List (List ℕ)) (p : List ℕ) (more : List (List ℕ)) → slice_get ((ps ++ p ∷ []) ++ more) (length ps) ≡ Some p
 slice_there [] p more = refl
 slice_there (q ∷ ps) p more = slice_there ps p more
@@ -196,12 +196,12 @@ module _ (bytes rest : List ℕ) (ms : List Message) (next : ℕ) (file : Closes
     | inr late ↦ inr (full_stops empty bytes rest file.payloads file.last file.whole full_before (end_full next file.last file.closes) (let few = few_payloads in omega arith) none_before)
   ]
 
-  -- nowhere else
+  -- and nowhere else
   same_place : (k : ℕ) (why : Stop) → Stops empty bytes k why → StopsThere bytes (length file.payloads) → length file.payloads ≡ k
   same_place k why stops (inl here) = stops_place empty bytes (length file.payloads) k (stop.Rule UnexpectedEnd) why here stops
   same_place k why stops (inr here) = stops_place empty bytes (length file.payloads) k stop.TooManyMessages why here stops
 
-  -- where it stops at a message, this is no End of Snapshot
+  -- if it stops at a message, this is not End of Snapshot
   pub not_refused : (place : ℕ) (why : Stop) → StopsAt bytes place why → ⊥
   not_refused place why at =
       let here : slice_get at.stops.payloads (length file.payloads) ≡ Some file.last =
@@ -223,7 +223,7 @@ module _ (bytes rest : List ℕ) (ms : List Message) (next : ℕ) (file : Closes
     | inr here ↦ let clash = stops_reason empty bytes (length file.payloads) k stop.TooManyMessages (stop.Frame (Truncated held)) here stops in let no_one : ⊥ = cc in no_one
   ]
 
-  -- what follows the End of Snapshot is the rest
+  -- the bytes after the End of Snapshot are the rest
   not_following : (P : List ℕ → Type 0) → (P rest → ⊥) → IsClosedBefore bytes P → ⊥
   not_following P never (ns, k, s, other, following) = never (subst P (sym (closes_once bytes rest s ms ns next k file other).rest) following)
 

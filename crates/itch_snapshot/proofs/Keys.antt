@@ -17,7 +17,7 @@ module _ {X : Type 0} where
   pub each_listed : (m : FinMap nat_cmp X) → AllByRecursion (λ q. IsSome (finite.get m q)) (finite.keys m)
   each_listed m = each_key m (finite.entries m) (each_entry m)
 
-  -- numbers that rise below a bound are no more than that
+  -- ascending numbers below a bound are no more than the bound
   pub rise_short : (es : List (ℕ × X)) (first bound : ℕ) → Rise es → AllByRecursion (λ e. (first ≤ e.0) × (e.0 < bound)) es → first ≤ bound → length es + first ≤ bound
   rise_short [] first bound rising within room = omega arith
   rise_short (e ∷ es) first bound rising within room =

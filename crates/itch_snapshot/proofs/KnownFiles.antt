@@ -1,4 +1,4 @@
--- What the reading of a snapshot says of a file whose bytes are known.
+-- The result of reading a snapshot file whose bytes are known.
 use Rattle.std.proofs.Common.{◌≡◌, ℕ, ◌+◌, ◌-◌, ◌≤◌, ◌^◌, List, [], ◌∷◌, ◌++◌, map, length, slice_get, Option, None, Some, IfSome, IfOk, IfErr, MatchResult, Result, Ok, Err, refl, sym, ap, subst, ◌∙◌, inl, inr, arith}
 use Rattle.std.specs.List.{AllByRecursion}
 use Rattle.std.proofs.lemmas.List.{length-map}
@@ -26,12 +26,12 @@ use Rattle.itch_snapshot.specs.Reads.{ReadsPayload, ReadsNext, ReadsEnd, ReadsSn
 use Rattle.itch_snapshot.specs.Files.{AreSpelled, ClosesBefore, IsSnapshotFile, StopsAt, IsFaultOf, IsMarketOf}
 use Rattle.itch_snapshot.proofs.FileLemmas.{Spells-number, at_place, closes_once, file_no_fault}
 
--- payloads without a fault spell messages
+-- payloads without a fault are valid messages
 pub clean_spelled : (ps : List (List ℕ)) → AllByRecursion (λ p. fault p ≡ None) ps → AreSpelled (map message_of ps) ps
 clean_spelled [] clean = tt
 clean_spelled (p ∷ ps) clean = (Spells-message_of p clean.0, clean_spelled ps clean.1)
 
--- what was read up to the End of Snapshot is so in the file
+-- the part that was read up to the End of Snapshot is part of the file
 pub closes_here : (b c d : List ℕ) (ps : List (List ℕ)) (n : Content) (next : ℕ) → Takes empty (Some b) (Some c) ps n → length ps ≤ 10 ^ 19 - 1
     → ReadsPayload (Some c) (Some d) (λ p. closing_number p ≡ Some next) → ClosesBefore d b (map message_of ps) next
 closes_here b c d ps n next takes few (last, off, closes) = record {
@@ -45,7 +45,7 @@ closes_here b c d ps n next takes few (last, off, closes) = record {
   closes = Spells-number last next closes;
 }
 
--- an end that was met is one in the file
+-- an end that was reached is an end of the file
 pub ends_here : (d : List ℕ) (new : Option (List ℕ)) → EndsHere (Some d) new → Ends d
 ends_here d new (inl none) = inl none
 ends_here d None (inr empty_block) = absurd empty_block
@@ -58,7 +58,7 @@ market_known b new done (Some d, (ps, None, takes, few, closes), ends) = absurd 
 market_known b new done (Some d, (ps, Some c, takes, few, closes), ends) =
     (map message_of ps, (d, closes_here b c d ps done.0 done.1 takes few closes, ends_here d new ends), All-map_rec IsMessage message_of ps takes.fits, takes.left)
 
--- a payload that was not taken stands at its place, and is no End of Snapshot
+-- a payload that was not taken is at its position, and is not End of Snapshot
 module _ (b c : List ℕ) (ps : List (List ℕ)) (n : Content) (takes : Takes empty (Some b) (Some c) ps n) (few : length ps ≤ 10 ^ 19 - 1) where
   open_there : (new : Option (List ℕ)) (p : List ℕ) (why : Stop) → TakesOff (Some c) new p → closing_number p ≡ None → (stops : Stops empty b (length ps) why)
       → IfSome (slice_get stops.payloads (length ps)) (λ payload. closing_number payload ≡ None)
@@ -90,7 +90,7 @@ module _ (b c : List ℕ) (ps : List (List ℕ)) (n : Content) (takes : Takes em
       (replays_stop empty n (Some b) new (length ps) stop.TooManyMessages (ps, Some c, takes, refl, few, (payload, off, full)) tt)
   fault_here new AfterEnd h decided = absurd h
 
--- what follows the End of Snapshot is so in the file
+-- the bytes after the End of Snapshot are those of the file
 fault_after : (b d : List ℕ) (ms : List Message) (next : ℕ) (new : Option (List ℕ)) (fault : SnapFault) → ClosesBefore d b ms next → ReadsEnd (Some d) new (Err fault)
     → IsDecidedFault fault → IsFaultOf b fault
 fault_after b d ms next None AfterEnd file (payload, off, any) decided = absurd off.1
@@ -112,7 +112,7 @@ fault_decided b new fault (inr (None, next, n, (ps, Some c, takes, few, (last, o
 fault_decided b new fault (inr (Some d, next, n, (ps, Some c, takes, few, closes), following)) decided =
     fault_after b d (map message_of ps) next new fault (closes_here b c d ps n next takes few closes) following decided
 
--- the clauses of a reading, over known bytes
+-- the clauses of a reading, for known bytes
 pub reads_market : (old new : Option (List ℕ)) (result : Result (Content × ℕ) SnapFault) → ReadsSnapshot old new result
     → IfOk result (λ done. IfSome old (λ b. IsMarketOf b done))
 reads_market None new (Ok done) reads = tt
@@ -125,7 +125,7 @@ reads_fault None new (Err f) reads = tt
 reads_fault (Some b) new (Err f) reads = fault_decided b new f reads
 reads_fault old new (Ok done) reads = tt
 
--- a file is read as what it is, unless a read failed or memory was refused
+-- the result is determined by the file, unless a read failed or memory ran out
 file_read : (b : List ℕ) (new : Option (List ℕ)) (result : Result (Content × ℕ) SnapFault) → ReadsSnapshot (Some b) new result → (ms : List Message) (next : ℕ) → IsSnapshotFile b ms next
     → MatchResult result (λ done. done ≡ (laid (run ms), next)) (λ f. IsDecidedFault f → ⊥)
 file_read b new (Ok done) reads ms next (rest, file, ends) = found (market_known b new done reads) where

@@ -1,4 +1,4 @@
--- A snapshot may stand in place of the messages before it.
+-- A snapshot can replace the messages before it.
 use Rattle.std.proofs.Common.{List, ◌++◌, sym, subst}
 use Rattle.itch_codec.specs.declared.message.Message.{Message}
 use Rattle.itch_book.proofs.Lists.{All-left_rec, All-right_rec}
@@ -13,7 +13,7 @@ use Rattle.itch_market.proofs.SameMarkets.{same_back, follows_same, after_same}
 use Rattle.itch_snapshot.specs.Snapshot.{snap}
 use Rattle.itch_snapshot.proofs.OneSnapshot.{run-snap, replayed_same}
 
--- a market and the run of its snapshot list
+-- a market, and the market after its snapshot list
 record IsReplaced (m n : Content) : Type 0 where
   before : IsGood m
   following : IsGood n

@@ -1,4 +1,4 @@
--- The lemmas that the laws are, in the laws' own words.
+-- The lemmas of the laws, in the form of the laws.
 use Rattle.itch_market.proofs.SameMarkets.{laid_same, same_laid}
 use Rattle.itch_snapshot.proofs.OneSnapshot.{snap_follows, run-snap, replayed_same, snap_same, snap-laid, same_snap}
 use Rattle.itch_snapshot.proofs.LateStart.{late_follows, late_same}

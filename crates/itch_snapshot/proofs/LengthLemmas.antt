@@ -64,7 +64,7 @@ length-locates orders (e ∷ es) =
       sum_by-cons (λ (f : ℕ × Listing). security_len f.1) e es,
     )
 
--- how many messages say something of the security at a locate, besides its orders
+-- the number of messages of the security at a locate, without its orders
 abbrev pub found_len : Option Listing → ℕ
 found_len None = 0
 found_len (Some s) = security_len s
@@ -90,7 +90,7 @@ key_within m good (e ∷ es) here =
     let fits = subst (IsMaybe (λ s. (e.0 < 65536) × IsSecurity s)) here.0 (good.securities e.0) in
     ((omega arith, fits.0), key_within m good es here.1)
 
--- a directory has no more locates than there are
+-- a directory has at most as many locates as exist
 pub few_locates : (m : Content) → IsGood m → length (finite.keys m.securities) ≤ 65536
 few_locates m good =
     let es = finite.entries m.securities in
@@ -100,7 +100,7 @@ count_small : {A : Type 0} (o : Option A) → count_of o ≤ 1
 count_small None = omega arith
 count_small (Some x) = omega arith
 
--- the locates that were seen are counted
+-- the locates seen so far are counted
 pub record CountsSoFar (m : Content) (seen left : List ℕ) (len : ℕ) : Type 0 where
   pub locates : finite.keys m.securities ≡ seen ++ left
   pub counted : len ≡ count_of m.event + length m.orders + sum_by (len_at m) seen
@@ -124,12 +124,12 @@ none_counted m seen left len locate so_far there =
     let same : len + 0 ≡ len = omega arith in
     subst (CountsSoFar m (seen ++ locate ∷ []) left) same (one_counted m seen left len locate None so_far there (omega arith))
 
--- so that the count stays small
+-- so the count remains small
 pub counts_small : (m : Content) (seen left : List ℕ) (len : ℕ) → CountsSoFar m seen left len → len < 2 ^ 82
 counts_small m seen left len so_far =
     omega (arith, so_far.counted, so_far.few_orders, count_small m.event, so_far.small, few_locates m so_far.good, ap length so_far.locates, length-append seen left)
 
--- and is the snapshot's length when all were seen
+-- and it is the length of the snapshot after all locates
 pub counts_all : (m : Content) (seen left : List ℕ) (len : ℕ) → CountsSoFar m seen left len → left ≡ [] → len ≡ length (snap m)
 counts_all m seen left len so_far none =
     so_far.counted

@@ -1,4 +1,4 @@
--- The locates of a directory rise, and the orders of one after the other are the orders in snapshot order.
+-- The locates of a directory ascend, and their orders, one locate after another, are the orders in snapshot order.
 use Rattle.std.proofs.Common.{◌≡◌, ℕ, ◌<◌, ◌==◌, Bool, true, false, cond, T, ◌||◌, List, [], ◌∷◌, ◌++◌, filter, flat_map, Option, Some, None, IsSome, is_some, refl, sym, ap, ap₂, ◌∙◌, subst, arith}
 use Rattle.std.specs.List.{AllByRecursion}
 use Rattle.std.specs.Ordering.{nat_cmp, is_lt, eq_by_cmp}
@@ -15,7 +15,7 @@ use Rattle.itch_book.proofs.OrderLemmas.{both_queues, stands_order, lower_stands
 use Rattle.itch_market.proofs.Maps.{get-insert, get_elsewhere, same_map}
 use Rattle.itch_market.proofs.Trees.{both}
 
--- each number stands below those after it
+-- each number is below those after it
 abbrev pub Rise : {X : Type 0} → List (ℕ × X) → Type 0
 Rise [] = Unit {0}
 Rise (e ∷ es) = AllByRecursion (λ f. e.0 < f.0) es × Rise es
@@ -24,7 +24,7 @@ T_true : (a : Bool) → T a → a ≡ true
 T_true true h = refl
 T_true false h = absurd h
 
--- a key is found where the numbers are equal
+-- a key is found if the numbers are equal
 key_test : (q k : ℕ) → eq_by_cmp nat_cmp q k ≡ (q == k)
 key_test q k = grind (arith, nat_tests)
 
@@ -44,7 +44,7 @@ module _ {X : Type 0} where
       let parts = both (below_all nat_cmp e.0 es) (is_sorted nat_cmp es) h in
       (below_rise e.0 es parts.0, sorted_rise es parts.1)
 
-  -- the entries of a map rise
+  -- the entries of a map ascend
   pub rise : (m : FinMap nat_cmp X) → Rise (finite.entries m)
   rise m = sorted_rise (finite.entries m) (finite.entries_sorted m)
 
@@ -52,7 +52,7 @@ module _ {X : Type 0} where
   abbrev pub has_key : List (ℕ × X) → ℕ → Bool
   has_key es q = is_some (find nat_cmp q es)
 
-  -- a number below all keys is none of them
+  -- a number below all keys is not among them
   pub below_absent : (k : ℕ) (es : List (ℕ × X)) → AllByRecursion (λ f. k < f.0) es → find nat_cmp k es ≡ None
   below_absent k [] h = refl
   below_absent k (e ∷ es) h =
@@ -72,7 +72,7 @@ module _ {X : Type 0} where
   key_first : (q : ℕ) (e : ℕ × X) (es : List (ℕ × X)) → has_key (e ∷ es) q ≡ ((q == e.0) || has_key es q)
   key_first q e es = ap (λ b. is_some (cond b (Some e.1) (find nat_cmp q es))) (key_test q e.0) ∙ some_either (q == e.0) e.1 (find nat_cmp q es)
 
-  -- the orders of these locates, one locate after the other
+  -- the orders of these locates, one locate after another
   abbrev pub joined : List Order → List (ℕ × X) → List Order
   joined orders es = flat_map (λ e. sides orders e.0) es
 
@@ -88,7 +88,7 @@ module _ {X : Type 0} where
       (λ x y here there. lower_stands x y (subst (λ l. l < y.locate) (sym (in_is e.0 x here)) (key_above e.0 y.locate es rising.0 there)))
       (λ x. key_first x.locate e es) orders)
 
-  -- where each order's locate is in the map, the orders of its locates are all the orders, in snapshot order
+  -- if each order's locate is in the map, the orders of its locates are all orders, in snapshot order
   pub joined_all : (orders : List Order) (m : FinMap nat_cmp X) → AllByRecursion (λ (x : Order). IsSome (finite.get m x.locate)) orders
       → joined orders (finite.entries m) ≡ in_order stands_before orders
   joined_all orders m listed =
@@ -97,12 +97,12 @@ module _ {X : Type 0} where
       (All-weaker_rec (λ x. IsSome (finite.get m x.locate)) (λ x. has_key (finite.entries m) x.locate ≡ true)
       (λ x there. sym (ap is_some (finite.get-entries m x.locate)) ∙ there) orders listed))
 
-  -- one entry after the other put into a map
+  -- a map after the insertion of these entries, one after another
   abbrev pub insert_all : FinMap nat_cmp X → List (ℕ × X) → FinMap nat_cmp X
   insert_all m [] = m
   insert_all m (e ∷ es) = insert_all (finite.insert m e.0 e.1) es
 
-  -- the first value, or the second where it is none
+  -- the first value, or the second if there is no first
   abbrev pub either : Option X → Option X → Option X
   either None o = o
   either (Some x) o = Some x
@@ -126,7 +126,7 @@ module _ {X : Type 0} where
       ap (either (find nat_cmp q es)) (get_elsewhere m e.0 e.1 q (λ same. grind (arith, nat_tests)))
       ∙ sym (ap (λ b. either (cond b (Some e.1) (find nat_cmp q es)) (finite.get m q)) off))
 
-  -- a map is what its entries make, put into the empty map
+  -- a map is the result of inserting its entries into the empty map
   pub insert_all-entries : (m : FinMap nat_cmp X) → insert_all finite.empty (finite.entries m) ≡ m
   insert_all-entries m = same_map (insert_all finite.empty (finite.entries m)) m (λ q.
       get-insert_all finite.empty (finite.entries m) q (rise m)
@@ -142,7 +142,7 @@ module _ {X : Type 0} where
   new_in_empty [] = tt
   new_in_empty (e ∷ es) = (finite.get-empty nat_cmp e.0, new_in_empty es)
 
-  -- keys above that of an entry stay new where it is put in
+  -- keys above that of an entry are still new after its insertion
   pub new_above : (m : FinMap nat_cmp X) (k : ℕ) (v : X) (es : List (ℕ × X)) → AllByRecursion (λ f. k < f.0) es → AreNew m es → AreNew (finite.insert m k v) es
   new_above m k v [] above new = tt
   new_above m k v (e ∷ es) above new =

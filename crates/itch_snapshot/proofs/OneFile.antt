@@ -25,7 +25,7 @@ file_messages bytes ms ns j k (r, one, ends) (s, other, other_ends) = (closes_on
 pub file_number : (bytes : List ℕ) → (ms ns : List Message) → (j k : ℕ) → IsSnapshotFile bytes ms j → IsSnapshotFile bytes ns k → j ≡ k
 file_number bytes ms ns j k (r, one, ends) (s, other, other_ends) = (closes_once bytes r s ms ns j k one other).number
 
--- the fields of messages that bytes spell fit
+-- the fields of messages in bytes fit
 spelled_fit : (ms : List Message) (ps : List (List ℕ)) → AreSpelled ms ps → AllByRecursion AreBytes ps → AllByRecursion IsMessage ms
 spelled_fit [] [] spelled wide = tt
 spelled_fit [] (p ∷ ps) spelled wide = absurd spelled
@@ -59,7 +59,7 @@ record IsBefore (bytes : List ℕ) (fault : SnapFault) : Type 0 where
   is : fault ≡ fault_at count why
   never_closed : (rest : List ℕ) (ms : List Message) (next : ℕ) → ClosesBefore rest bytes ms next → ⊥
 
--- what follows the End of Snapshot where it is no end
+-- the bytes after the End of Snapshot, if they are not an end
 abbrev IsRestFault : List ℕ → SnapFault → Type 0
 IsRestFault rest fault =
     (Open rest × (fault ≡ Frame (Truncated (length rest))))
@@ -73,7 +73,7 @@ record IsAfter (bytes : List ℕ) (fault : SnapFault) : Type 0 where
   closes : ClosesBefore rest bytes messages next
   following : IsRestFault rest fault
 
--- a fault is one or the other
+-- a fault is one of the two
 refused_before : (bytes : List ℕ) (place : ℕ) (why : Stop) (fault : SnapFault) → ((before : ℕ) → place ≡ before + 1 → fault ≡ fault_at before why)
     → StopsAt bytes place why → IsBefore bytes fault
 refused_before bytes place why fault is at = record {
@@ -100,7 +100,7 @@ fault_is bytes AfterEnd (ms, next, rest, closes, (payload, more, full, same)) =
     inr (record { messages = ms; next = next; rest = rest; closes = closes; following = inr (payload, more, full, same, refl) })
 fault_is bytes TooManyMessages at = inl (refused_before bytes (10 ^ 19) stop.TooManyMessages TooManyMessages (λ before here. refl) at)
 
--- what follows the End of Snapshot is of one kind
+-- the bytes after the End of Snapshot have one kind
 rest_once : (rest : List ℕ) (f g : SnapFault) → IsRestFault rest f → IsRestFault rest g → f ≡ g
 rest_once rest f g (inl (part, is)) (inl (other, is_too)) = is ∙ sym is_too
 rest_once rest f g (inl (part, is)) (inr (payload, more, full, same, is_too)) = absurd (part.1 payload more full.1 same)

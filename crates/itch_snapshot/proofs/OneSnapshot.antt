@@ -1,4 +1,4 @@
--- A snapshot replays to its market, and two markets are the same exactly if they have one snapshot list.
+-- Replaying a snapshot gives its market, and two markets are the same if and only if they have the same snapshot list.
 use Rattle.std.proofs.Common.{◌≡◌, ℕ, List, [], ◌∷◌, ◌++◌, flat_map, refl, sym, ap, ap₂, ◌∙◌, subst}
 use Rattle.std.specs.FinMap as finite
 use Rattle.itch_codec.specs.declared.orders.Side.{Side}
@@ -22,7 +22,7 @@ run-snap m good = (snap_leads m good).leaves
 pub replayed_same : (m : Content) → IsGood m → Same (run (snap m)) m
 replayed_same m good = subst (λ n. Same n m) (sym (run-snap m good)) (laid_is_same m good)
 
--- orders with equal queues have one part for each locate
+-- orders with equal queues have the same part for each locate
 parts_same : (xs ys : List Order) → ((locate : ℕ) (side : Side) → book.queue xs locate side ≡ book.queue ys locate side) → (es : List (ℕ × Listing))
     → flat_map (locate_part xs) es ≡ flat_map (locate_part ys) es
 parts_same xs ys same [] = refl
@@ -33,7 +33,7 @@ snap_same m n same =
     ap₂ ◌++◌ (ap event_part same.event)
     (ap (λ securities. flat_map (locate_part m.orders) (finite.entries securities)) same.securities ∙ parts_same m.orders n.orders same.queues (finite.entries n.securities))
 
--- a market has one snapshot list in whichever order its orders stand
+-- a market has the same snapshot list for any order of its orders
 pub snap-laid : (m : Content) → IsGood m → snap (laid m) ≡ snap m
 snap-laid m good = snap_same (laid m) m (laid_is_same m good)
 

@@ -1,4 +1,4 @@
--- The snapshot list of a market cut down to some locates.
+-- The snapshot list of a market restricted to some locates.
 use Rattle.std.proofs.Common.{◌≡◌, ℕ, Bool, true, false, cond, not, List, [], ◌∷◌, ◌++◌, map, filter, flat_map, Option, Some, None, refl, sym, ap, ap₂, ◌∙◌, subst}
 use Rattle.std.specs.List.{AllByRecursion}
 use Rattle.std.specs.Map.{keys_of}
@@ -50,7 +50,7 @@ module _ (wanted : ℕ → Bool) where
       ∙ parts_kept os es
       ∙ sym (ap (λ b. flat_map (locate_part os) (cond b (e ∷ filter at_entry es) (filter at_entry es))) out))
 
-  -- the snapshot list of the smaller market, by the larger one's entries
+  -- the snapshot list of the restricted market, from the entries of the complete one
   snap_cut : (m : Content) → snap (only wanted m) ≡ event_part m.event ++ flat_map (locate_part m.orders) (filter at_entry (finite.entries m.securities))
   snap_cut m =
       ap (λ es. event_part m.event ++ flat_map (locate_part (filter (λ x. wanted x.locate) m.orders)) es) (same_entries_of nat_cmp_total nat_cmp-IsAntisymmetric wanted m.securities)
@@ -67,7 +67,7 @@ module _ (wanted : ℕ → Bool) where
       ap (λ b. cond b (e.0 ∷ filter wanted (keys_of es)) (filter wanted (keys_of es))) out ∙ keys_kept es
       ∙ sym (ap (λ b. keys_of (cond b (e ∷ filter at_entry es) (filter at_entry es))) out))
 
-  -- at first all of it is left of a walk over the wanted locates
+  -- at first the complete list remains in a walk over the wanted locates
   pub left_only : (m : Content) → left m m.event None None (filter wanted (finite.keys m.securities)) ≡ snap (only wanted m)
   left_only m =
       let es = finite.entries m.securities in
@@ -75,7 +75,7 @@ module _ (wanted : ℕ → Bool) where
       ∙ ap (λ ms. event_part m.event ++ ms) (parts_of m (filter at_entry es) (All-filter_rec (λ e. finite.get m.securities e.0 ≡ Some e.1) at_entry es (each_entry m.securities)))
       ∙ sym (snap_cut m)
 
-  -- ---- the messages of the larger market's list that are not skipped
+  -- ---- the messages of the complete market's list that are not skipped
 
   abbrev IsAt : ℕ → Message → Type 0
   IsAt l x = locate_of x ≡ Some l
@@ -148,14 +148,14 @@ module _ (wanted : ℕ → Bool) where
   event_stays None = refl
   event_stays (Some code) = refl
 
-  -- the snapshot list of the smaller market is the larger one's without the messages that are skipped
+  -- the snapshot list of the restricted market is the list of the complete one without the messages that are skipped
   pub snap_only : (m : Content) → snap (only wanted m) ≡ kept wanted (snap m)
   snap_only m =
       snap_cut m
       ∙ sym (filter-append stays (event_part m.event) (flat_map (locate_part m.orders) (finite.entries m.securities))
       ∙ ap₂ ◌++◌ (event_stays m.event) (locates_stay m.orders (finite.entries m.securities)))
 
--- at first all of the snapshot list is left, of the market of the locates that are wanted
+-- at first the complete snapshot list of the market of the wanted locates remains
 pub left_in : (set : Option (Bor Wanted)) (m : Content) → left m m.event None None (filter (in_set set) (finite.keys m.securities)) ≡ snap (cut_to set m)
 left_in None m = ap (left m m.event None None) (all_in (finite.keys m.securities)) ∙ left_snap m
 left_in (Some set) m = left_only (has set.now) m

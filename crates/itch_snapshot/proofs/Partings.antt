@@ -1,4 +1,4 @@
--- Lists compared element by element.
+-- Comparing lists element by element.
 use Rattle.std.proofs.Common.{◌≡◌, ◌≢◌, ◌↔◌, IfSome, IfNone, IsNone, ℕ, ◌+◌, ◌-◌, ◌<◌, zero, suc, List, [], ◌∷◌, ◌++◌, length, Option, Some, None, slice_get, refl, sym, ap, ◌∙◌, arith, append_assoc, length-append}
 use Rattle.itch_codec.specs.declared.message.Message.{Message}
 use Rattle.itch_market.specs.Content.{Content}
@@ -8,14 +8,14 @@ use Rattle.itch_snapshot.specs.Snapshot.{snap}
 use Rattle.itch_snapshot.specs.Parting.{IsParting}
 use Rattle.itch_snapshot.proofs.OneSnapshot.{snap_same, same_snap}
 
--- both lists begin with these elements, after which this much of each is left, and the place is the next one
+-- both lists begin with these elements, the rests are these, and the position is the next one
 pub record AgreeSoFar {A : Type 0} (xs ys seen left right : List A) (place : ℕ) : Type 0 where
   pub one : xs ≡ seen ++ left
   pub other : ys ≡ seen ++ right
   pub next : place ≡ length seen + 1
 
 module _ {A : Type 0} where
-  -- and they agree in one element more
+  -- and they agree in one more element
   pub one_more : (xs ys seen left left' right right' : List A) (place : ℕ) (x y : A) → AgreeSoFar xs ys seen left right place → left ≡ x ∷ left' → right ≡ y ∷ right' → x ≡ y
       → AgreeSoFar xs ys (seen ++ x ∷ []) left' right' (place + 1)
   one_more xs ys seen left left' right right' place x y agree one other same = record {
@@ -34,7 +34,7 @@ module _ {A : Type 0} where
   parting_after [] xs ys differ = record { before = λ i early. absurd (omega arith); there = differ }
   parting_after (x ∷ seen) xs ys differ = one_further x (seen ++ xs) (seen ++ ys) (length seen) (parting_after seen xs ys differ)
 
-  -- after what agrees the lists part
+  -- the lists differ after the elements that agree
   they_part : (xs ys seen left right : List A) (place : ℕ) → AgreeSoFar xs ys seen left right place → slice_get left 0 ≢ slice_get right 0
       → (0 < place) × IsParting xs ys (place - 1)
   they_part xs ys seen left right place agree differ =
@@ -57,7 +57,7 @@ module _ {A : Type 0} where
   other_element xs ys seen left left' right right' place x y agree one other differ =
       they_part xs ys seen left right place agree (λ same. let alike : Some x ≡ Some y = rw (one, other) at same in let same_one : x ≡ y = cc in differ same_one)
 
--- the snapshot lists of two markets part nowhere exactly if the markets are the same
+-- the snapshot lists of two markets do not differ if and only if the markets are the same
 pub parts_nowhere : (m n : Content) (xs ys : List Message) → IsGood m → IsGood n → xs ≡ snap m → ys ≡ snap n
     → (place : Option ℕ) → IfSome place (λ k. (0 < k) × IsParting xs ys (k - 1)) → IfNone place (xs ≡ ys) → IsNone place ↔ Same m n
 parts_nowhere m n xs ys good fine one other None parting equal = (λ none. same_snap m n good fine (sym one ∙ equal ∙ other), λ same. refl)

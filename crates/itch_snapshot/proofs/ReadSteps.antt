@@ -1,4 +1,4 @@
--- What the reading of a snapshot file does, by what is done with each of its messages.
+-- The effect of reading a snapshot file, from the effect of each of its messages.
 use mathlib.Core.List.{map-id}
 use denote.Ref.{Bor}
 use Rattle.std.proofs.Common.{◌≡◌, ℕ, ◌+◌, ◌-◌, ◌≤◌, ◌^◌, ◌<◌, Bool, true, false, List, [], ◌∷◌, map, length, Option, None, Some, Result, Ok, Err, MatchResult, refl, sym, ap, subst, ◌∙◌, inl, inr, arith}
@@ -43,7 +43,7 @@ use Rattle.itch_snapshot.specs.TakenMessages.{AppliesUnless, TakesFor, TakesNext
 use Rattle.itch_snapshot.proofs.AsRead.{idle_taken, read_number, read_skipped, read_stays}
 use Rattle.itch_snapshot.proofs.SkippedMessages.{faulty_stays}
 
--- what is done with a message where only some locates are wanted is done with it as it is read
+-- if only some locates are wanted, the effect of a message is that of the message as it is read
 read_one : (wanted : ℕ → Bool) (m n : Content) (p : List ℕ) → laid m ≡ m → AppliesUnless (is_skipped wanted p) m p n → TakesOne m (as_read wanted p) (Ok tt) n
 read_one wanted m n p placed applies =
     by_test (is_skipped wanted p)
@@ -73,7 +73,7 @@ closes_so : (set : Option (Bor Wanted)) (taken : ℕ) (m n : Content) (p : List 
 closes_so None taken m n p next closes = closes
 closes_so (Some set) taken m n p next closes = closes
 
--- a laid market has no other fault
+-- a laid market has the same fault
 fault-laid : (read : List ℕ → List ℕ) (taken : ℕ) (m n : Content) (old new : Option (List ℕ)) (fault : SnapFault) → IsGood m → ReadsNextAs read taken (laid m) old new (Err fault) n
     → ReadsNextAs read taken m old new (Err fault) m
 fault-laid read taken m n old new NoEnd good (same, ends) = (refl, ends)
@@ -84,7 +84,7 @@ fault-laid read taken m n old new (Rule place why) good (p, off, (room, here, no
 fault-laid read taken m n old new TooManyMessages good (p, off, (full, no_end, same)) = (p, off, (full, no_end, refl))
 fault-laid read taken m n old new AfterEnd good (p, off, never) = absurd never
 
--- and leaves the market as it was
+-- and the fault does not change the market
 fault_leaves : (read : List ℕ → List ℕ) (taken : ℕ) (m n : Content) (old new : Option (List ℕ)) (fault : SnapFault) → ReadsNextAs read taken m old new (Err fault) n → n ≡ m
 fault_leaves read taken m n old new NoEnd (same, ends) = same
 fault_leaves read taken m n old new (Frame f) (same, fails) = same
@@ -93,7 +93,7 @@ fault_leaves read taken m n old new (Rule place why) (p, off, (room, here, no_en
 fault_leaves read taken m n old new TooManyMessages (p, off, (full, no_end, same)) = same
 fault_leaves read taken m n old new AfterEnd (p, off, never) = absurd never
 
--- a message at which the messages end because of a fault
+-- a message that ends the messages by a fault
 refused_next : (read : List ℕ → List ℕ) (taken : ℕ) (n k : Content) (mid new : Option (List ℕ)) (payload : List ℕ) (fault : SnapFault) → TakesOff mid new payload
     → TakesNext taken n (read payload) (Err fault) k → ReadsNextAs read taken n mid new (Err fault) k
 refused_next read taken n k mid new payload NoEnd off never = absurd never
@@ -103,7 +103,7 @@ refused_next read taken n k mid new payload (Rule place why) off took = (payload
 refused_next read taken n k mid new payload AfterEnd off never = absurd never
 refused_next read taken n k mid new payload TooManyMessages off took = (payload, off, took)
 
--- after as many messages as there may be, none is taken
+-- after the maximum number of messages, none is taken
 pub none_more : (set : Option (Bor Wanted)) (m n : Content) (p : List ℕ) (next : Option ℕ) → next ≡ None → TakesFor set (10 ^ 19 - 1) m p (Ok next) n → ⊥
 none_more None m n p None none (room, took) = let never : true ≡ false = room in cc
 none_more (Some set) m n p None none (room, took) = let never : true ≡ false = room in cc
@@ -114,7 +114,7 @@ no_frame : (set : Option (Bor Wanted)) (taken : ℕ) (m n : Content) (p : List �
 no_frame None taken m n p f never = never
 no_frame (Some set) taken m n p f never = never
 
--- no message is late where no time is given
+-- no message is late if no time is given
 never_late : (until : Option ℕ) (p : List ℕ) → until ≡ None → is_late until (message_of p) ≡ true → ⊥
 never_late None p whole late = let never : false ≡ true = late in cc
 never_late (Some time) p whole late = cc
@@ -130,7 +130,7 @@ module _ {R T : Type 0} (remaining : R → Option (List ℕ)) (failures : R → 
   abbrev read : List ℕ → List ℕ
   read = read_by (option_copied (set s))
 
-  -- what is taken of a snapshot is what its market takes of the messages as they are read
+  -- the messages taken from a snapshot are those that its market takes, as they are read
   as_read_by : (a b : T) (before : ℕ) (ps : List (List ℕ)) → set a ≡ set s → laid (market a) ≡ market a → TakesAll Taken a before ps b → TakesAll TakesMessage (market a) before (map read ps) (market b) × (set b ≡ set s)
   as_read_by a b before [] named placed same = (ap market same, ap set same ∙ named)
   as_read_by a b before (p ∷ ps) named placed (next, (kept, took), rest) =
@@ -206,7 +206,7 @@ module _ {R T : Type 0} (remaining : R → Option (List ℕ)) (failures : R → 
     here_again : count + 1 - 1 ≡ count
     here_again = omega arith
 
-    -- where it stops, but at a message after as many others as there may be
+    -- the position of the stop, except at a message after the maximum number of others
     ends_by : (stop : Part SnapshotEnd) → (stop ≡ part.TooMany → ⊥) → limit.after ≡ None → limit.until ≡ None → StopsAt remaining Ended limit count new reads.last stop t
         → ReadsAs read from (bytes_left remaining (left_by stop new)) (end_of stop) (market t)
     ends_by part.Full room whole all_day (same, (most, wanted, all)) = absurd (let never : None ≡ Some most = sym whole ∙ wanted in cc)
@@ -220,11 +220,11 @@ module _ {R T : Type 0} (remaining : R → Option (List ℕ)) (failures : R → 
         broken (bytes_left remaining (passed new)) p fault (market t) (some, passed_off new remaining p is_next)
         (subst (λ c. TakesFor (set reads.last) c (market reads.last) p (Err fault) (market t)) here_again took)
 
-    -- the whole file was wanted
+    -- the complete file was requested
     pub ends : limit ≡ wanted None → (why ≡ part.TooMany → ⊥) → ReadsAs read from (bytes_left remaining (left_by why new)) (end_of why) (market t)
     ends whole room = ends_by why room (ap (λ (l : Limit). l.after) whole) (ap (λ (l : Limit). l.until) whole) reads.stops
 
-    -- a message after as many others as there may be
+    -- a message after the maximum number of others
     pub ends_full : (after : Reading R) (result : Result ℕ SnapFault) (k : Content) → why ≡ part.TooMany → after ≡ record { reader = new.reader; held = []; stage = Given }
         → ((p : List ℕ) → IsBlockOf p new.held → TakesFor (set t) (10 ^ 19 - 1) (market t) p (last_of result) k) → ReadsAs read from (bytes_left remaining after) result k
     ends_full after result k is left last = by_stop (subst (λ w. StopsAt remaining Ended limit count new reads.last w t) is reads.stops)
@@ -238,7 +238,7 @@ module _ {R T : Type 0} (remaining : R → Option (List ℕ)) (failures : R → 
             by_result (Ok next) took = closed (bytes_left remaining (passed new)) p count next k (some, passed_off new remaining p is_next) took
             by_result (Err fault) took = broken (bytes_left remaining (passed new)) p fault k (some, passed_off new remaining p is_next) took
 
-    -- what failed meanwhile
+    -- and the failed reads
     counts_by : (stop : Part SnapshotEnd) → StopsAt remaining Ended limit count new reads.last stop t → Counts stop (failures old.reader) (failures new.reader)
         → MatchResult (end_of stop) (λ next. failures (Reading.reader (left_by stop new)) ≡ failures old.reader) (λ fault. CountsFault fault (failures old.reader) (failures (Reading.reader (left_by stop new))))
     counts_by part.Full stops counts = counts
@@ -260,7 +260,7 @@ module _ {R T : Type 0} (remaining : R → Option (List ℕ)) (failures : R → 
     pub ends_counts : MatchResult (end_of why) (λ next. failures (Reading.reader (left_by why new)) ≡ failures old.reader) (λ fault. CountsFault fault (failures old.reader) (failures (Reading.reader (left_by why new))))
     ends_counts = counts_by why reads.stops reads.counts
 
--- without a set each payload is read as it is
+-- without a set each payload is read unchanged
 plain_next : (taken : ℕ) (m n : Content) (old new : Option (List ℕ)) (fault : SnapFault) → ReadsNextAs (read_by None) taken m old new (Err fault) n → ReadsNext taken m old new (Err fault) n
 plain_next taken m n old new NoEnd next = next
 plain_next taken m n old new (Frame f) next = next
@@ -296,6 +296,6 @@ first_fault old new fault (n, reads) = inl (n, plain_all old new (Err fault) n r
 pub later_fault : (old mid new : Option (List ℕ)) (done : Content × ℕ) (fault : SnapFault) → ReadsMarket (read_by None) old mid (Ok done) → ReadsEnd mid new (Err fault) → ReadsSnapshot old new (Err fault)
 later_fault old mid new done fault reads following = inr (mid, done.1, done.0, plain_all old mid (Ok done.1) done.0 reads, following)
 
--- or there is none
+-- or there is no fault
 pub no_fault : (old mid new : Option (List ℕ)) (done : Content × ℕ) → ReadsMarket (read_by None) old mid (Ok done) → ReadsEnd mid new (Ok tt) → ReadsSnapshot old new (Ok done)
 no_fault old mid new done reads following = (mid, plain_all old mid (Ok done.1) done.0 reads, following)

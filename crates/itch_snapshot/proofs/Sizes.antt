@@ -1,4 +1,4 @@
--- No message adds more than one message to the snapshot list.
+-- A message adds at most one message to the snapshot list.
 use Rattle.std.proofs.Common.{◌≡◌, ℕ, ◌+◌, ◌≤◌, ◌<◌, Bool, true, false, cond, not, List, [], ◌∷◌, ◌++◌, map, filter, length, flat_map, Option, Some, None, Ordering, Less, Equal, Greater, is_eq, refl, sym, ap, ap₂, ◌∙◌, arith, length-append}
 use Rattle.std.specs.Cmp.{nat_cmp_total}
 use Rattle.std.specs.Ordering.{nat_cmp}
@@ -24,12 +24,12 @@ use Rattle.itch_market.proofs.GoodMarkets.{run_good}
 use Rattle.itch_snapshot.specs.Snapshot.{snap, event_part, action_part, sho_part, halt_part, position_part, states_part, order_part, locate_part}
 use Rattle.itch_snapshot.proofs.Locates.{Rise, rise, has_key, joined, joined_is, joined_all, below_absent}
 
--- 1 where there is a value
+-- 1 if there is a value
 abbrev pub count : {A : Type 0} → Option A → ℕ
 count None = 0
 count (Some x) = 1
 
--- the number of messages that a security and its trading states, halts and positions have
+-- the number of messages of a security and its trading states, halts and positions
 abbrev pub weight : Listing → ℕ
 weight s = 1 + (count s.action + (count s.sho + (finite.len s.halts + finite.len s.positions)))
 
@@ -93,7 +93,7 @@ snap_length m good =
     let all = ap length (joined_all m.orders m.securities good.listed) ∙ length-in_order book.stands_before m.orders in
     omega (arith, length-append (event_part m.event) (flat_map (locate_part m.orders) es), length-event m.event, length-locates m.orders es, all)
 
--- and no more, wherever the orders are
+-- and no more, for any locates of the orders
 snap_at_most : (m : Content) → length (snap m) ≤ size m
 snap_at_most m =
     let es = finite.entries m.securities in
@@ -108,7 +108,7 @@ snap_at_most m =
       length_filter_le (λ (x : Order). has_key es x.locate) m.orders,
     )
 
--- what a security that is replaced had
+-- the previous number of messages of a security that is replaced
 abbrev weight_at : Option Listing → ℕ
 weight_at None = 0
 weight_at (Some s) = weight s
@@ -134,7 +134,7 @@ weights-insert securities k s =
     ap₂ (λ es o. weights es + weight_at o) (finite.entries-insert nat_cmp_total securities k s) (finite.get-entries securities k)
     ∙ weights-put k s (finite.entries securities) (rise securities)
 
--- a change of a security that adds one message at most
+-- a change of a security that adds at most one message
 changed_weight : (change : Listing → Listing) → ((s : Listing) → weight (change s) ≤ weight s + 1) → (locate : ℕ) (securities : Securities)
     → weights (finite.entries (changed change locate securities)) ≤ weights (finite.entries securities) + 1
 changed_weight change one locate securities = by_entry (finite.get securities locate) refl
@@ -199,7 +199,7 @@ size-effect m (is.BrokenTrade x) = omega arith
 size-effect m (is.End next) = omega arith
 size-effect m (is.Other payload) = omega arith
 
--- one message makes the snapshot list longer by one at most
+-- one message makes the snapshot list longer by at most one
 pub snap_step : (m : Content) → (x : Message) → IsGood m → length (snap (effect m x)) ≤ length (snap m) + 1
 snap_step m x good = omega (arith, snap_at_most (effect m x), size-effect m x, snap_length m good)
 
@@ -211,7 +211,7 @@ no_weight : (es : List (ℕ × Listing)) → length es ≡ 0 → weights es ≡ 
 no_weight [] none = refl
 no_weight (e ∷ es) none = absurd (omega arith)
 
--- messages that follow the order rules leave a snapshot list that is no longer than they are
+-- messages that follow the order rules result in a snapshot list that is no longer than they are
 pub short_snap : (ms : List Message) → AreMessages ms → Follows ms → length (snap (run ms)) ≤ length ms
 short_snap ms fit follows =
     let none = no_weight (finite.entries empty.securities) (sym (finite.len-entries empty.securities) ∙ finite.len-empty nat_cmp Listing) in

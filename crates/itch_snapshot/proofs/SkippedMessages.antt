@@ -1,4 +1,4 @@
--- Messages that are skipped where only some locates are wanted.
+-- Messages that are skipped if only some locates are wanted.
 use Rattle.std.proofs.Common.{◌≡◌, ℕ, Bool, true, false, List, Option, Some, None, refl, sym, ap, ◌∙◌}
 use Rattle.itch_codec.specs.declared.fault.CodecFault.{CodecFault}
 use Rattle.itch_codec.specs.declared.message.Message.{Message}
@@ -30,7 +30,7 @@ number_of_skipped wanted (is.End next) h = cc
 number_of_skipped wanted (is.Other payload) h = refl
 
 module _ (wanted : ℕ → Bool) where
-  -- what is skipped is a message without a fault
+  -- a skipped message has no fault
   pub skipped_faultless : (p : List ℕ) → is_skipped wanted p ≡ true → fault p ≡ None
   skipped_faultless p = by_fault (fault p) where
     by_fault : (f : Option CodecFault) → skipped_by wanted f p ≡ true → f ≡ None
@@ -48,7 +48,7 @@ module _ (wanted : ℕ → Bool) where
       let clean = skipped_faultless p skip in
       ap (λ f. number_by f p) clean ∙ number_of_skipped wanted (message_of p) (sym (faultless_skips p clean) ∙ skip)
 
-  -- where all locates are wanted, no message is skipped
+  -- if all locates are wanted, no message is skipped
   pub none_skipped : ((l : ℕ) → wanted l ≡ true) → (p : List ℕ) → is_skipped wanted p ≡ false
   none_skipped all p = by_fault (fault p) where
     by_fault : (f : Option CodecFault) → skipped_by wanted f p ≡ false

@@ -33,12 +33,12 @@ use Rattle.itch_market.proofs.Runs.{after-append, follows-append}
 use Rattle.itch_snapshot.specs.Snapshot.{snap, header_at, event_part, action_part, sho_part, halt_part, position_part, states_part, add_of, attributed, order_part, locate_messages, locate_part}
 use Rattle.itch_snapshot.proofs.Locates.{Rise, rise, joined, joined_all, insert_all as insert_locates, insert_all-entries as insert_locates-entries, AreNew, new_in_empty, new_above}
 
--- the messages follow the order rules from the first market on, and leave the second one
+-- the messages follow the order rules from the first market on, and result in the second one
 pub record Leads (m : Content) (ms : List Message) (n : Content) : Type 0 where
   pub follows : FollowsFrom m ms
   pub leaves : after m ms ≡ n
 
--- one list after the other
+-- one list after another
 pub leads-append : (m k n : Content) (xs ys : List Message) → Leads m xs k → Leads k ys n → Leads m (xs ++ ys) n
 leads-append m k n xs ys first rest = record {
   follows = follows-append m xs ys first.follows (subst (λ c. FollowsFrom c ys) (sym first.leaves) rest.follows);
@@ -55,7 +55,7 @@ leads_cons m k n x xs none leaves rest = leads-append m k n (x ∷ []) xs (leads
 leads_into : (m n k : Content) (xs : List Message) → n ≡ k → Leads m xs n → Leads m xs k
 leads_into m n k xs same leads = subst (Leads m xs) same leads
 
--- a stock is not another one
+-- a stock does not differ from itself
 own_stock : (s : Listing) → is_other_stock s s.entry.stock ≡ false
 own_stock s = let same : bytes_eq s.entry.stock s.entry.stock ≡ true = (bytes_eq-Decides s.entry.stock s.entry.stock).1 refl in simp same
 
@@ -90,7 +90,7 @@ add_allowed m s x order new =
     (ap (λ b. cond b (Some Refusal.ZeroShares) (refuse (is_some (book.get m.orders x.reference)) Refusal.DuplicateRef None)) shares
     ∙ ap (λ o. refuse (is_some o) Refusal.DuplicateRef None) new)
 
--- in a list with references of their own, the reference of an order is none of those before
+-- in a list with distinct references, the reference of an order is not among those before it
 first_is_new : (x : Order) (ys zs : List Order) → book.IsDistinct (ys ++ (x ∷ zs)) → book.get ys x.reference ≡ None
 first_is_new x ys zs distinct =
     let parts = ap length (filter-append (book.has_reference x.reference) ys (x ∷ zs)) ∙ length-append (filter (book.has_reference x.reference) ys) (filter (book.has_reference x.reference) (x ∷ zs)) in
@@ -122,12 +122,12 @@ orders_lead m s (x ∷ xs) news distinct =
 abbrev pub with_security : Content → ℕ → Listing → Content
 with_security m locate s = record m { securities = finite.insert m.securities locate s }
 
--- a message changes the security that was put in
+-- a message changes the security that was inserted
 changed_there : (change : Listing → Listing) (securities : Securities) (locate : ℕ) (s : Listing) → changed change locate (finite.insert securities locate s) ≡ finite.insert securities locate (change s)
 changed_there change securities locate s =
     ap (λ found. changed_at change locate found (finite.insert securities locate s)) (get_there securities locate s) ∙ insert_twice securities locate s (change s)
 
--- a security with this entry and nothing else
+-- a security with this entry only
 abbrev bare_of : Directory → Listing
 bare_of entry = entered None entry
 
@@ -138,7 +138,7 @@ directory_lead m locate entry new =
     (ap (λ found. directory_reason found entry.stock) new)
     (ap (λ found. with_security m locate (entered found entry)) new)
 
--- a message on a security that changes it
+-- a message about a security that changes it
 record IsChange (x : Message) (locate : ℕ) (stock : List ℕ) (change : Listing → Listing) : Type 0 where
   asks : (n : Content) → reason n x ≡ security_reason (finite.get n.securities locate) stock None
   does : (n : Content) → effect n x ≡ record n { securities = changed change locate n.securities }
@@ -160,7 +160,7 @@ sho_lead : (m : Content) (locate : ℕ) (s : Listing) (sho : Option ℕ) → s.s
 sho_lead m locate s None none = record { follows = tt; leaves = ap (λ (a : Option ℕ). with_security m locate (record s { sho = a })) none }
 sho_lead m locate s (Some sho) none = change_lead m locate s (with_sho sho) _ (record { asks = λ n. refl; does = λ n. refl })
 
--- halts put in one after the other
+-- halts inserted one after another
 abbrev all_halts : HaltActions → List (ℕ × ℕ) → HaltActions
 all_halts = insert_all nat_cmp_total nat_cmp-IsAntisymmetric
 
@@ -173,7 +173,7 @@ halts_lead m locate s (e ∷ es) =
     (change_lead m locate s (with_halt e.0 e.1) (halt_part locate s.entry.stock e) (record { asks = λ n. refl; does = λ n. refl }))
     (halts_lead m locate (with_halt e.0 e.1 s) es)
 
--- positions put in one after the other
+-- positions inserted one after another
 text_exact : IsAntisymmetric (slice_cmp nat_cmp)
 text_exact = slice_cmp-IsAntisymmetric nat_cmp-IsAntisymmetric
 
@@ -199,7 +199,7 @@ positions_lead m locate s (e ∷ es) fits =
     }))
     (positions_lead m locate (with_position e.0 e.1 s) es fits.1)
 
--- what is said of a security after its directory entry
+-- the messages about a security after its directory entry
 states_lead : (m : Content) (locate : ℕ) (s : Listing) → IsSecurity s → Leads (with_security m locate (bare_of s.entry)) (states_part locate s) (with_security m locate s)
 states_lead m locate s fits =
     let stock = s.entry.stock in
@@ -226,7 +226,7 @@ record IsHere (locate : ℕ) (x : Order) : Type 0 where
   here : x.locate ≡ locate
   some : 0 < x.shares
 
--- what is said of a new locate puts in its security, and adds its orders
+-- the messages about a new locate insert its security, and add its orders
 locate_lead : (m : Content) (e : ℕ × Listing) (os : List Order) → finite.get m.securities e.0 ≡ None → IsSecurity e.1 → AllByRecursion (IsHere e.0) os → book.IsDistinct (m.orders ++ os)
     → Leads m (locate_messages e os) (record m { securities = finite.insert m.securities e.0 e.1; orders = m.orders ++ os })
 locate_lead m e os new fits here distinct =
@@ -260,7 +260,7 @@ left_distinct xs ys distinct r =
     let parts = ap length (filter-append (book.has_reference r) xs ys) ∙ length-append (filter (book.has_reference r) xs) (filter (book.has_reference r) ys) in
     omega (arith, parts, distinct r)
 
--- what is said of each locate puts in its security, and adds its orders
+-- the messages about each locate insert its security, and add its orders
 entries_lead : (m : Content) (orders : List Order) (es : List (ℕ × Listing)) → AreNew m.securities es → Rise es → AllByRecursion (λ e. IsSecurity e.1) es → AllByRecursion book.IsLive orders → book.IsDistinct (m.orders ++ joined orders es)
     → Leads m (flat_map (locate_part orders) es) (record m { securities = insert_locates m.securities es; orders = m.orders ++ joined orders es })
 entries_lead m orders [] new rising fit live distinct =
@@ -281,7 +281,7 @@ event_lead : (event : Option ℕ) → Leads empty (event_part event) (record emp
 event_lead None = record { follows = tt; leaves = refl }
 event_lead (Some code) = record { follows = (refl, tt); leaves = refl }
 
--- the snapshot list of a good market follows the order rules, and leaves the laid market
+-- the snapshot list of a good market follows the order rules, and results in the laid market
 pub snap_leads : (m : Content) → IsGood m → Leads empty (snap m) (laid m)
 snap_leads m good =
     let es = finite.entries m.securities in

@@ -32,7 +32,7 @@ use Rattle.itch_snapshot.proofs.KnownFiles.{clean_spelled}
 abbrev IsRead : List ℕ → Type 0
 IsRead bytes = ((ms : List Message) × (next : ℕ) × IsSnapshotFile bytes ms next) ⊎ ((fault : SnapFault) × IsFaultOf bytes fault)
 
--- the payload at a place, and those before and after it
+-- the payload at a position, and those before and after it
 record IsSplit (ps : List (List ℕ)) (k : ℕ) : Type 0 where
   before : List (List ℕ)
   payload : List ℕ
@@ -51,7 +51,7 @@ slice_here : (ps : List (List ℕ)) (p : List ℕ) (qs : List (List ℕ)) → sl
 slice_here [] p qs = refl
 slice_here (q ∷ ps) p qs = slice_here ps p qs
 
--- the messages before an End of Snapshot are taken: what follows it decides what the file is
+-- the messages before an End of Snapshot are taken: the bytes after it determine whether the file is a snapshot file
 module _ (bytes : List ℕ) (ps : List (List ℕ)) (p : List ℕ) (qs : List (List ℕ)) (rest : List ℕ) (day : Day bytes (ps ++ p ∷ qs) rest) (none : NoCause empty ps)
     (few : length ps ≤ 10 ^ 19 - 1) (next : ℕ) (number : closing_number p ≡ Some next) where
   closes_here : ClosesBefore (blocks qs ++ rest) bytes (map message_of ps) next
@@ -75,7 +75,7 @@ closed_read bytes rest ms next [] full (inr part) closes = inr (Frame (Truncated
 closed_read bytes rest ms next (q ∷ qs) full last closes =
     inr (AfterEnd, (ms, next, blocks (q ∷ qs) ++ rest, closes, (q, blocks qs ++ rest, full.0, append_assoc (block q) (blocks qs) rest)))
 
--- no End of Snapshot stands where the replay stops
+-- the replay does not stop at an End of Snapshot
 refused_read : (bytes : List ℕ) (m : Content) (p : List ℕ) (before : ℕ) (why : Stop) → cause m p ≡ Some why → StopsAt bytes (before + 1) why → IsRead bytes
 refused_read bytes m p before why is at = by_fault (fault p) is where
   by_reason : (r : Option Refusal) → option_map stop.Rule r ≡ Some why → IsRead bytes
@@ -86,7 +86,7 @@ refused_read bytes m p before why is at = by_fault (fault p) is where
   by_fault (Some f) some = let codec : why ≡ stop.Codec f = cc in inr (Codec (before + 1) f, subst (StopsAt bytes (before + 1)) codec at)
   by_fault None none = by_reason (reason m (message_of p)) none
 
--- a replay that stops at a payload, or after as many as may be
+-- a replay that stops at a payload, or after the maximum number
 module _ (bytes : List ℕ) (k : ℕ) (why : Stop) (stops : Stops empty bytes k why) (split : IsSplit stops.payloads k) (few : k ≤ 10 ^ 19 - 1) where
   day : Day bytes (split.before ++ split.payload ∷ split.following) stops.rest
   day = subst (λ ps. Day bytes ps stops.rest) split.whole stops.day
@@ -110,7 +110,7 @@ module _ (bytes : List ℕ) (k : ℕ) (why : Stop) (stops : Stops empty bytes k 
   stops_at : (n : ℕ) → n ≡ k + 1 → closing_number split.payload ≡ None → StopsAt bytes n why
   stops_at n here none = record { before = k; place_is = here; stops = stops; no_end = no_end_here none }
 
-  -- an End of Snapshot stands there, or none does
+  -- there is an End of Snapshot there, or there is not
   by_number : (number : Option ℕ) → closing_number split.payload ≡ number → (closing_number split.payload ≡ None → IsRead bytes) → IsRead bytes
   by_number None none otherwise = otherwise none
   by_number (Some next) some otherwise =

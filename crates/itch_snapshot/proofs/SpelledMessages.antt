@@ -1,4 +1,4 @@
--- The messages of a snapshot list fit their fields, and their spellings fit blocks.
+-- The messages of a snapshot list fit their fields, and their bytes fit blocks.
 use Rattle.std.proofs.Common.{◌≡◌, ℕ, ◌<◌, List, [], ◌∷◌, ◌++◌, map, filter, flat_map, Option, Some, None, sym, subst, arith}
 use Rattle.std.specs.List.{AllByRecursion}
 use Rattle.std.specs.Cmp.{nat_cmp_total}
@@ -30,7 +30,7 @@ use Rattle.itch_market.proofs.Trees.{each_entry as each_of}
 use Rattle.itch_snapshot.specs.Snapshot.{snap, header_at, event_part, action_part, sho_part, halt_part, position_part, states_part, add_of, attributed, order_part, locate_messages, locate_part}
 use Rattle.itch_snapshot.proofs.Locates.{each_entry}
 
--- a message whose fields fit, and whose spelling fits a block
+-- a message whose fields fit, and whose bytes fit a block
 pub record IsSpelled (x : Message) : Type 0 where
   pub fits : IsMessage x
   pub short : IsPayload (spelling x)

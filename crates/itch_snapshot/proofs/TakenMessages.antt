@@ -1,4 +1,4 @@
--- What a message of a snapshot does, where all locates are wanted, or those of a set.
+-- The effect of a message of a snapshot, if all locates are wanted, or those of a set.
 use Rattle.std.proofs.Common.{◌≡◌, ℕ, ◌+◌, ◌-◌, ◌^◌, ◌<◌, ◌≤◌, ◌==◌, Bool, true, false, List, Option, Some, None, Result, Ok, Err, IfSome, IfNone, IfOk, IfErr, OnOk, IsOkUnless, IsTrue, refl, sym, ap, subst, ◌∙◌, arith}
 use Rattle.std.proofs.lemmas.Bool.{ne_eqb}
 use Rattle.std.proofs.lemmas.Bool.Decides.{nat_tests}
@@ -18,7 +18,7 @@ use Rattle.itch_snapshot.specs.declared.fault.SnapFault.{SnapFault}
 use Rattle.itch_snapshot.specs.declared.fault.SnapFault.TheVariants.{NoEnd, Frame, Codec, Rule, AfterEnd, TooManyMessages}
 use Rattle.itch_snapshot.specs.TakenMessages.{AppliesUnless, TakesNext, TakesNextOnly, is_full, is_skipped, number_in, number_by, skipped_by}
 
--- why a message was not applied, by the clauses of a market
+-- the reason why a message was not applied, from the clauses of a market
 pub refusal_of : (r : Option Refusal) (takes : Bool) (why : Refusal) (answer : Result (Unit {0}) Refusal) → answer ≡ Err why → IfSome r (λ x. answer ≡ Err x)
     → IfNone r (IsOkUnless answer OutOfMemory) → (answer ≡ Err OutOfMemory → IsTrue takes) → IsRefusal r takes why
 refusal_of (Some r) takes why answer is refused accepted memory = cc
@@ -36,12 +36,12 @@ refused_so taken m n payload x why (clean, is, fits) room no_end same refusal = 
   (same, (clean, subst (λ y. IsRefusal (reason m y) (takes_memory m y) why) is refusal)),
 )
 
--- what was decoded of a payload
+-- the decoded form of a payload
 pub decodes : (p : List ℕ) (r : Result Message CodecFault) → IfErr r (λ e. fault p ≡ Some e) → OnOk r (fault p ≡ None) → IfOk r (λ m. m ≡ message_of p) → IfOk r (λ m. IsMessage m) → Decodes p r
 decodes p (Ok m) faulty clean same fits = (clean, same, fits)
 decodes p (Err e) faulty clean same fits = faulty
 
--- a message that is taken had room
+-- a message can be taken only below the maximum number
 fewer : (taken : ℕ) → taken ≤ 10 ^ 19 - 1 → (taken == 10 ^ 19 - 1) ≡ false → taken < 10 ^ 19 - 1
 fewer taken few room = grind (arith, nat_tests)
 
@@ -60,7 +60,7 @@ room_left_only wanted taken m n p (Err fault) few took = tt
 pub skipped_so : (wanted : ℕ → Bool) (taken : ℕ) (m : Content) (p : List ℕ) → (taken == 10 ^ 19 - 1) ≡ false → is_skipped wanted p ≡ true → TakesNextOnly wanted taken m p (Ok None) m
 skipped_so wanted taken m p room skip = (room, subst (λ b. AppliesUnless b m p m) (sym skip) refl)
 
--- every other one is taken as where all locates are wanted
+-- any other message is taken as if all locates were wanted
 pub taken_so : (wanted : ℕ → Bool) (taken : ℕ) (m n : Content) (p : List ℕ) (r : Result (Option ℕ) SnapFault) → is_skipped wanted p ≡ false → TakesNext taken m p r n → TakesNextOnly wanted taken m p r n
 taken_so wanted taken m n p (Ok None) stays (room, took) = (room, subst (λ b. AppliesUnless b m p n) (sym stays) took)
 taken_so wanted taken m n p (Ok (Some next)) stays took = took
@@ -71,7 +71,7 @@ taken_so wanted taken m n p (Err (Rule place why)) stays took = (stays, took)
 taken_so wanted taken m n p (Err AfterEnd) stays took = took
 taken_so wanted taken m n p (Err TooManyMessages) stays took = took
 
--- and so is each where there is no room
+-- and so is each message after the maximum number
 pub taken_full : (wanted : ℕ → Bool) (taken : ℕ) (m n : Content) (p : List ℕ) (r : Result (Option ℕ) SnapFault) → (taken == 10 ^ 19 - 1) ≡ true → TakesNext taken m p r n → TakesNextOnly wanted taken m p r n
 taken_full wanted taken m n p (Ok None) full (room, took) = absurd (let never : true ≡ false = sym full ∙ room in cc)
 taken_full wanted taken m n p (Ok (Some next)) full took = took

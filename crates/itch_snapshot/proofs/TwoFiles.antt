@@ -1,4 +1,4 @@
--- Two day files whose replays end leave the same market exactly if the canonical bytes of what they leave are equal.
+-- Two day files whose replays reach the end result in the same market if and only if the canonical bytes of their markets are equal.
 use Rattle.std.proofs.Common.{◌≡◌, ℕ, List, map}
 use Rattle.itch_codec.specs.Fields.{AreBytes}
 use Rattle.itch_codec.specs.Messages.{message_of}

@@ -1,4 +1,4 @@
--- The bytes of a whole snapshot, with End of Snapshot, have one market and one number.
+-- The bytes of a complete snapshot, with End of Snapshot, belong to one market and one number.
 use Rattle.std.proofs.Common.{◌≡◌, ℕ, List, [], ◌∷◌, ◌++◌, map, sym, ap, ◌∙◌}
 use Rattle.std.specs.List.{AllByRecursion}
 use Rattle.std.proofs.lemmas.List.{map-append, same_from_push}
@@ -32,7 +32,7 @@ ended_spelled m next good number =
 wire-ended : (m : Content) (next : ℕ) → blocks (map spelling (ended m next)) ≡ canon m ++ closing next
 wire-ended m next = ap blocks (map-append spelling (snap m) (is.End next ∷ [])) ∙ blocks-push (map spelling (snap m)) (spelling (is.End next))
 
--- two whole snapshots with equal bytes
+-- two complete snapshots with equal bytes
 record AreOne (m n : Content) (j k : ℕ) : Type 0 where
   market : Same m n
   number : j ≡ k

@@ -26,20 +26,20 @@ use Rattle.itch_snapshot.specs.Bytes.{closing}
 use Rattle.itch_snapshot.specs.Writes.{closed_payloads, WritesClosed}
 use Rattle.itch_snapshot.proofs.SpelledMessages.{IsSpelled, snap_spelled}
 
--- the spelling fits a block
+-- the bytes of the message fit a block
 abbrev pub IsShort : Message → Type 0
 IsShort x = IsPayload (spelling x)
 
--- as that of each message of a snapshot list does
+-- so do those of each message of a snapshot list
 pub snap_short : (m : Content) → IsGood m → AllByRecursion IsShort (snap m)
 snap_short m good = All-weaker_rec IsSpelled IsShort (λ x spelled. spelled.short) (snap m) (snap_spelled m good)
 
--- and so does that of each message of the market cut down to the locates that are wanted
+-- and so do those of each message of the market of the wanted locates
 pub cut_short : (set : Option (Bor Wanted)) (m : Content) → IsGood m → AllByRecursion IsShort (snap (cut_to set m))
 cut_short None m good = snap_short m good
 cut_short (Some set) m good = snap_short (only (has set.now) m) (only_good (has set.now) m good)
 
--- the payloads of what was written, of the next message, and of the others
+-- the payloads that were written, the payload of the next message, and the others
 payloads_at : (ms : List Message) (next : ℕ) (seen left : List Message) (x : Message) → ms ≡ seen ++ x ∷ left
     → closed_payloads ms next ≡ map spelling seen ++ spelling x ∷ (map spelling left ++ spelling (is.End next) ∷ [])
 payloads_at ms next seen left x messages = ap (λ ms. map spelling ms ++ spelling (is.End next) ∷ []) messages ∙ regroup seen where
@@ -48,7 +48,7 @@ payloads_at ms next seen left x messages = ap (λ ms. map spelling ms ++ spellin
   regroup (y ∷ ys) = ap (λ ps. spelling y ∷ ps) (regroup ys)
 
 module _ {W : Type 0} (contents : W → Option (List ℕ)) (failures : W → Failures) where
-  -- the blocks of some of the messages were written, and the others are still to come
+  -- the blocks of some of the messages were written, and the others remain
   pub record WrittenSoFar (ms : List Message) (old : W) (seen left : List Message) (count : ℕ) (new : W) : Type 0 where
     pub messages : ms ≡ seen ++ left
     pub wrote : Appends (contents old) (contents new) (blocks (map spelling seen))
@@ -70,7 +70,7 @@ module _ {W : Type 0} (contents : W → Option (List ℕ)) (failures : W → Fai
     spelled_push [] y = refl
     spelled_push (z ∷ zs) y = ap (λ ps. spelling z ∷ ps) (spelled_push zs y)
 
-  -- the next block was not written whole
+  -- the next block was not written completely
   pub message_failed : (ms : List Message) (next : ℕ) (old mid new : W) (seen left rest : List Message) (count : ℕ) (x : Message) (fault : FrameFault) → AllByRecursion IsShort ms
       → WrittenSoFar ms old seen left count mid → left ≡ x ∷ rest → WriteBlock contents failures mid (spelling x) (Err fault) new
       → WritesClosed contents failures ms next old (Err fault) new

@@ -1,4 +1,4 @@
--- What is written of a market is a snapshot file, and reading it gives that market.
+-- Writing a market gives a snapshot file, and reading the file gives that market.
 use Rattle.std.proofs.Common.{◌≡◌, ℕ, ◌<◌, ◌^◌, List, [], ◌∷◌, ◌++◌, map, length, refl, sym, ap, subst, ◌∙◌, inl, append-nil, arith}
 use Rattle.std.specs.List.{AllByRecursion}
 use Rattle.itch_book.proofs.Lists.{All-map_rec, All-weaker_rec}
@@ -50,7 +50,7 @@ pub written_market : (m : Content) → (next : ℕ) → IsGood m → IsSequence 
 written_market m next good number few =
     (snap m, written_file m next good number few, snap_messages m good, sym (ap laid (run-snap m good) ∙ laid_twice m))
 
--- and as nothing else
+-- and as no other market
 pub written_once : (m : Content) → (next : ℕ) → (done : Content × ℕ) → IsGood m → IsSequence next → length (snap m) < 10 ^ 19
     → IsMarketOf (canon m ++ closing next) done → done ≡ (laid m, next)
 written_once m next done good number few (ms, file, fit, left) =
@@ -82,7 +82,7 @@ read_again bytes done read = found read where
       subst (λ n. IsMarketOf (canon done.0 ++ closing done.1) (n, done.1)) in_order
       (written_market done.0 done.1 good (end_sequence done.1 file.last file.closes) (read_short bytes done read))
 
--- and of a file with these bytes nothing follows its End of Snapshot
+-- and no bytes follow the End of Snapshot of a file with these bytes
 pub written_alone : (bytes rest : List ℕ) (ms : List Message) (next : ℕ) (m : Content) → IsGood m → length (snap m) < 10 ^ 19 → ClosesBefore rest bytes ms next
     → bytes ≡ canon m ++ closing next → rest ≡ []
 unfolding written_file

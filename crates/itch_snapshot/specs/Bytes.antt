@@ -1,4 +1,4 @@
--- The bytes of a snapshot (GLIMPSE 5.0): blocks that spell its messages, and a last one that spells End of Snapshot.
+-- The bytes of a snapshot (GLIMPSE 5.0): the blocks of its messages, and the block of End of Snapshot.
 use Rattle.std.specs.Prelude.{ℕ, List, map}
 use Rattle.itch_codec.specs.Messages.{spelling}
 use Rattle.itch_codec.specs.declared.message.Message.TheVariants as is

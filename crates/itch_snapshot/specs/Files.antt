@@ -1,4 +1,4 @@
--- Snapshot files (GLIMPSE 5.0): blocks that spell messages, then one that spells End of Snapshot, and no more.
+-- Snapshot files (GLIMPSE 5.0): the blocks of messages, then the block of End of Snapshot, and no more.
 use Rattle.std.specs.Prelude.{◌≡◌, ℕ, ◌+◌, ◌-◌, ◌≤◌, ◌^◌, ◌⊎◌, List, [], ◌∷◌, ◌++◌, length, None, slice_get, IfSome}
 use Rattle.std.specs.List.{AllByRecursion}
 use Rattle.itch_codec.specs.declared.message.Message.{Message}
@@ -16,15 +16,15 @@ use Rattle.itch_snapshot.specs.declared.fault.SnapFault.{SnapFault}
 use Rattle.itch_snapshot.specs.declared.fault.SnapFault.TheVariants.{NoEnd, Frame, Codec, Rule, AfterEnd, TooManyMessages}
 use Rattle.itch_snapshot.specs.TakenMessages.{closing_number}
 
--- each payload spells the message at its place
+-- each payload encodes the message at its position
 abbrev pub AreSpelled : List Message → List (List ℕ) → Type 0
 AreSpelled [] [] = Unit {0}
 AreSpelled [] (p ∷ ps) = ⊥
 AreSpelled (x ∷ xs) [] = ⊥
 AreSpelled (x ∷ xs) (p ∷ ps) = Spells x p × AreSpelled xs ps
 
--- the bytes are blocks that spell these messages, which follow the order rules (so that none is End of Snapshot),
--- then the block of an End of Snapshot with this number, and then a rest
+-- the bytes are the blocks of these messages, which follow the order rules (so that none is End of Snapshot), then the block of an End of
+-- Snapshot with this number, and then a rest
 pub record ClosesBefore (rest bytes : List ℕ) (ms : List Message) (next : ℕ) : Type 0 where
   pub payloads : List (List ℕ)
   pub last : List ℕ
@@ -39,18 +39,19 @@ pub record ClosesBefore (rest bytes : List ℕ) (ms : List Message) (next : ℕ)
 abbrev pub IsSnapshotFile : List ℕ → List Message → ℕ → Type 0
 IsSnapshotFile bytes ms next = (rest : List ℕ) × ClosesBefore rest bytes ms next × Ends rest
 
--- the file has an End of Snapshot, and this is true of what follows it
+-- the file has an End of Snapshot, and this holds for the bytes after it
 abbrev pub IsClosedBefore : List ℕ → (List ℕ → Type 0) → Type 0
 IsClosedBefore bytes P = (ms : List Message) × (next : ℕ) × (rest : List ℕ) × ClosesBefore rest bytes ms next × P rest
 
--- a replay from the empty market stops for this reason at this place, counted from 1, and no End of Snapshot stands there
+-- a replay from the empty market stops for this reason at this position, counted from 1, and the message there is not End of Snapshot
 pub record StopsAt (bytes : List ℕ) (place : ℕ) (why : Stop) : Type 0 where
   pub before : ℕ
   pub place_is : place ≡ before + 1
   pub stops : Stops empty bytes before why
   pub no_end : IfSome (slice_get stops.payloads before) (λ payload. closing_number payload ≡ None)
 
--- why a file is no snapshot file: where it has an End of Snapshot what follows it, else the stop of a replay from the empty market
+-- the reason why a file is not a snapshot file: the bytes after its End of Snapshot if it has one, otherwise the stop of a replay from the
+-- empty market
 abbrev pub IsFaultOf : List ℕ → SnapFault → Type 0
 IsFaultOf bytes NoEnd = (k : ℕ) × Stops empty bytes k stop.End
 IsFaultOf bytes (Frame (Truncated held)) =

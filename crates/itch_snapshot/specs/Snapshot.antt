@@ -1,4 +1,4 @@
--- The snapshot list of a market (GLIMPSE 5.0): the messages, in this product's order, that lead from the empty market to it.
+-- The snapshot list of a market (GLIMPSE 5.0): the messages, in this product's order, that lead from the empty market to this one.
 use Rattle.std.specs.Prelude.{ℕ, List, [], ◌∷◌, ◌++◌, map, get_or, Option, Some, None}
 use Rattle.std.specs.List.{flat_map}
 use Rattle.std.specs.FinMap as finite
@@ -16,18 +16,18 @@ use Rattle.itch_market.specs.Content.{Content, Listing}
 abbrev pub header_at : ℕ → Header
 header_at locate = record { locate = locate; tracking = 0; stamp = 0 }
 
--- the last system event, if any came, at locate 0
+-- the last system event, if there was one, at locate 0
 abbrev pub event_part : Option ℕ → List Message
 event_part None = []
 event_part (Some code) = is.SystemEvent (record { header = header_at 0; code = code }) ∷ []
 
--- the trading action, if any came, with a space as its reserved byte
+-- the trading action, if there was one, with a space as its reserved byte
 abbrev pub action_part : ℕ → List ℕ → Option Action → List Message
 action_part locate stock None = []
 action_part locate stock (Some a) =
     is.TradingAction (record { header = header_at locate; stock = stock; state = a.state; reserved = 32; reason = a.reason }) ∷ []
 
--- the Reg SHO restriction, if any came
+-- the Reg SHO restriction, if there was one
 abbrev pub sho_part : ℕ → List ℕ → Option ℕ → List Message
 sho_part locate stock None = []
 sho_part locate stock (Some action) = is.RegSho (record { header = header_at locate; stock = stock; action = action }) ∷ []
@@ -52,11 +52,12 @@ abbrev pub states_of : ℕ → List ℕ → Option Action → Option ℕ → Lis
 states_of locate stock action sho halts positions =
     action_part locate stock action ++ (sho_part locate stock sho ++ (map (halt_part locate stock) halts ++ map (position_part locate stock) positions))
 
--- what is said of a security between its directory entry and its orders: halts by rising market code, positions by rising bytes of the participant
+-- the messages about a security between its directory entry and its orders: halts by ascending market code, positions by ascending bytes of
+-- the participant
 abbrev pub states_part : ℕ → Listing → List Message
 states_part locate s = states_of locate s.entry.stock s.action s.sho (finite.entries s.halts) (finite.entries s.positions)
 
--- an add order message for the shares that remain, with the directory's stock
+-- an Add Order message for the remaining shares, with the directory's stock
 abbrev pub add_of : List ℕ → Order → AddOrder
 add_of stock x = record { header = header_at x.locate; reference = x.reference; side = x.side; shares = x.shares; stock = stock; price = x.price }
 
@@ -69,16 +70,16 @@ attributed x (Some mpid) = is.AttributedAddOrder (record { order = x; attributio
 abbrev pub order_part : List ℕ → Order → Message
 order_part stock x = attributed (add_of stock x) x.mpid
 
--- what is said of one locate, with these orders
+-- the messages about one locate, with these orders
 abbrev pub locate_messages : ℕ × Listing → List Order → List Message
 locate_messages e orders =
     is.StockDirectory (record { header = header_at e.0; entry = e.1.entry })
     ∷ (states_part e.0 e.1 ++ map (order_part e.1.entry.stock) orders)
 
--- what is said of one locate: its directory entry, its trading states, halts and positions, and its orders, bids before asks
+-- the messages about one locate: its directory entry, its trading states, halts and positions, and its orders, bids before asks
 abbrev pub locate_part : List Order → ℕ × Listing → List Message
 locate_part orders e = locate_messages e (book.queue orders e.0 Buy ++ book.queue orders e.0 Sell)
 
--- the snapshot list: the last event, and then each locate of the directory, rising
+-- the snapshot list: the last event, and then each locate of the directory, in ascending order
 abbrev pub snap : Content → List Message
 snap m = event_part m.event ++ flat_map (locate_part m.orders) (finite.entries m.securities)

@@ -1,4 +1,4 @@
--- What a message of a snapshot file does to the market that is made of it, and how the reading of the file ends.
+-- The effect of a message of a snapshot file on the market that is built from it, and the end of the reading.
 use Rattle.std.specs.Prelude.{ℕ, ◌-◌, List, Option, Some, None, Result, Ok, Err}
 use denote.Ref.{Bor}
 use Rattle.itch_day.specs.declared.stop.Stop.{Stop}
@@ -11,12 +11,12 @@ use Rattle.itch_snapshot.specs.declared.sink.SnapshotEnd.{SnapshotEnd}
 use Rattle.itch_snapshot.specs.declared.sink.SnapshotEnd.TheVariants.{Closed, Broken}
 use Rattle.itch_snapshot.specs.TakenMessages.{TakesFor}
 
--- what is returned for the message at which the messages end
+-- the result for the message that ends the messages
 abbrev pub answer_of : SnapshotEnd → Result (Option ℕ) SnapFault
 answer_of (Closed next) = Ok (Some next)
 answer_of (Broken fault) = Err fault
 
--- what is returned for it where the reading of the file returns this
+-- the result for this message if the reading of the file has this result
 abbrev pub last_of : Result ℕ SnapFault → Result (Option ℕ) SnapFault
 last_of (Ok next) = Ok (Some next)
 last_of (Err fault) = Err fault
@@ -29,7 +29,7 @@ TakesOfSnapshot set m number payload n = TakesFor set (number - 1) m payload (Ok
 abbrev pub EndsSnapshot : Option (Bor Wanted) → Content → ℕ → List ℕ → SnapshotEnd → Content → Type 0
 EndsSnapshot set m number payload why n = TakesFor set (number - 1) m payload (answer_of why) n
 
--- what the reading of a snapshot file returns where it goes no further: the number in End of Snapshot, or why there is none
+-- the result of a snapshot file when the reading stops: the number in End of Snapshot, or the reason why there is none
 abbrev pub end_of : Stop SnapshotEnd → Result ℕ SnapFault
 end_of part.Full = Err NoEnd
 end_of part.Late = Err NoEnd

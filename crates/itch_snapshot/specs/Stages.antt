@@ -5,7 +5,7 @@ use Rattle.itch_snapshot.specs.declared.fault.SnapFault.TheVariants.{AfterEnd}
 use Rattle.itch_snapshot.specs.declared.reader.Stage.{Stage}
 use Rattle.itch_snapshot.specs.declared.reader.Stage.TheVariants.{Taking, Broken, Closed}
 
--- the fault of every further message, once one was not taken or after the End of Snapshot
+-- the fault of every further message, after one was not taken or after the End of Snapshot
 abbrev pub opened : Stage → Result (Unit {0}) SnapFault
 opened Taking = Ok tt
 opened (Broken fault) = Err fault

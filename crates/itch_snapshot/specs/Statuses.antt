@@ -1,4 +1,4 @@
--- What a program makes of a snapshot file that is refused.
+-- The exit status and the system error of a snapshot file that is refused.
 use Rattle.std.specs.Prelude.{ℕ, Option, None}
 use Rattle.std.specs.declared.io.Error.{Error}
 use Rattle.itch_frame.specs.Statuses.{frame_error, frame_status}
@@ -6,7 +6,7 @@ use Rattle.itch_market.specs.Statuses.{refusal_status}
 use Rattle.itch_snapshot.specs.declared.fault.SnapFault.{SnapFault}
 use Rattle.itch_snapshot.specs.declared.fault.SnapFault.TheVariants.{Frame, Rule}
 
--- the status that it ends with
+-- the exit status
 abbrev pub snapshot_status : SnapFault → ℕ
 snapshot_status (Frame fault) = frame_status fault
 snapshot_status (Rule place reason) = refusal_status reason

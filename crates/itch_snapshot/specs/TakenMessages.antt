@@ -1,4 +1,4 @@
--- What a message of a snapshot does to the market that is made of it.
+-- The effect of a message of a snapshot on the market that is built from it.
 use Rattle.std.specs.Prelude.{◌≡◌, ◌≢◌, ℕ, ◌+◌, ◌-◌, ◌^◌, ◌==◌, Bool, true, false, List, Option, Some, None, Result, Ok, Err}
 use Rattle.itch_codec.specs.declared.fault.CodecFault.{CodecFault}
 use Rattle.itch_codec.specs.declared.message.Message.{Message}
@@ -25,11 +25,11 @@ abbrev pub number_by : Option CodecFault → List ℕ → Option ℕ
 number_by (Some f) payload = None
 number_by None payload = number_in (message_of payload)
 
--- the number in the End of Snapshot that a payload spells, if it spells one
+-- the number in the End of Snapshot of a payload, if the payload is one
 abbrev pub closing_number : List ℕ → Option ℕ
 closing_number payload = number_by (fault payload) payload
 
--- as many messages were taken as a snapshot may have
+-- the maximum number of messages of a snapshot was taken
 abbrev pub is_full : ℕ → Bool
 is_full taken = taken == 10 ^ 19 - 1
 
@@ -49,11 +49,11 @@ abbrev pub skipped_by : (ℕ → Bool) → Option CodecFault → List ℕ → Bo
 skipped_by wanted (Some f) payload = false
 skipped_by wanted None payload = skips wanted (message_of payload)
 
--- the message that a payload spells is about a locate that is not wanted
+-- the message of a payload is about a locate that is not wanted
 abbrev pub is_skipped : (ℕ → Bool) → List ℕ → Bool
 is_skipped wanted payload = skipped_by wanted (fault payload) payload
 
--- the message of a payload changes nothing where it is skipped, else it is applied
+-- the message of a payload changes nothing if it is skipped, and otherwise it is applied
 abbrev pub AppliesUnless : Bool → Content → List ℕ → Content → Type 0
 AppliesUnless true m payload n = n ≡ m
 AppliesUnless false m payload n = TakesOne m payload (Ok tt) n
@@ -69,12 +69,12 @@ TakesNextOnly wanted taken m payload (Err NoEnd) n = ⊥
 TakesNextOnly wanted taken m payload (Err (Frame f)) n = ⊥
 TakesNextOnly wanted taken m payload (Err AfterEnd) n = ⊥
 
--- what the next message does, where without a set none is skipped
+-- the effect of the next message; without a set, no message is skipped
 abbrev pub TakesFor : Option (Bor Wanted) → ℕ → Content → List ℕ → Result (Option ℕ) SnapFault → Content → Type 0
 TakesFor None = TakesNext
 TakesFor (Some set) = TakesNextOnly (has set.now)
 
--- what contracts see of a snapshot that is read message by message: the number of messages taken, the market that they leave, and how far it is
+-- a snapshot that is read message by message, as contracts describe it: the number of messages taken, the market after them, and the stage
 pub record Load : Type 0 where
   pub taken : ℕ
   pub market : Content
@@ -90,41 +90,41 @@ taken_after taken (Ok None) = taken + 1
 taken_after taken (Ok (Some next)) = taken
 taken_after taken (Err fault) = taken
 
--- a fault stays, unless memory ran out
+-- a fault remains, unless memory ran out
 abbrev pub broken_by : SnapFault → Stage
 broken_by (Rule place OutOfMemory) = Taking
 broken_by fault = Broken fault
 
--- how far the snapshot is read after a message
+-- the stage after a message
 abbrev pub stage_after : Result (Option ℕ) SnapFault → Stage
 stage_after (Ok None) = Taking
 stage_after (Ok (Some next)) = Closed next
 stage_after (Err fault) = broken_by fault
 
--- what the next message does at each stage, by what taking it does to the market
+-- the effect of the next message at each stage, from its effect on the market
 abbrev pub TakesBy : (ℕ → Content → List ℕ → Result (Option ℕ) SnapFault → Content → Type 0) → Stage → Load → List ℕ → Result (Option ℕ) SnapFault → Load → Type 0
 TakesBy Takes Taking old payload answer new =
     Takes old.taken old.market payload answer new.market × (new.taken ≡ taken_after old.taken answer) × (new.stage ≡ stage_after answer)
 TakesBy Takes (Broken fault) old payload answer new = (answer ≡ Err fault) × (new ≡ old)
 TakesBy Takes (Closed next) old payload answer new = (answer ≡ Err AfterEnd) × (new ≡ old)
 
--- where no message is skipped
+-- the same if no message is skipped
 abbrev pub TakesAt : Stage → Load → List ℕ → Result (Option ℕ) SnapFault → Load → Type 0
 TakesAt = TakesBy TakesNext
 
--- where messages of some locates are skipped
+-- the same if messages of some locates are skipped
 abbrev pub TakesAtOnly : (ℕ → Bool) → Stage → Load → List ℕ → Result (Option ℕ) SnapFault → Load → Type 0
 TakesAtOnly wanted = TakesBy (TakesNextOnly wanted)
 
--- what taking a message does, and returns
+-- the result and the effect of taking a message
 abbrev pub Loads : Load → List ℕ → Result (Option ℕ) SnapFault → Load → Type 0
 Loads old payload answer new = TakesAt old.stage old payload answer new
 
--- the same, where messages of some locates are skipped
+-- the same if messages of some locates are skipped
 abbrev pub LoadsOnly : (ℕ → Bool) → Load → List ℕ → Result (Option ℕ) SnapFault → Load → Type 0
 LoadsOnly wanted old payload answer new = TakesAtOnly wanted old.stage old payload answer new
 
--- what is returned at the end: the market and the number after an End of Snapshot, else the reader as it was
+-- the result at the end: the market and the number after an End of Snapshot, otherwise the unchanged reader
 abbrev pub Finishes : Load → Result (Content × ℕ) Load → Type 0
 Finishes old (Ok done) = (done.0 ≡ old.market) × (old.stage ≡ Closed done.1)
 Finishes old (Err back) = (back ≡ old) × ((next : ℕ) → old.stage ≢ Closed next)

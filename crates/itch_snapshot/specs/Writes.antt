@@ -1,4 +1,4 @@
--- What a write of a snapshot leaves.
+-- Writing a snapshot.
 use Rattle.std.specs.Prelude.{◌≡◌, ℕ, ◌+◌, List, [], ◌∷◌, ◌++◌, map, length, Option, Result, Ok, Err}
 use Rattle.std.specs.Io.KnownBytes.{Appends}
 use Rattle.itch_codec.specs.declared.message.Message.{Message}
@@ -23,13 +23,13 @@ abbrev pub payloads : Content → ℕ → List (List ℕ)
 payloads m next = closed_payloads (snap m) next
 
 module _ {W : Type 0} (contents : W → Option (List ℕ)) (failures : W → Failures) where
-  -- the blocks of messages and the closing block were appended, or some blocks whole and exactly the bytes of the next one up to `sent`
+  -- the blocks of messages and the closing block were appended, or some complete blocks and exactly the bytes of the next one up to `sent`
   abbrev pub WritesClosed : List Message → ℕ → W → Result ℕ FrameFault → W → Type 0
   WritesClosed ms next old (Ok count) new =
       Appends (contents old) (contents new) (blocks (map spelling ms) ++ closing next) × (failures new ≡ failures old) × (count ≡ length ms + 1)
   WritesClosed ms next old (Err fault) new = WriteBlocks contents failures old (closed_payloads ms next) (Err fault) new
 
-  -- the canonical bytes of a market and the closing block were, or a beginning of them
+  -- the canonical bytes of a market and the closing block were appended, or a prefix of them
   abbrev pub WritesSnapshot : Content → ℕ → W → Result ℕ SnapFault → W → Type 0
   WritesSnapshot m next old (Ok count) new = WritesClosed (snap m) next old (Ok count) new
   WritesSnapshot m next old (Err (Frame fault)) new = WritesClosed (snap m) next old (Err fault) new

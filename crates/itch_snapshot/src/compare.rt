@@ -1,4 +1,4 @@
-//! Markets compared.
+//! Compares markets.
 ghost use Rattle.std.specs.Prelude.{◌≡◌, ◌<◌, ◌-◌, ◌^◌, ◌↔◌, length, IfSome, IfNone, IsNone, IsTrue};
 ghost use Rattle.itch_market.specs.SameMarkets.{Same};
 ghost use Rattle.itch_snapshot.specs.Snapshot.{snap};
@@ -9,8 +9,8 @@ use itch_book::OrderBook;
 use itch_codec::Message;
 use itch_market::Market;
 
-/// The place, counted from 1, of the first message in which the snapshots of two markets differ; where one is the beginning
-/// of the other, its length and 1. `None` where the markets are the same.
+/// Returns the position, counted from 1, of the first message in which the snapshots of two markets differ. If one snapshot is a prefix of
+/// the other, the position is its length plus 1. Returns `None` if the markets are the same.
 pub fn part_place<A: OrderBook, B: OrderBook>(one: &Market<A>, other: &Market<B>) -> Option<u64>
     requires { length (snap one.now) < 10 ^ 19 }
     ensures place { IfSome result (λ place. (0 < place) × IsParting (snap one.now) (snap other.now) (place - 1)) }
@@ -21,8 +21,8 @@ pub fn part_place<A: OrderBook, B: OrderBook>(one: &Market<A>, other: &Market<B>
     first_difference(SnapshotIter::new(one), SnapshotIter::new(other))
 }
 
-/// Whether two markets are the same: the same last event, the same directory with its trading states, and the same queue
-/// for each locate and side.
+/// Returns whether two markets are the same: the same last event, the same directory with its trading states, and the same queue for each
+/// locate and side.
 pub fn same_market<A: OrderBook, B: OrderBook>(one: &Market<A>, other: &Market<B>) -> bool
     requires { length (snap one.now) < 10 ^ 19 }
     ensures { IsTrue result ↔ Same one.now other.now }
@@ -30,7 +30,7 @@ pub fn same_market<A: OrderBook, B: OrderBook>(one: &Market<A>, other: &Market<B
     part_place(one, other).is_none()
 }
 
-// The place, counted from 1, of the first message in which two snapshots differ, or the length of the shorter one and 1.
+// Returns the position, counted from 1, of the first message in which two snapshots differ, or the length of the shorter one plus 1.
 fn first_difference<A: OrderBook, B: OrderBook>(
     one: SnapshotIter<'_, A>,
     mut other: SnapshotIter<'_, B>,

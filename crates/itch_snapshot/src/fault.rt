@@ -1,4 +1,4 @@
-//! Why a snapshot was not written or not read.
+//! The reasons why a snapshot was not written or not read.
 ghost use Rattle.std.specs.Prelude.{◌≡◌};
 ghost use Rattle.itch_snapshot.specs.declared.fault.SnapFault.TheVariants.{Frame};
 
@@ -8,22 +8,23 @@ use itch_market::Refusal;
 use std::error::Error;
 use std::fmt;
 
-/// Why a snapshot was not written or not read.
+/// The reason why a snapshot was not written or not read.
 ///
-/// A place is that of a message in the snapshot, counted from 1. Out of memory is `Rule` with the reason `OutOfMemory`.
+/// `place` is the position of a message in the snapshot, counted from 1. If memory runs out, the fault is `Rule` with the reason
+/// `OutOfMemory`.
 #[derive(Clone, Copy, Debug)]
 pub enum SnapFault {
     /// The blocks ended before an End of Snapshot.
     NoEnd,
     /// A block was not read or not written.
     Frame(FrameFault),
-    /// The payload at this place spells no message.
+    /// The payload at this position is not a valid message.
     Codec { place: u64, fault: CodecFault },
-    /// An order rule refuses the message at this place, or memory ran out.
+    /// An order rule refuses the message at this position, or memory ran out.
     Rule { place: u64, reason: Refusal },
     /// A block that is not empty follows the End of Snapshot.
     AfterEnd,
-    /// The snapshot goes on after 10^19 - 1 messages, without an End of Snapshot.
+    /// The snapshot continues after 10^19 - 1 messages, without an End of Snapshot.
     TooManyMessages,
 }
 

@@ -1,4 +1,4 @@
-//! The snapshot list of a market, message by message.
+//! Iterates over the snapshot list of a market, message by message.
 ghost use Rattle.std.specs.Prelude.{◌≡◌, ◌<◌, ◌^◌, List, [], ◌∷◌, MatchOption, length, ⊤};
 ghost use Rattle.std.specs.Iterator.{YieldsFirst, item_count};
 ghost use Rattle.std.specs.List.{filter};
@@ -17,19 +17,19 @@ use itch_market::{LocateSet, Locates, Market};
 use std::alloc::{AllocError, Allocator};
 use std::marker::Model;
 
-/// The messages of a market's snapshot in order, without the End of Snapshot: of the whole market, or of the market cut
-/// down to a set of locates.
+/// The messages of a market's snapshot in order, without the End of Snapshot: of the complete market, or of the market restricted to a set of
+/// locates.
 ///
-/// The market is borrowed, and no memory is taken.
+/// The market is borrowed, and no memory is allocated.
 #[derive(Drop)]
 pub struct SnapshotIter<'a, B: OrderBook> {
     market: &'a Market<B>,
-    // what is still to come, first to last
+    // the remaining messages, from first to last
     event: Option<u8>,
     states: Option<States<'a>>,
     order: Option<NamedOrder>,
     locates: Locates<'a, B::Alloc>,
-    // the locates that are wanted, if not all are
+    // the wanted locates, or `None` for all
     set: Option<&'a LocateSet<B::Alloc>>,
 }
 
@@ -42,21 +42,21 @@ impl<'a, B: OrderBook> Model for SnapshotIter<'a, B> {
 }
 
 impl<'a, B: OrderBook> SnapshotIter<'a, B> {
-    /// An iterator over the snapshot of the whole market.
+    /// Creates an iterator over the snapshot of the complete market.
     pub fn new(market: &'a Market<B>) -> SnapshotIter<'a, B>
         ensures { result ≡ snap market.now }
     {
         SnapshotIter::of(market, None)
     }
 
-    /// An iterator over the snapshot of the market cut down to the locates of the set.
+    /// Creates an iterator over the snapshot of the market restricted to the locates of the set.
     pub fn only(market: &'a Market<B>, set: &'a LocateSet<B::Alloc>) -> SnapshotIter<'a, B>
         ensures { result ≡ snap (only (has set.now) market.now) }
     {
         SnapshotIter::of(market, Some(set))
     }
 
-    // An iterator over the snapshot of the whole market, or of the market cut down to the locates of a set.
+    // Creates an iterator over the snapshot of the complete market, or of the market restricted to the locates of a set.
     pub(crate) fn of(
         market: &'a Market<B>,
         set: Option<&'a LocateSet<B::Alloc>>,
@@ -73,7 +73,7 @@ impl<'a, B: OrderBook> SnapshotIter<'a, B> {
         }
     }
 
-    /// The number of messages still to come. It goes through them to count them.
+    /// Returns the number of remaining messages. It iterates over them to count them.
     pub fn remaining(&self) -> u64
         requires { length self.now < 2 ^ 64 }
         ensures { result ≡ length self.now }
@@ -82,7 +82,7 @@ impl<'a, B: OrderBook> SnapshotIter<'a, B> {
     }
 }
 
-/// A second iterator over the messages that are still to come. It takes no memory.
+/// Returns a second iterator over the remaining messages. It allocates no memory.
 impl<B: OrderBook> Clone for SnapshotIter<'_, B> {
     ghost is_clone = { λ messages copy. copy ≡ messages };
 
@@ -132,7 +132,7 @@ impl<'a, B: OrderBook> Iterator for SnapshotIter<'a, B> {
     }
 }
 
-// Whether a locate is wanted. Without a set all are.
+// Returns whether a locate is wanted. Without a set all are.
 fn is_wanted<A: Allocator>(set: Option<&LocateSet<A>>, locate: u16) -> bool
     ensures { result ≡ in_set set.entry locate }
 {
@@ -142,7 +142,7 @@ fn is_wanted<A: Allocator>(set: Option<&LocateSet<A>>, locate: u16) -> bool
     }
 }
 
-// The next locate that is wanted.
+// Returns the next wanted locate.
 fn next_wanted<A: Allocator>(
     locates: &mut Locates<'_, A>,
     set: Option<&LocateSet<A>>,

@@ -7,7 +7,7 @@ use itch_book::OrderBook;
 use itch_market::{Market, Security};
 use std::alloc::Allocator;
 
-/// The number of messages of a market's snapshot, without the End of Snapshot.
+/// Returns the number of messages of a market's snapshot, without the End of Snapshot.
 pub fn snapshot_len<B: OrderBook>(market: &Market<B>) -> u128
     ensures { result ≡ length (snap market.now) }
 {
@@ -20,7 +20,7 @@ pub fn snapshot_len<B: OrderBook>(market: &Market<B>) -> u128
     len
 }
 
-// How many messages a security has besides its orders.
+// Returns the number of messages of a security without its orders.
 fn security_len<A: Allocator>(security: &Security<A>) -> u128
     ensures len { result ≡ security_len security.now }
     ensures small { security_len security.now < 2 ^ 65 }

@@ -1,13 +1,13 @@
-//! Snapshots of a market: the one canonical list of messages that leads to it, written and read.
+//! Snapshots of a market: the canonical list of messages that rebuilds it, written and read.
 //!
-//! Two markets are the same exactly if their snapshots, up to End of Snapshot, have the same bytes; a market that a
-//! snapshot is replayed to has that snapshot again; and from a snapshot the rest of a feed leaves the market of the whole
-//! feed. `laws` says so.
+//! Two markets are the same if and only if their snapshots, up to End of Snapshot, have the same bytes. The snapshot of a market that was
+//! rebuilt from a snapshot is that snapshot again. And from a snapshot on, the rest of a feed results in the market of the complete feed.
+//! `laws` states these properties.
 //!
-//! - [`SnapshotIter`] gives the messages, of the whole market or of some locates; [`write_snapshot`], [`write_partial`], and
-//!   [`write_snapshot_of`] for either, write them, closed by End of Snapshot (GLIMPSE 5.0).
-//! - [`read_snapshot`] reads a snapshot file in any order, [`read_messages`] one up to its End of Snapshot, of the whole market or of some
-//!   locates, and [`SnapshotReader`] takes one message by message.
+//! - [`SnapshotIter`] iterates over the messages, of the complete market or of some locates. [`write_snapshot`], [`write_partial`], and
+//!   [`write_snapshot_of`] for either, write them, followed by End of Snapshot (GLIMPSE 5.0).
+//! - [`read_snapshot`] reads a snapshot file in any order, [`read_messages`] reads one up to its End of Snapshot, of the complete market or
+//!   of some locates, and [`SnapshotReader`] takes a snapshot message by message.
 //! - [`same_market`] and [`part_place`] compare markets.
 //!
 //! ```

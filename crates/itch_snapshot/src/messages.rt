@@ -1,4 +1,4 @@
-//! The messages that make up a snapshot.
+//! The messages of a snapshot.
 ghost use Rattle.std.specs.Prelude.{◌≡◌};
 ghost use Rattle.itch_book.specs.declared.order.Order.{Order};
 ghost use Rattle.itch_snapshot.specs.declared.named_order.NamedOrder.{NamedOrder};
@@ -9,7 +9,7 @@ use crate::named_order::NamedOrder;
 use itch_book::Placed;
 use itch_codec::{AddOrder, Alpha, AttributedAddOrder, Header, Message, Stamp};
 
-// The header of a snapshot's message.
+// Returns the header of a snapshot message.
 #[inline(always)]
 pub(crate) fn header_at(locate: u16) -> Header
     ensures { result ≡ header_at locate }
@@ -21,7 +21,7 @@ pub(crate) fn header_at(locate: u16) -> Header
     }
 }
 
-// The order with the stock of its locate.
+// Returns the order with the stock of its locate.
 #[inline(always)]
 pub(crate) fn named(stock: Alpha<8>, placed: Option<Placed<'_>>) -> Option<NamedOrder>
     ensures { result ≡ named stock placed.entry }
@@ -34,7 +34,7 @@ pub(crate) fn named(stock: Alpha<8>, placed: Option<Placed<'_>>) -> Option<Named
     })
 }
 
-// The message of a live order.
+// Returns the message of a live order.
 #[inline(always)]
 pub(crate) fn order_message<'a>(named: NamedOrder) -> Message<'a>
     ensures { result ≡ order_part named.stock named.order }

@@ -3,7 +3,7 @@
 use itch_book::Order;
 use itch_codec::Alpha;
 
-/// An order, with its locate's stock from the directory, and the place where its book has it.
+/// An order, with the stock of its locate from the directory, and its place in the book.
 #[derive(Clone, Copy)]
 pub(crate) struct NamedOrder {
     pub(crate) stock: Alpha<8>,

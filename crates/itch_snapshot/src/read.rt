@@ -1,4 +1,4 @@
-//! Snapshots from a reader.
+//! Reads snapshots from a reader.
 ghost use Rattle.std.specs.Prelude.{◌≡◌, ℕ, ◌-◌, ◌^◌, List, [], IfSome, IfOk, IfErr, MatchResult};
 ghost use Rattle.std.specs.Option.{option_copied};
 ghost use Rattle.itch_codec.specs.declared.message.Message.{Message};
@@ -22,22 +22,24 @@ use itch_frame::{BlockReader, CountedRead};
 use itch_market::{LocateSet, Market};
 use std::alloc::Allocator;
 
-/// Reads a snapshot file (GLIMPSE 5.0) into a market of its own, with the number of the first message that it does not
-/// contain. After the End of Snapshot the input ends, or a block of length 0 follows, after which nothing is read.
+/// Reads a snapshot file (GLIMPSE 5.0) into a new market, and returns it with the number of the first message that it does not contain. After
+/// the End of Snapshot the input ends, or a block of length 0 follows, after which nothing is read.
 ///
-/// `NoEnd` if the blocks end before it, `Codec` and `Rule` for the first message that is not taken, `TooManyMessages` if
-/// 10^19 - 1 messages came and no End of Snapshot, `AfterEnd` for a block after it, and `Frame` for a failed read or an
-/// unfinished block. Out of memory is `Rule` with the reason `OutOfMemory`. A fault returns no market.
+/// # Errors
+///
+/// `NoEnd` if the blocks end before the End of Snapshot, `Codec` or `Rule` for the first message that is not taken, `TooManyMessages` after
+/// 10^19 - 1 messages without an End of Snapshot, `AfterEnd` for a block after it, and `Frame` for a failed read or an unfinished block. If
+/// memory runs out, the fault is `Rule` with the reason `OutOfMemory`. A fault returns no market.
 pub fn read_snapshot<R: CountedRead, A: Allocator, B: OrderBook>(
     alloc: B::Alloc,
     reader: &mut BlockReader<R, A>,
 ) -> Result<(Market<B>, Seq), SnapFault>
-    // The file alone decides what is returned, unless a read failed or memory was refused.
+    // The result depends only on the file, unless a read failed or memory ran out.
     ensures file { IfSome (bytes_left R.remaining reader.old) (λ bytes. (ms : List Message) → (next : ℕ) → IsSnapshotFile bytes ms next
         → MatchResult result (λ done. done ≡ (laid (run ms), next)) (λ fault. ¬ IsDecidedFault fault)) }
     ensures market { IfOk result (λ done. IfSome (bytes_left R.remaining reader.old) (λ bytes. IsMarketOf bytes done)) }
     ensures fault { IfErr result (λ fault. IfSome (bytes_left R.remaining reader.old) (λ bytes. IsDecidedFault fault → IsFaultOf bytes fault)) }
-    // What was read, what was not, and what each fault means.
+    // The bytes that were read and those that were not, and the meaning of each fault.
     ensures steps { ReadsSnapshot (bytes_left R.remaining reader.old) (bytes_left R.remaining reader.new) result }
     ensures failures { MatchResult result (λ _. R.failures reader.new.reader ≡ R.failures reader.old.reader)
         (λ fault. CountsFault fault (R.failures reader.old.reader) (R.failures reader.new.reader)) }
@@ -47,10 +49,11 @@ pub fn read_snapshot<R: CountedRead, A: Allocator, B: OrderBook>(
     Ok(read)
 }
 
-/// Reads the messages of a snapshot file into a market of its own, up to its End of Snapshot, with the number of the first message that
-/// it does not contain. With a set of locates, messages at other locates change nothing. What follows the End of Snapshot is left.
+/// Reads the messages of a snapshot file into a new market, up to its End of Snapshot, and returns it with the number of the first message
+/// that it does not contain. With a set of locates, messages at other locates change nothing. The bytes after the End of Snapshot are left in
+/// the reader.
 ///
-/// The faults are those of [`read_snapshot`], but for `AfterEnd`.
+/// The faults are those of [`read_snapshot`], except for `AfterEnd`.
 pub fn read_messages<'a, R: CountedRead, A: Allocator, B: OrderBook>(
     alloc: B::Alloc,
     reader: &'a mut BlockReader<R, A>,
@@ -85,7 +88,7 @@ fn read_all<R: CountedRead, A: Allocator, B: OrderBook>(
     end_of(&stop)
 }
 
-// Takes the message after as many others as a snapshot may have: an End of Snapshot, or one message too many.
+// Takes the message after the maximum number of others: an End of Snapshot, or one message too many.
 fn read_last<R: CountedRead, A: Allocator, B: OrderBook>(
     reader: &mut BlockReader<R, A>,
     sink: &mut SnapshotSink<'_, B>,
@@ -102,7 +105,7 @@ fn read_last<R: CountedRead, A: Allocator, B: OrderBook>(
     }
 }
 
-// What is returned where the reading of the file goes no further.
+// Returns the result when the reading of the file stops.
 fn end_of(stop: &Stop<SnapshotEnd>) -> Result<Seq, SnapFault>
     ensures { result ≡ end_of stop.now }
 {
@@ -115,7 +118,7 @@ fn end_of(stop: &Stop<SnapshotEnd>) -> Result<Seq, SnapFault>
     }
 }
 
-// Reads what follows an End of Snapshot: nothing, or an empty block.
+// Reads the rest after an End of Snapshot: no bytes, or an empty block.
 fn read_end<R: CountedRead, A: Allocator>(reader: &mut BlockReader<R, A>) -> Result<(), SnapFault>
     ensures step { ReadsEnd (bytes_left R.remaining reader.old) (bytes_left R.remaining reader.new) result }
     ensures failures { MatchResult result (λ _. R.failures reader.new.reader ≡ R.failures reader.old.reader)

@@ -1,4 +1,4 @@
-//! Snapshots message by message.
+//! Reads snapshots message by message.
 ghost use Rattle.std.specs.Prelude.{◌≡◌, ℕ, ◌<◌, ◌≤◌, ◌-◌, ◌^◌, List, IfOk, IfNone};
 ghost use Rattle.itch_day.specs.Sinks.{Decodes};
 ghost use Rattle.itch_market.specs.Wanted.{has};
@@ -12,10 +12,10 @@ use itch_market::{LocateSet, Market, Refusal};
 use std::alloc::Allocator;
 use std::marker::Model;
 
-// How far a snapshot has been read.
+// The stage of reading a snapshot.
 #[derive(Clone, Copy)]
 pub(crate) enum Stage {
-    // Messages are taken.
+    // Further messages are taken.
     Taking,
     // A message was not taken. Every further one has the same fault.
     Broken(SnapFault),
@@ -24,7 +24,7 @@ pub(crate) enum Stage {
 }
 
 impl Stage {
-    // Whether a further message is taken, or its fault.
+    // Returns `Ok` if a further message can be taken, and otherwise its fault.
     pub(crate) fn open(&self) -> Result<(), SnapFault>
         ensures { result ≡ opened self.now }
     {
@@ -63,7 +63,7 @@ impl<B: OrderBook> SnapshotReader<B> {
     ghost use Rattle.itch_snapshot.specs.declared.reader.Stage.TheVariants.{Taking};
     ghost use Rattle.itch_snapshot.specs.TakenMessages.{begun, taken_after, stage_after, Loads, LoadsOnly, Finishes};
 
-    /// A reader that has taken no message yet. It takes no memory.
+    /// Creates a reader that has taken no messages yet. It allocates no memory.
     pub fn new(alloc: B::Alloc) -> Self
         ensures { result ≡ begun }
     {
@@ -74,11 +74,11 @@ impl<B: OrderBook> SnapshotReader<B> {
         }
     }
 
-    /// Takes the message of a payload: `None` for a message that was applied, `Some(next)` for the End of Snapshot.
+    /// Takes the message of a payload. Returns `None` for a message that was applied, and `Some(next)` for the End of Snapshot.
     ///
-    /// A message that is refused is `Codec`, `Rule` or `TooManyMessages`, and every later call returns the same. Out of
-    /// memory is `Rule` with the reason `OutOfMemory`; nothing has changed then, and the call may be made again. After the
-    /// End of Snapshot every call returns `AfterEnd`.
+    /// A message that is refused has the fault `Codec`, `Rule` or `TooManyMessages`, and every later call returns the same. If memory runs
+    /// out, the fault is `Rule` with the reason `OutOfMemory`; then nothing has changed, and the call may be repeated. After the End of
+    /// Snapshot every call returns `AfterEnd`.
     pub fn message(&mut self, payload: &[u8]) -> Result<Option<Seq>, SnapFault>
         ensures { Loads self.old payload.now result self.new }
     {
@@ -88,8 +88,8 @@ impl<B: OrderBook> SnapshotReader<B> {
         self.settle(taken)
     }
 
-    /// The same, restricted to a set of locates: a message about a security or an order at another locate is decoded and
-    /// counted, but checked against no rule, and changes nothing else.
+    /// Does the same, restricted to a set of locates: a message about a security or an order at another locate is decoded and counted, but no
+    /// rule is checked, and nothing else changes.
     pub fn message_only(
         &mut self,
         set: &LocateSet<B::Alloc>,
@@ -103,7 +103,7 @@ impl<B: OrderBook> SnapshotReader<B> {
         self.settle(taken)
     }
 
-    // Counts a message that was taken, keeps how far the snapshot has been read, and returns the same result.
+    // Counts a message that was taken, updates the stage, and returns the same result.
     fn settle(&mut self, taken: Result<Option<Seq>, SnapFault>) -> Result<Option<Seq>, SnapFault>
         requires room { IfOk taken (λ next. IfNone next (self.old.taken < 10 ^ 19 - 1)) }
         requires taking { self.old.stage ≡ Taking }
@@ -124,7 +124,7 @@ impl<B: OrderBook> SnapshotReader<B> {
         taken
     }
 
-    /// The number of messages taken, the End of Snapshot not counted.
+    /// Returns the number of messages taken, without the End of Snapshot.
     pub fn taken(&self) -> u64
         ensures taken { result ≡ self.now.taken }
         ensures few { self.now.taken ≤ 10 ^ 19 - 1 }
@@ -132,22 +132,22 @@ impl<B: OrderBook> SnapshotReader<B> {
         self.taken
     }
 
-    /// The market of the messages taken so far.
+    /// Returns the market of the messages taken so far.
     pub fn market(&self) -> &Market<B>
         ensures { result.now ≡ self.now.market }
     {
         &self.market
     }
 
-    /// Tells the market that look-ups follow, as [`Market::settle`] does. Nothing changes, and no memory is taken.
+    /// Prepares the market for look-ups, as [`Market::settle`] does. Nothing changes, and no memory is allocated.
     pub fn settle_market(&mut self)
         ensures { self.new ≡ self.old }
     {
         self.market.settle();
     }
 
-    /// The market and the number of the first message that it does not contain, after the End of Snapshot. Before it the
-    /// reader itself is returned.
+    /// Returns, after the End of Snapshot, the market and the number of the first message that it does not contain. Before the End of
+    /// Snapshot it returns the reader itself.
     pub fn finish(self) -> Result<(Market<B>, Seq), SnapshotReader<B>>
         ensures { Finishes self result }
     {
@@ -159,7 +159,7 @@ impl<B: OrderBook> SnapshotReader<B> {
     }
 }
 
-// Takes the message that was decoded of a payload, after `taken` others.
+// Takes the decoded message of a payload, after `taken` others.
 pub(crate) fn take<B: OrderBook>(
     market: &mut Market<B>,
     message: &Result<Message<'_>, CodecFault>,
@@ -187,7 +187,7 @@ pub(crate) fn take<B: OrderBook>(
     }
 }
 
-// The same, but a message at a locate that the set does not contain changes nothing.
+// Does the same, but a message at a locate that is not in the set changes nothing.
 pub(crate) fn take_only<B: OrderBook>(
     market: &mut Market<B>,
     set: &LocateSet<B::Alloc>,
@@ -206,7 +206,7 @@ pub(crate) fn take_only<B: OrderBook>(
     take(market, message, taken)
 }
 
-// Whether a message was decoded that is at a locate that the set does not contain.
+// Returns whether a decoded message is at a locate that is not in the set.
 fn is_skipped<A: Allocator>(set: &LocateSet<A>, message: &Result<Message<'_>, CodecFault>) -> bool
     ensures { (payload : List ℕ) → Decodes payload message.now → result ≡ is_skipped (has set.now) payload }
 {

@@ -1,4 +1,4 @@
-//! A market that is made of the messages of a snapshot file.
+//! A market that is built from the messages of a snapshot file.
 ghost use Rattle.std.specs.Prelude.{◌≡◌, ℕ, ◌≤◌, ◌-◌, ◌^◌, List};
 ghost use Rattle.itch_day.specs.Sinks.{Decodes};
 ghost use Rattle.itch_snapshot.specs.TakenMessages.{TakesFor};
@@ -10,7 +10,7 @@ use itch_codec::{CodecFault, Message, Seq};
 use itch_day::Sink;
 use itch_market::{LocateSet, Market};
 
-/// Why no further message of a snapshot file is applied.
+/// The reason why no further message of a snapshot file is applied.
 #[derive(Clone, Copy, Debug)]
 pub enum SnapshotEnd {
     /// The End of Snapshot came, with the number of the first message that the snapshot does not contain.
@@ -19,7 +19,7 @@ pub enum SnapshotEnd {
     Broken(SnapFault),
 }
 
-/// Applies the messages before the End of Snapshot, of all locates or of those of a set.
+/// Applies the messages before the End of Snapshot, of all locates or of those in a set.
 #[derive(Drop)]
 pub struct SnapshotSink<'a, B: OrderBook> {
     pub market: Market<B>,
@@ -27,7 +27,7 @@ pub struct SnapshotSink<'a, B: OrderBook> {
 }
 
 impl<'a, B: OrderBook> SnapshotSink<'a, B> {
-    /// Takes what is decoded of a message, after `taken` others.
+    /// Takes a decoded message, after `taken` others.
     #[inline(always)]
     pub fn apply(
         &mut self,

@@ -1,4 +1,4 @@
-//! What a snapshot says of a security between its directory entry and its orders.
+//! The messages of a snapshot about a security between its directory entry and its orders.
 ghost use Rattle.std.specs.Prelude.{◌≡◌, List, [], ◌∷◌, MatchOption, ⊤};
 ghost use Rattle.itch_snapshot.specs.Snapshot.{states_part};
 ghost use Rattle.itch_snapshot.specs.Cursor.{listed};
@@ -11,7 +11,7 @@ use itch_market::{Action, Halts, Positions, Security};
 use std::alloc::{AllocError, Allocator};
 use std::marker::Model;
 
-/// The messages of a security's trading states, halts and positions that are still to come.
+/// The remaining messages of a security's trading states, halts and positions.
 #[derive(Drop)]
 pub(crate) struct States<'a> {
     locate: u16,
@@ -50,7 +50,7 @@ impl Clone for States<'_> {
 }
 
 impl<'a> States<'a> {
-    /// All of them are still to come.
+    /// Creates the list of all of them.
     pub(crate) fn new<A: Allocator>(locate: u16, security: &'a Security<A>) -> States<'a>
         ensures { result ≡ states_part locate security.now }
     {
@@ -64,7 +64,7 @@ impl<'a> States<'a> {
         }
     }
 
-    /// The next of them.
+    /// Removes and returns the next message.
     pub(crate) fn take_first<'m>(&mut self) -> Option<Message<'m>>
         ensures { MatchOption result ((self.old ≡ []) × (self.new ≡ [])) (λ x. self.old ≡ x ∷ self.new) }
     {
@@ -100,7 +100,7 @@ impl<'a> States<'a> {
     }
 }
 
-// The message of a security's trading action.
+// Returns the message of a security's trading action.
 fn action_message(header: Header, stock: Alpha<8>, action: Action) -> TradingAction
     ensures { result ≡ record { header = header; stock = stock; state = action.state; reserved = 32; reason = action.reason } }
 {
@@ -114,7 +114,7 @@ fn action_message(header: Header, stock: Alpha<8>, action: Action) -> TradingAct
     }
 }
 
-// The next of them, if there are any. Once there are none, they are not asked again.
+// Removes and returns the next message, if there are any. An empty list is dropped, and not queried again.
 pub(crate) fn next_state<'m>(states: &mut Option<States<'_>>) -> Option<Message<'m>>
     ensures { MatchOption result ((listed states.old ≡ []) × (listed states.new ≡ [])) (λ x. listed states.old ≡ x ∷ listed states.new) }
 {

@@ -1,4 +1,4 @@
-//! What a program makes of a snapshot file that is refused: the status that it ends with, and the system's error behind it.
+//! The exit status of a program after a snapshot file is refused, and the system's error behind it.
 ghost use Rattle.std.specs.Prelude.{◌≡◌};
 ghost use Rattle.itch_snapshot.specs.Statuses.{snapshot_error, snapshot_status};
 
@@ -6,7 +6,7 @@ use crate::fault::SnapFault;
 use std::io;
 
 impl SnapFault {
-    /// The status that a program ends with: 1 refused, 3 read, 4 memory.
+    /// Returns the exit status of a program: 1 for a refused file, 3 for a failed read, 4 if memory ran out.
     pub fn status(&self) -> u8
         ensures { result ≡ snapshot_status self.now }
     {
@@ -17,7 +17,7 @@ impl SnapFault {
         }
     }
 
-    /// The system's own error, if a read failed.
+    /// Returns the system's own error, if a read failed.
     pub fn io_error(&self) -> Option<io::Error>
         ensures { result ≡ snapshot_error self.now }
     {

@@ -1,4 +1,4 @@
-//! Snapshots to a writer.
+//! Writes snapshots to a writer.
 ghost use Rattle.std.specs.Prelude.{◌<◌, ◌^◌, length};
 ghost use Rattle.itch_codec.specs.Messages.{spelling};
 ghost use Rattle.itch_codec.specs.Widths.{IsMessage};
@@ -16,10 +16,10 @@ use itch_codec::{Encoder, Message, Seq};
 use itch_frame::{CountedWrite, FrameFault, write_block};
 use itch_market::{LocateSet, Market};
 
-/// Writes the canonical bytes of a market and the block of an End of Snapshot with `next`, and returns the number of
-/// messages written, End of Snapshot included.
+/// Writes the canonical bytes of a market and the block of an End of Snapshot with `next`, and returns the number of messages written,
+/// including End of Snapshot.
 ///
-/// The only fault is `Frame(Write)`: the blocks before were written whole, and of this one as many bytes as the fault says.
+/// The only fault is `Frame(Write)`: the blocks before were written completely, and of the current one as many bytes as the fault states.
 pub fn write_snapshot<W: CountedWrite, B: OrderBook>(
     market: &Market<B>,
     next: Seq,
@@ -31,8 +31,8 @@ pub fn write_snapshot<W: CountedWrite, B: OrderBook>(
     Ok(write_snapshot_of(market, None, next, writer)?)
 }
 
-/// Writes the canonical bytes of a market cut down to the locates of a set and the block of an End of Snapshot with `next`,
-/// and returns the number of messages written, End of Snapshot included. The only fault is that of [`write_snapshot`].
+/// Writes the canonical bytes of a market restricted to the locates of a set and the block of an End of Snapshot with `next`, and returns the
+/// number of messages written, including End of Snapshot. The only fault is that of [`write_snapshot`].
 pub fn write_partial<W: CountedWrite, B: OrderBook>(
     market: &Market<B>,
     set: &LocateSet<B::Alloc>,
@@ -45,10 +45,10 @@ pub fn write_partial<W: CountedWrite, B: OrderBook>(
     Ok(write_snapshot_of(market, Some(set), next, writer)?)
 }
 
-/// Writes the canonical bytes of a market, cut down to the locates of a set if there is one, and the block of an End of Snapshot
-/// with `next`, and returns the number of messages written, End of Snapshot included.
+/// Writes the canonical bytes of a market, restricted to the locates of a set if there is one, and the block of an End of Snapshot with
+/// `next`, and returns the number of messages written, including End of Snapshot.
 ///
-/// The only fault is `Write`: the blocks before were written whole, and of this one as many bytes as the fault says.
+/// The only fault is `Write`: the blocks before were written completely, and of the current one as many bytes as the fault states.
 pub fn write_snapshot_of<'a, W: CountedWrite, B: OrderBook>(
     market: &'a Market<B>,
     set: Option<&'a LocateSet<B::Alloc>>,
@@ -69,7 +69,7 @@ pub fn write_snapshot_of<'a, W: CountedWrite, B: OrderBook>(
     Ok(count + 1)
 }
 
-// Writes the block of a message's spelling.
+// Writes the block of a message.
 #[inline(always)]
 fn write_message<W: CountedWrite>(
     writer: &mut W,

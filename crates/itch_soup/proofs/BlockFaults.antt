@@ -1,4 +1,4 @@
--- The faults that a block itself may have.
+-- The possible faults of a block.
 use Rattle.std.proofs.Common.{ℕ, ◌+◌, ◌==◌, Bool, true, false, List, [], ◌∷◌, length, Option, Some, None}
 use Rattle.std.specs.Prelude.{if◌then◌else◌, unwrap_or}
 use Rattle.std.specs.Option.{option_map}
@@ -79,7 +79,7 @@ pub of_block : (block : List ℕ) (from : Origin) → OfBlock (packet_fault bloc
 of_block [] from = tt
 of_block (kind ∷ rest) from = of_type (type_of kind) kind (kind ∷ rest) from
 
--- what holds for each of them holds for every fault of a block
+-- a property of each of them is a property of every fault of a block
 pub of_each : (P : SoupFault → Type 0) → P broke.EmptyPacket → ((kind : ℕ) → P (broke.UnknownType kind)) → ((kind : ℕ) → P (broke.WrongSide kind))
     → ((kind want got : ℕ) → P (broke.WrongLength kind want got)) → ((offset : ℕ) → P (broke.BadText offset)) → ((offset : ℕ) → P (broke.BadNumber offset))
     → (f : SoupFault) → OfBlock (Some f) → P f

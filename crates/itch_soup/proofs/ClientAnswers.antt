@@ -1,16 +1,16 @@
--- A client's answers to packets, and the messages that they report: the first answer, and the later ones.
+-- A client's answers to packets, and the messages in them: the first answer, and the later ones.
 use Rattle.std.proofs.Common.{◌≡◌, ℕ, ◌+◌, Bool, true, false, List, [], ◌∷◌, refl, sym, ap}
 use Rattle.itch_soup.specs.declared.client.ClientAct.{ClientAct}
 use Rattle.itch_soup.specs.declared.client.ClientAct.TheVariants as act
 use Rattle.itch_soup.specs.declared.fault.SoupFault.{SoupFault}
 use Rattle.itch_soup.specs.Fetching.{noted, numbered, Hears}
 
--- the answers report these messages, before the login was accepted or after it
+-- the answers contain these messages, before the login was accepted or after it
 abbrev pub Says : Bool → ℕ → List ClientAct → List (List ℕ) → Type 0
 Says false n acts qs = Hears acts qs
 Says true n acts qs = acts ≡ numbered n qs
 
--- the first answer, and what follows it
+-- the first answer, and those after it
 abbrev pub Next : Bool → ℕ → ClientAct → List ClientAct → List (List ℕ) → Type 0
 Next at n act.Nothing acts qs = Says at n acts qs
 Next false n (act.Accepted first) acts qs = (first ≡ 1) × Says true 1 acts qs

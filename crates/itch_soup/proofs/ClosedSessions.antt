@@ -1,4 +1,4 @@
--- A closed session stays closed.
+-- A closed session remains closed.
 use Rattle.std.proofs.Common.{◌≡◌, ℕ, ◌+◌, ◌^◌, Bool, true, false, List, [], ◌∷◌, refl, ap, ◌∙◌}
 use Rattle.std.specs.Prelude.{map, nat_lt}
 use Rattle.itch_soup.specs.declared.login.ServerConfig.{ServerConfig}
@@ -106,7 +106,7 @@ client_closed c (OnPacket packet now) h = client_closes c.next c.connection.stag
 client_closed c (OnTick now) h = client_tick c.connection now (tick_answer c.connection now) h
 client_closed c (OnSent now) h = absurd h
 
--- after an answer that closes a session, it stays closed
+-- after an answer that closes a session, it remains closed
 pub server_stays-closed : (s : Server) (call : Call) (later : List Call) → ServerCloses (server_reply s call)
     → server_replies (server_after s call) later ≡ map closed_server_reply later
 server_stays-closed s call later h = server_stays (server_after s call) later (server_closed s call h)

@@ -1,4 +1,4 @@
--- A block without a fault spells a packet.
+-- A block without a fault encodes a packet.
 use Rattle.std.proofs.Common.{◌≡◌, ℕ, Bool, true, false, cond, eqb, MatchBool, List, [], ◌∷◌, length, Option, None, Some, refl, arith}
 use Rattle.std.specs.List.{list_all}
 use Rattle.std.proofs.lemmas.Bool.{eqb-true}
@@ -28,7 +28,7 @@ size_has : (kind : ℕ) (size : Option ℕ) (byte : ℕ) (rest : List ℕ) → s
 size_has kind None byte rest h = omega arith
 size_has kind (Some size) byte rest h = eqb-true _ size (long_none kind size (byte ∷ rest) _ refl h)
 
--- a block without a fault, whose type is the packet's, spells the packet if its parts hold the packet's values
+-- a block without a fault and with the type of a packet encodes the packet if its parts hold the packet's values
 spelled_by : (packet : Packet) (kind : ℕ) (rest : List ℕ) (from : Origin) → kind ≡ (packet_type packet).kind
     → fault_by_type (Some (packet_type packet)) kind (kind ∷ rest) from ≡ None
     → (parts_fault (kind ∷ rest) (packet_type packet).parts ≡ None → HasParts (kind ∷ rest) (packet_type packet).parts (packet_values packet))
@@ -47,7 +47,7 @@ requests_by : (field : List ℕ) (n : ℕ) (b : Bool) → list_all is_space fiel
 requests_by field n true e h = let k = rw e at h in cc
 requests_by field n false e h = read-spells field n (rw e at h)
 
--- the number that is read in a field is the one that it asks for
+-- the number read from a field is the number that it requests
 requested-requests : (field : List ℕ) (n : ℕ) → requested field ≡ Some n → Requests field n
 requested-requests field n h = requests_by field n _ refl h
 

@@ -1,4 +1,4 @@
--- What is at the front ends a fetch in one way.
+-- The next bytes end a fetch in only one way.
 use Rattle.std.proofs.Common.{◌≡◌, ℕ, ◌+◌, ◌==◌, Bool, true, false, List, ◌++◌, map, length, Option, Some, None, Result, Ok, Err, refl, sym, ap, subst, ◌∙◌, inl, inr, arith}
 use Rattle.std.proofs.lemmas.Bool.Decides.{nat_tests}
 use Rattle.itch_codec.specs.Numbers.{byte_at}
@@ -35,7 +35,7 @@ Answer = Result (Content × ℕ) SoupFault
 abbrev pub so_far : List (List ℕ) → Content
 so_far ps = run (map message_of ps)
 
--- how a fetch ends at the block at the front, if it does: a function of that block and of the messages taken so far
+-- the end of a fetch at the next block, if there is one: a function of that block and of the messages taken so far
 abbrev pub by_cause : ℕ → Option Stop → Option Answer
 by_cause taken None = None
 by_cause taken (Some (stop.Codec f)) = Some (Err (broke.Snapshot (snap.Codec (taken + 1) f)))
@@ -73,7 +73,7 @@ at_block false c ps q = by_fault (packet_fault q Server) c ps q
 abbrev at_end : List ℕ → Answer
 at_end rest = ends_by (Err broke.EndedEarly) rest
 
--- a packet at the front is answered
+-- the next packet is answered
 pub answered : (enough : Bool) (c : Client) (ps : List (List ℕ)) (q : List ℕ) (packet : Packet) → enough ≡ false → PacketSpells packet q Server
     → at_block enough c ps q ≡ by_answer (client_answer c packet) ps
 answered enough c ps q packet room spelled =
@@ -113,13 +113,13 @@ refused_there f ps answer load h decided = absurd h
 started_there : (next : ℕ) → ((next ≡ 1) → ⊥) → by_start (next == 1) next ≡ Some (Err (broke.WrongStart next 1))
 started_there next wrong = let no : (next == 1) ≡ false = grind (arith, nat_tests) in ap (λ b. by_start b next) no
 
--- a fault of the block at the front
+-- a fault of the next block
 faulty_there : (enough : Bool) (c : Client) (ps : List (List ℕ)) (q rest : List ℕ) (new : Option (List ℕ)) (f : SoupFault) → IsPayload q
     → (enough ≡ false) × ReadsBlock (Some (block q ++ rest)) new (λ payload. packet_fault payload Server ≡ Some f) → at_block enough c ps q ≡ Some (Err f)
 faulty_there enough c ps q rest new f fits (room, read) =
     ap (λ b. at_block b c ps q) room ∙ ap (λ o. by_fault o c ps q) (the_block q rest new (λ payload. packet_fault payload Server ≡ Some f) fits read)
 
--- a block at the front decides
+-- the next block determines the end
 otherwise_there : (f : SoupFault) (enough : Bool) (c : Client) (ps : List (List ℕ)) (q rest : List ℕ) (new : Option (List ℕ)) (load : Load) → IsPayload q
     → EndsOtherwise enough c (load_of ps) (Some (block q ++ rest)) new f load → IsDecidedFetch (Err f) → at_block enough c ps q ≡ Some (Err f)
 otherwise_there (broke.Frame (Truncated held)) enough c ps q rest new load fits (part, count) decided = absurd (part.1 q rest fits refl)
@@ -138,7 +138,7 @@ otherwise_there (broke.Snapshot f) enough c ps q rest new load fits heard decide
 otherwise_there broke.TooManyMessages enough c ps q rest new load fits (full, read) decided = ap (λ b. at_block b c ps q) full
 otherwise_there f enough c ps q rest new load fits h decided = faulty_there enough c ps q rest new f fits h
 
--- without one, the end of the input decides, or the unfinished block
+-- without a block, the end of the input determines it, or the unfinished block
 otherwise_at_end : (f : SoupFault) (enough : Bool) (c : Client) (ps : List (List ℕ)) (b : List ℕ) (new : Option (List ℕ)) (load : Load) → HasNoBlock b
     → EndsOtherwise enough c (load_of ps) (Some b) new f load → IsDecidedFetch (Err f) → Err f ≡ at_end b
 otherwise_at_end (broke.Frame (Truncated held)) enough c ps b new load none (part, count) decided = cut_off (Err broke.EndedEarly) b held part.0 count
@@ -161,7 +161,7 @@ closed_there : (answer : ClientAct) (ps : List (List ℕ)) (done : Content × �
 closed_there (act.Data n p) ps done (number, market) = ap (λ o. by_number o ps p) number ∙ ap (λ m. Some (Ok (m, done.1))) (sym market)
 closed_there answer ps done h = absurd h
 
--- what is at the front ends the fetch
+-- the next bytes end the fetch
 abbrev pub EndsHere : Bool → Client → List (List ℕ) → List ℕ → Answer → Type 0
 EndsHere enough c ps b (Ok done) = (new : Option (List ℕ)) × AnswersPacket enough c (Some b) new (λ answer. Closes answer ps done)
 EndsHere enough c ps b (Err f) = (new : Option (List ℕ)) × (load : Load) × EndsFetch enough c (load_of ps) (Some b) new f load

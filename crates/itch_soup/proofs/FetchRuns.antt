@@ -1,4 +1,4 @@
--- A fetch goes on at some packets and ends after them, in one way.
+-- A fetch continues after some packets and ends after them, in only one way.
 use Rattle.std.proofs.Common.{◌≡◌, ℕ, ◌+◌, ◌==◌, Bool, false, List, [], ◌∷◌, ◌++◌, length, Option, Some, None, refl, sym, ap, subst, ◌∙◌, append_assoc}
 use Rattle.std.specs.Option.{option_map}
 use Rattle.itch_codec.specs.declared.message.Message.TheVariants as message
@@ -29,7 +29,7 @@ use Rattle.itch_soup.proofs.OnePacket.{same_packet}
 use Rattle.itch_soup.proofs.SessionSteps.{heard_by}
 use Rattle.itch_soup.proofs.FetchEnds.{Answer, so_far, by_cause, by_start, by_answer, at_block, answered, open_there, EndsHere, ends_there, same_end}
 
--- an answer after which the fetch goes on
+-- an answer after which the fetch continues
 abbrev pub Goes : ClientAct → List (List ℕ) → Type 0
 Goes act.Nothing ps = Unit {0}
 Goes (act.Accepted next) ps = next ≡ 1
@@ -62,7 +62,7 @@ good_then (act.Data n p) ps good (room, clean, fits) =
     subst IsGood (sym (after_more empty ps p)) (effect_good (so_far ps) (message_of p) good fits (no_reason (so_far ps) p clean))
 good_then answer ps good h = absurd h
 
--- the fetch goes on at each of these packets, and ends after them
+-- the fetch continues after each of these packets, and ends after them
 abbrev pub Run : ℕ → Client → List (List ℕ) → List Packet → List (List ℕ) → List ℕ → Answer → Type 0
 Run k c ps [] [] b r = EndsHere (is_enough k) c ps b r
 Run k c ps (packet ∷ packets) (q ∷ qs) b r =
@@ -70,7 +70,7 @@ Run k c ps (packet ∷ packets) (q ∷ qs) b r =
     × Run (k + 1) (client_after_packet c packet 0) (heard_by (client_answer c packet) ps) packets qs b r
 Run k c ps packets read b r = ⊥
 
--- it does not end at a packet after which it goes on
+-- it does not end at a packet after which it continues
 goes_no_end : (enough : Bool) (c : Client) (ps : List (List ℕ)) (packet : Packet) (q rest : List ℕ) (r : Answer) → enough ≡ false → IsPayload q → PacketSpells packet q Server → IsGood (so_far ps)
     → Goes (client_answer c packet) ps → EndsHere enough c ps (block q ++ rest) r → IsDecidedFetch r → ⊥
 goes_no_end enough c ps packet q rest r room fits spelled good goes ends decided =

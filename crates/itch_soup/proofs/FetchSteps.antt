@@ -1,4 +1,4 @@
--- A fetch step by step: what a client has received so far, and one packet more.
+-- A fetch step by step: the packets received so far, and one more.
 use Rattle.std.proofs.Common.{◌≡◌, ℕ, ◌+◌, ◌-◌, ◌^◌, ◌≤◌, true, false, List, [], ◌∷◌, ◌++◌, map, length, Option, None, Some, Result, Ok, Err, refl, sym, ap, subst, ◌∙◌, arith, length-append}
 use Rattle.std.proofs.lemmas.List.{length-map}
 use Rattle.std.specs.List.{AllByRecursion}
@@ -65,14 +65,14 @@ closes ps taken n p next applied number = record {
   closes = Spells-number p next number;
 }
 
--- packets came, and the session and the snapshot's reader took them
+-- packets arrived, and the session and the snapshot's reader took them
 pub record Hearing (start : Client) (old new : Option (List ℕ)) (count : ℕ) (c : Client) (load : Load) : Type 0 where
   pub payloads : List (List ℕ)
   pub came : Came 1 start old new count c payloads
   pub applied : Applied payloads load.taken load.market
   pub taking : load.stage ≡ Taking
 
--- at the start, none did
+-- no packets arrived at first
 pub hearing_first : (start : Client) (bytes : Option (List ℕ)) (load : Load) → start.connection.stage ≡ stage.Before → load ≡ begun → IsGood load.market → laid load.market ≡ load.market
     → Hearing start bytes bytes 0 start load
 hearing_first start bytes load before is good in_order = record {
@@ -89,7 +89,7 @@ hearing_first start bytes load before is good in_order = record {
   taking = ap (λ l. l.stage) is;
 }
 
--- one packet more came, which did not close the snapshot
+-- one more packet arrived, which did not close the snapshot
 module _ (start : Client) (old mid new : Option (List ℕ)) (count : ℕ) (c : Client) (load after : Load) (so_far : Hearing start old mid count c load) (packet : Packet) (block_read : List ℕ)
     (room : is_enough count ≡ false) (fits : IsPayload block_read) (consumed : Consumes mid new (block block_read)) (spelled : PacketSpells packet block_read Server) where
   abbrev later : Client
@@ -122,7 +122,7 @@ module _ (start : Client) (old mid new : Option (List ℕ)) (count : ℕ) (c : C
       let took = took_data payload taken loads unclosed in heard_more (so_far.payloads ++ payload ∷ []) (more (act.Data number payload) is tt) took.0 took.1
   heard_answer answer is takes = absurd takes
 
-  -- or it did close it: its message was the End of Snapshot
+  -- or it closed it: its message was the End of Snapshot
   closed_by : (payload : List ℕ) (taken : Option ℕ) → Loads load payload (Ok taken) after → true ≡ is_some taken
       → (next : ℕ) × (closing_number payload ≡ Some next) × (after.market ≡ load.market) × (after.stage ≡ Closed next)
   closed_by payload None loads closed = absurd (let no_one : ⊥ = cc in no_one)
@@ -130,7 +130,7 @@ module _ (start : Client) (old mid new : Option (List ℕ)) (count : ℕ) (c : C
       let took = subst (λ s. TakesAt s load payload (Ok (Some next)) after) so_far.taking loads in
       (next, took.0.1, took.0.0, took.2)
 
-  -- so its reader finishes
+  -- then its reader finishes
   unfinished : (payload : List ℕ) (taken : Option ℕ) → Loads load payload (Ok taken) after → true ≡ is_some taken → (back : Load) → Finishes after (Err back) → ⊥
   unfinished payload taken loads closed back finishes =
       let (next, number_is, market, at_end) = closed_by payload taken loads closed in

@@ -1,4 +1,4 @@
--- The bytes of a login and of its acceptance, and that they spell them.
+-- The bytes of a login and of its acceptance, which encode them.
 use Rattle.std.proofs.Common.{◌≡◌, ℕ, ◌+◌, ◌-◌, ◌<◌, ◌≤◌, ◌^◌, Bool, true, false, MatchBool, List, [], ◌∷◌, ◌++◌, length, take, refl, sym, ap, ◌∙◌, subst, arith, rules}
 use Rattle.std.specs.Prelude.{slice_range}
 use Rattle.std.specs.List.{list_all}
@@ -20,7 +20,7 @@ use Rattle.itch_soup.specs.Packets.{Requests, PacketSpells, packet_spelling}
 
 pub ruleset putting = (take-put_mid)
 
--- a block whose fields were written in order is their bytes
+-- a block whose fields were written in order consists of their bytes
 pub written : (named passed asked block user password session number : List ℕ) → length block ≡ 47 → take 7 named ≡ 76 ∷ user
     → take 17 passed ≡ take 7 named ++ password
     → take 27 asked ≡ take 17 passed ++ session → take 47 block ≡ take 27 asked ++ number
@@ -53,7 +53,7 @@ not_blank field left digits right n true h e =
     let rest = and_parts (list_all is_space digits) _ (sym (list_all-append is_space digits right) ∙ parts.1) in
     absurd (digits_no_spaces digits h.some_digit (search rules) rest.0)
 
--- a field that spells a number is not blank
+-- a field with a number is not blank
 spelled-not_blank : (field : List ℕ) (n : ℕ) → SpellsNumber field n → list_all is_space field ≡ false
 spelled-not_blank field n (left, digits, right, h) = not_blank field left digits right n _ h refl
 
@@ -61,12 +61,12 @@ requested_by : (field : List ℕ) (n : ℕ) (b : Bool) → list_all is_space fie
 requested_by field n true e blank h = absurd (cc)
 requested_by field n false e blank h = h
 
--- a number in twenty digits asks for itself
+-- a number in twenty digits requests that number
 dec20-requests : (n : ℕ) → n ≤ 10 ^ 19 → Requests (dec20 n) n
 dec20-requests n h =
     let spells = dec20-spells n h in requested_by (dec20 n) n _ refl (spelled-not_blank (dec20 n) n spells) spells
 
--- what is written for a login spells it
+-- the bytes written for a login encode it
 pub login-spelled : (login : LoginRequest) (block : List ℕ) → IsAlpha 6 login.username → IsAlpha 10 login.password → IsAlpha 10 login.session
     → login.number ≤ 10 ^ 19 → block ≡ packet_spelling (is.LoginRequest login) → PacketSpells (is.LoginRequest login) block Client
 login-spelled login block user password session number e =

@@ -20,7 +20,7 @@ use Rattle.itch_soup.specs.Servers.{is_user, first_asked, not_authorised, not_av
 use Rattle.itch_soup.specs.NextPackets.{is_enough}
 use Rattle.itch_soup.specs.Serving.{IsIdle, IsPassedOver, EndsWait, WaitsOn, WaitsForLogin, Wait}
 
--- one packet more may be read
+-- one more packet may be read
 pub one_more : (count : ℕ) → count ≤ 10 ^ 19 → is_enough count ≡ false → count + 1 ≤ 10 ^ 19
 one_more count few room = grind (arith, nat_tests)
 
@@ -54,7 +54,7 @@ waiting_ends old mid new count wait so_far ends = (
   subst (λ n. EndsWait (is_enough n) mid new wait) (sym so_far.counted) ends,
 )
 
--- what the server's table answers during a wait for a login
+-- the answers of the server's table during a wait for a login
 pub idle_turn : (config : ServerConfig) (total : ℕ) (packet : Packet) → IsIdle packet → server_turn config total stage.Before packet ≡ (server.Nothing, stage.Before)
 idle_turn config total (is.Debug payload) idle = refl
 idle_turn config total (is.UnsequencedData payload) idle = refl

@@ -1,4 +1,4 @@
--- Serving, with a map applied to the reader and one to the writer.
+-- Serving, with one map applied to the reader and one to the writer.
 use Rattle.std.proofs.Common.{ℕ, List, Option, Result, Ok, Err, ap}
 use Rattle.itch_frame.specs.declared.fault.FrameFault.TheVariants.{Read, Truncated, Write, TooLong}
 use Rattle.itch_frame.specs.Reading.{Reading}

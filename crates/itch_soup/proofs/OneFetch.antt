@@ -1,4 +1,4 @@
--- The bytes that answer a login end a fetch in one way.
+-- The bytes that answer a login end a fetch in only one way.
 use Rattle.std.proofs.Common.{◌≡◌, ℕ, suc, ◌+◌, ◌-◌, ◌^◌, ◌≤◌, ◌<◌, Bool, true, false, List, [], ◌∷◌, ◌++◌, map, length, Option, Some, None, Ok, Err, refl, sym, ap, subst, ◌∙◌, append_assoc, append-nil, arith, length-append}
 use Rattle.std.proofs.lemmas.Bool.Decides.{nat_tests}
 use Rattle.std.specs.List.{AllByRecursion}
@@ -77,7 +77,7 @@ closes_here (Ok done) k c ps x q bytes n p room fits spelled is closing =
     ([], [], block q ++ bytes, refl, (Some bytes, (x, (room, (q, fits, refl, spelled)), subst (λ a. Closes a ps done) (sym is) closing)))
 closes_here (Err f) k c ps x q bytes n p room fits spelled is closing = absurd closing
 
--- all that is received is these messages, and then what ends the fetch
+-- these messages are received, and then the end of the fetch
 module _ (tail all : List (List ℕ)) (b : List ℕ) (r : Answer) (close : (p : List ℕ) (rest : List (List ℕ)) → tail ≡ p ∷ rest → Closing r all p) where
   abbrev Decided : ℕ → Client → List Packet → List (List ℕ) → List (List ℕ) → List (List ℕ) → Bool → ℕ → Type 0
   Decided k c xs read ps qs at n =
@@ -170,7 +170,7 @@ received_reaches (Err f) c bytes left (payloads, Some rest, heard, none, fit, (l
     (subst (Hears (news c heard.packets)) (sym (append-nil payloads)) heard.heard)
     none fit (omega arith) refl)
 
--- the bytes end the fetch in one way
+-- the bytes end the fetch in only one way
 pub one_fetch : (c : Client) (bytes : List ℕ) (left other : Option (List ℕ)) (r s : Answer) → Receives c (Some bytes) left r → Receives c (Some bytes) other s → IsDecidedFetch r → IsDecidedFetch s → r ≡ s
 one_fetch c bytes left other r s h k decided certain = both (received_reaches r c bytes left h) (received_reaches s c bytes other k) where
   both : Reaches 0 c [] bytes r → Reaches 0 c [] bytes s → r ≡ s

@@ -1,4 +1,4 @@
--- One block spells at most one packet; what is spelled has no fault, and a block without a fault spells a packet.
+-- A block encodes at most one packet. A block that encodes a packet has no fault, and a block without a fault encodes a packet.
 use Rattle.std.proofs.Common.{◌≡◌, ℕ, ◌+◌, Bool, true, false, MatchBool, List, [], ◌∷◌, length, drop, Option, None, Some, Result, Ok, Err, refl, sym, ap, ◌∙◌, arith, rules}
 use Rattle.std.specs.Prelude.{◌==◌, if◌then◌else◌, unwrap_or, option_map}
 use Rattle.std.specs.List.{list_all}
@@ -20,7 +20,7 @@ use Rattle.itch_soup.specs.declared.packet.Packet.TheVariants as is
 use Rattle.itch_soup.specs.PacketTable.{Part, Field, Request, Rest, PacketType, type_of, sends}
 use Rattle.itch_soup.specs.Packets.{packet_type, packet_values, Requests, HasPart, HasParts, HasSize, IsPacket, PacketSpells, number_fault, requested, class_fault, part_fault, parts_fault, size_fault, fault_by_type, packet_fault}
 
--- the number in a field that spells one, or that asks for one
+-- the number in a field that holds or requests one
 abbrev pub spelled_number : List ℕ → ℕ
 spelled_number field = unwrap_or (read20 field) 0
 
@@ -58,14 +58,14 @@ requested_by : (field : List ℕ) (n : ℕ) (b : Bool) → list_all is_space fie
 requested_by field n true e h = rw e (ap Some (sym h))
 requested_by field n false e h = rw e (spells-read field n h)
 
--- a field asks for the number that is read in it
+-- a field requests the number that is read from it
 requests-requested : (field : List ℕ) (n : ℕ) → Requests field n → requested field ≡ Some n
 requests-requested field n h = requested_by field n _ refl h
 
 number_requested : (field : List ℕ) (n : ℕ) → Requests field n → n ≡ requested_number field
 number_requested field n h = sym (ap (λ found. unwrap_or found 0) (requests-requested field n h))
 
--- a packet is what is in each block that spells it
+-- a packet is the one read from each block that encodes it
 pub packet_at-spelled : (packet : Packet) (block : List ℕ) (from : Origin) → PacketSpells packet block from → packet ≡ packet_at (byte_at 0 block) block
 packet_at-spelled (is.Debug payload) block from h = rw h.first (ap is.Debug h.parts.0)
 packet_at-spelled (is.LoginAccepted login) block from h =
@@ -87,7 +87,7 @@ packet_at-spelled (is.UnsequencedData payload) block from h = rw h.first (ap is.
 packet_at-spelled is.ClientHeartbeat block from h = rw h.first refl
 packet_at-spelled is.LogoutRequest block from h = rw h.first refl
 
--- one block spells at most one packet, whichever side it came from
+-- a block encodes at most one packet, from either side
 pub same_packet : (p q : Packet) (block : List ℕ) (from other : Origin) → PacketSpells p block from → PacketSpells q block other → p ≡ q
 same_packet p q block from other h k = packet_at-spelled p block from h ∙ sym (packet_at-spelled q block other k)
 
@@ -134,14 +134,14 @@ not_empty : (packet : Packet) → HasSize (packet_type packet).size [] → ⊥
 not_empty (is.Debug payload) h = omega (arith, h)
 not_empty packet h = omega (arith, h)
 
--- what is spelled has no fault
+-- a block that encodes a packet has no fault
 pub spelled-none : (packet : Packet) (block : List ℕ) (from : Origin) → PacketSpells packet block from → packet_fault block from ≡ None
 spelled-none packet [] from h = absurd (not_empty packet h.size)
 spelled-none packet (kind ∷ rest) from h =
     ap (λ t. fault_by_type t kind (kind ∷ rest) from) (ap type_of h.first ∙ type_of-kind packet)
     ∙ typed_none (packet_type packet) kind (packet_values packet) (kind ∷ rest) from h
 
--- so a function that reads packets returns the packet that a block spells
+-- so a function that reads packets returns the packet of a block
 pub only_read : (answer : Result Packet SoupFault) (block : List ℕ) (from : Origin)
     → Reads (λ packet. PacketSpells packet block from) (packet_fault block from) answer
     → (packet : Packet) → PacketSpells packet block from → answer ≡ Ok packet

@@ -1,4 +1,4 @@
--- The bytes of a client end a wait for a login in one way.
+-- The bytes of a client end a wait for a login in only one way.
 use Rattle.std.proofs.Common.{◌≡◌, ℕ, suc, ◌+◌, ◌^◌, ◌≤◌, Bool, true, false, List, [], ◌∷◌, ◌++◌, length, Option, Some, None, Ok, Err, refl, sym, ap, subst, ◌∙◌, inl, inr, append_assoc, arith}
 use Rattle.std.proofs.lemmas.Bool.Decides.{nat_tests}
 use Rattle.std.specs.List.{AllByRecursion}
@@ -19,7 +19,7 @@ use Rattle.itch_soup.specs.Serving.{IsPassedOver, IsIdle, EndsWait, Wait, WaitsF
 use Rattle.itch_soup.proofs.OnePacket.{packet_at, packet_at-spelled, spelled-none}
 use Rattle.itch_soup.proofs.FrontBlocks.{the_block, some_block, no_bytes, ends_by, cut_off}
 
--- how a client's packet ends the wait; an ignored one does not
+-- the end of the wait at a client's packet; an ignored packet does not end it
 abbrev wait_by : Packet → Wait
 wait_by (is.LoginRequest login) = Ok (Login login)
 wait_by is.LogoutRequest = Ok Leave
@@ -43,13 +43,13 @@ spelled_wait packet q h =
 faulty_wait : (f : SoupFault) (q : List ℕ) → packet_fault q Client ≡ Some f → wait_of false q ≡ Err f
 faulty_wait f q h = ap (λ found. wait_of_fault found q) h
 
--- a packet that has a fault, where one more packet may be read
+-- a packet with a fault, if one more packet may be read
 faulty : (enough : Bool) (q rest : List ℕ) (new : Option (List ℕ)) (f : SoupFault) → IsPayload q → (enough ≡ false) × ReadsBlock (Some (block q ++ rest)) new (λ payload. packet_fault payload Client ≡ Some f)
     → Err f ≡ wait_of enough q
 faulty enough q rest new f fits (room, read) =
     sym (ap (λ b. wait_of b q) room ∙ faulty_wait f q (the_block q rest new (λ payload. packet_fault payload Client ≡ Some f) fits read))
 
--- a block at the front decides
+-- the next block determines the end
 block_wait : (enough : Bool) (q rest : List ℕ) (new : Option (List ℕ)) (wait : Wait) → IsPayload q → EndsWait enough (Some (block q ++ rest)) new wait → IsDecidedWait wait → wait ≡ wait_of enough q
 block_wait enough q rest new (Ok (Login login)) fits (room, read) decided =
     sym (ap (λ b. wait_of b q) room ∙ spelled_wait (is.LoginRequest login) q (the_block q rest new (λ payload. PacketSpells (is.LoginRequest login) payload Client) fits read))
@@ -63,7 +63,7 @@ block_wait enough q rest new (Err (broke.Frame TooLong)) fits h decided = absurd
 block_wait enough q rest new (Err broke.TooManyMessages) fits (full, read) decided = sym (ap (λ b. wait_of b q) full)
 block_wait enough q rest new (Err f) fits h decided = faulty enough q rest new f fits h
 
--- without one, the end of the input decides, or the unfinished block
+-- without a block, the end of the input determines it, or the unfinished block
 end_wait : (enough : Bool) (b : List ℕ) (new : Option (List ℕ)) (wait : Wait) → HasNoBlock b → EndsWait enough (Some b) new wait → IsDecidedWait wait → wait ≡ wait_at_end b
 end_wait enough b new (Ok (Login login)) none (room, read) decided = absurd (some_block b new _ none read)
 end_wait enough b new (Ok Leave) none (inl at_end) decided = sym (ap wait_at_end at_end)
@@ -89,7 +89,7 @@ idle_wait (is.UnsequencedData payload) idle = refl
 idle_wait is.ClientHeartbeat idle = refl
 idle_wait packet idle = absurd idle
 
--- an ignored packet ends no wait
+-- an ignored packet does not end the wait
 passed_no_end : (enough : Bool) (q rest : List ℕ) (new : Option (List ℕ)) (wait : Wait) → enough ≡ false → IsPassedOver q → EndsWait enough (Some (block q ++ rest)) new wait → IsDecidedWait wait → ⊥
 passed_no_end enough q rest new wait room (fits, (packet, spelled, idle)) ends decided =
     let is : wait ≡ Err broke.Closed = block_wait enough q rest new wait fits ends decided ∙ ap (λ b. wait_of b q) room ∙ spelled_wait packet q spelled ∙ idle_wait packet idle in
@@ -117,7 +117,7 @@ one_on k (p ∷ ps) (q ∷ qs) c d new other w v each all same few low h e decid
     one_on (k + 1) ps qs c d new other w v each.1 all.1 first.1 (omega (arith, few)) (omega (arith, low))
     (subst (λ n. EndsWait (is_enough n) (Some c) new w) left h) (subst (λ n. EndsWait (is_enough n) (Some d) other v) right e) decided certain
 
--- the bytes end the wait in one way
+-- the bytes end the wait in only one way
 pub one_wait : (bytes : List ℕ) (new other : Option (List ℕ)) (w v : Wait) → WaitsForLogin (Some bytes) new w → WaitsForLogin (Some bytes) other v → IsDecidedWait w → IsDecidedWait v → w ≡ v
 one_wait bytes new other w v (ps, None, each, consumed, few, h) k decided certain = absurd consumed
 one_wait bytes new other w v (ps, Some c, each, consumed, few, h) (qs, None, all, eaten, low, e) decided certain = absurd eaten

@@ -1,4 +1,4 @@
--- The fetch of a rest step by step: what a client has received so far, and one packet more.
+-- The fetch of a rest step by step: the packets received so far, and one more.
 use Rattle.std.proofs.Common.{◌≡◌, ℕ, ◌+◌, true, false, List, [], ◌∷◌, ◌++◌, Option, None, Some, Ok, Err, refl, sym, ap, subst, ◌∙◌}
 use Rattle.std.specs.List.{AllByRecursion}
 use Rattle.std.specs.Option.{is_some}
@@ -22,14 +22,14 @@ use Rattle.itch_soup.specs.Fetching.{after_packets}
 use Rattle.itch_soup.specs.FetchingRest.{SpellsOther, FetchedRest, KeepsAnswer, KeepsPacket, EndsRest, ReceivesRest}
 use Rattle.itch_soup.proofs.SessionSteps.{Came, came_first, came_by, heard_of, heard_by, GoesOn, only_data}
 
--- packets came, and the blocks of their messages are kept, none of which is End of Snapshot
+-- packets arrived, and the blocks of their messages are kept; none is End of Snapshot
 pub record Keeping (n : ℕ) (start : Client) (old new : Option (List ℕ)) (count : ℕ) (c : Client) (bytes : List ℕ) : Type 0 where
   pub payloads : List (List ℕ)
   pub came : Came n start old new count c payloads
   pub others : AllByRecursion SpellsOther payloads
   pub kept : bytes ≡ blocks payloads
 
--- at the start, none did
+-- no packets arrived at first
 pub keeping_first : (n : ℕ) (start : Client) (left : Option (List ℕ)) (bytes : List ℕ) → start.connection.stage ≡ stage.Before → bytes ≡ [] → Keeping n start left left 0 start bytes
 keeping_first n start left bytes before none = record { payloads = []; came = came_first n start left before; others = tt; kept = none }
 
@@ -45,7 +45,7 @@ end_by x payload spells closed = let no_one : ⊥ = cc in absurd no_one
 pushed : (bytes after : List ℕ) (payloads : List (List ℕ)) (payload : List ℕ) → bytes ≡ blocks payloads → after ≡ bytes ++ block payload → after ≡ blocks (payloads ++ payload ∷ [])
 pushed bytes after payloads payload kept added = added ∙ ap (λ t. t ++ block payload) kept ∙ sym (blocks-push payloads payload)
 
--- one packet more came
+-- one more packet arrived
 module _ (n : ℕ) (start : Client) (old mid new : Option (List ℕ)) (count : ℕ) (c : Client) (bytes after : List ℕ) (so_far : Keeping n start old mid count c bytes) (packet : Packet) (block_read : List ℕ)
     (room : is_enough count ≡ false) (fits : IsPayload block_read) (consumed : Consumes mid new (block block_read)) (spelled : PacketSpells packet block_read Server) where
   abbrev later : Client

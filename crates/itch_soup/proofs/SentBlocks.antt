@@ -1,4 +1,4 @@
--- Blocks that are sent in order.
+-- Sending blocks in order.
 use Rattle.std.proofs.Common.{◌≡◌, ℕ, ◌+◌, ◌-◌, ◌/◌, ◌%◌, List, [], ◌∷◌, ◌++◌, length, take, Option, Result, Ok, Err, refl, sym, ap, subst, ◌∙◌, append_assoc, arith, length-append}
 use Rattle.std.proofs.KnownBytes.{Appends-nil}
 use Rattle.std.proofs.Math.Seq.{take-append-add}
@@ -18,7 +18,7 @@ module _ {W : Type 0} (contents : W → Option (List ℕ)) (failures : W → Fai
   pub none_sent : (old : W) → Sends contents failures {T = Unit {0}} old [] (Ok tt) old
   none_sent old = (Appends-nil (contents old), refl)
 
-  -- one block more
+  -- one more block
   pub one_sent : (old mid new : W) (done : List (List ℕ)) (payload : List ℕ) → Sends contents failures {T = Unit {0}} old done (Ok tt) mid
       → WriteBlock contents failures mid payload (Ok tt) new → Sends contents failures {T = Unit {0}} old (done ++ payload ∷ []) (Ok tt) new
   one_sent old mid new done payload so_far wrote =
@@ -70,13 +70,13 @@ module _ {W : Type 0} (contents : W → Option (List ℕ)) (failures : W → Fai
       → Sends contents failures {T = S} old ps (Err fault) new → Sends contents failures {T = T} old (ps ++ qs) (Err fault) new
   sent_short S T old new ps qs fault wrote = short old new ps qs fault wrote
 
-  -- one block alone
+  -- a single block
   pub only_one : (old new : W) (payload : List ℕ) (result : Result (Unit {0}) FrameFault) → IsPayload payload → WriteBlock contents failures old payload result new
       → Sends contents failures old (payload ∷ []) result new
   only_one old new payload (Ok done) fits wrote = one_sent old old new [] payload (none_sent old) wrote
   only_one old new payload (Err fault) fits wrote = one_failed (Unit {0}) old old new [] payload [] (payload ∷ []) fault refl fits (none_sent old) wrote
 
-  -- a block in two parts, of which the first was written whole
+  -- a block in two parts, the first of which was written completely
   pub in_two_parts : (old mid new : W) (first second payload : List ℕ) (result : Result (Unit {0}) FrameFault) → IsPayload payload → first ++ second ≡ block payload
       → WritePart contents failures old 0 first (Ok tt) mid → WritePart contents failures mid (length first) second result new → WriteBlock contents failures old payload result new
   in_two_parts old mid new first second payload (Ok done) fits whole wrote rest =

@@ -1,4 +1,4 @@
--- The packets of a session that are sent: each fits a block, and they are written in order.
+-- Sending the packets of a session: each fits a block, and they are written in order.
 use Rattle.std.proofs.Common.{◌≡◌, ℕ, zero, suc, ◌+◌, ◌-◌, ◌<◌, ◌≤◌, nat_le, Bool, true, false, List, [], ◌∷◌, ◌++◌, map, length, drop, flat_map, Option, None, Some, Result, Ok, Err, refl, sym, ap, subst, ◌∙◌, append_assoc, append-nil, arith, length-append}
 use Rattle.std.specs.List.{AllByRecursion}
 use Rattle.std.specs.FinMap as finite
@@ -33,7 +33,7 @@ use Rattle.itch_frame.specs.declared.fault.FrameFault.{FrameFault}
 use Rattle.itch_soup.specs.Sending.{data_packet, messages, messages_from, session_packets, end_part, FitPackets, packets_for, served_packets, verdict, Sends, SendsPackets}
 use Rattle.itch_soup.proofs.SentBlocks.{none_sent, one_sent, one_failed, sent_then, sent_short}
 
--- a message that is decoded
+-- a decoded message
 abbrev pub IsDecoded : Message → Type 0
 IsDecoded x = IsKeptWhole x → ⊥
 
@@ -102,7 +102,7 @@ drop_fits zero xs fit = fit
 drop_fits (suc n) [] fit = tt
 drop_fits (suc n) (x ∷ xs) fit = drop_fits n xs fit.1
 
--- the packets of a good market's snapshot fit blocks, whatever number they are sent from
+-- the packets of a good market's snapshot fit blocks, from any number on
 pub snap_fits : (m : Content) (n : ℕ) → IsGood m → FitPackets (drop n (snap m))
 snap_fits m n good = drop_fits n (snap m) (packets_fit (snap m) (snap_messages m good) (snap_decoded m))
 
@@ -128,7 +128,7 @@ module _ {W : Type 0} (contents : W → Option (List ℕ)) (failures : W → Fai
   data_push : (seen : List Message) (x : Message) → map packet_spelling (map data_packet (seen ++ x ∷ [])) ≡ map packet_spelling (map data_packet seen) ++ packet_spelling (data_packet x) ∷ []
   data_push seen x = ap (map packet_spelling) (map-append data_packet seen (x ∷ [])) ∙ map-append packet_spelling (map data_packet seen) (data_packet x ∷ [])
 
-  -- the packets of these messages were sent, and the others are still to come
+  -- the packets of these messages were sent, and the others remain
   pub record DataSent (all : List Message) (old : W) (seen left : List Message) (count : ℕ) (new : W) : Type 0 where
     pub whole : all ≡ seen ++ left
     pub sent : SendsPackets contents failures {T = Unit {0}} old (map data_packet seen) (Ok tt) new
@@ -137,7 +137,7 @@ module _ {W : Type 0} (contents : W → Option (List ℕ)) (failures : W → Fai
   pub no_data : (all : List Message) (old : W) → DataSent all old [] all 0 old
   no_data all old = record { whole = refl; sent = none_sent contents failures old; counted = refl }
 
-  -- one message more was sent
+  -- one more message was sent
   pub data_sent : (all : List Message) (old mid new : W) (seen left rest : List Message) (count : ℕ) (x : Message) → DataSent all old seen left count mid → left ≡ x ∷ rest
       → WriteBlock contents failures mid (packet_spelling (data_packet x)) (Ok tt) new → DataSent all old (seen ++ x ∷ []) rest (count + 1) new
   data_sent all old mid new seen left rest count x so_far next wrote = record {
@@ -198,7 +198,7 @@ module _ {W : Type 0} (contents : W → Option (List ℕ)) (failures : W → Fai
     sent_with_end old mid new y result first second =
         subst (λ ps. Sends contents failures old ps result new) (sym parts) (sent_then contents failures old mid new body end y result first second)
 
--- a login is rejected, but the packet that says so was not written whole
+-- a login is rejected, but the packet of the rejection was not written completely
 pub rejected : {W : Type 0} (contents : W → Option (List ℕ)) (failures : W → Failures) (m : Content) (next : ℕ) (config : ServerConfig) (login : LoginRequest) (total code : ℕ) (answer : ServerAct × Stage)
     (fault : FrameFault) (old new : W) → total ≡ length (snap m) → answer ≡ judged config (total + 1) login → answer.0 ≡ act.Reject code
     → WriteBlock contents failures old (74 ∷ code ∷ []) (Err fault) new → WriteBlocks contents failures old (map packet_spelling (served_packets m next config login)) (Err fault) new

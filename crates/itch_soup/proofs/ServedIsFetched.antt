@@ -1,4 +1,4 @@
--- What is served is what is fetched.
+-- Fetching a served snapshot gives that snapshot.
 use Rattle.std.proofs.Common.{◌≡◌, ℕ, ◌+◌, ◌-◌, ◌^◌, ◌<◌, ◌≤◌, nat_lt, true, List, [], ◌∷◌, ◌++◌, map, length, Some, refl, sym, ap, ◌∙◌, append_assoc, append-nil, arith, length-append}
 use Rattle.std.proofs.lemmas.Bool.Decides.{nat_tests}
 use Rattle.std.proofs.lemmas.List.{map-append, length-map}
@@ -39,12 +39,12 @@ use Rattle.itch_soup.proofs.LoginBytes.{acceptance-spelled}
 use Rattle.itch_soup.proofs.SentSessions.{snap_fits, packet_fits}
 use Rattle.itch_soup.proofs.SessionNames.{server_session-fits}
 
--- what is written for an acceptance spells it
+-- the bytes written for an acceptance encode it
 pub accepted-spelled : (config : ServerConfig) (n : ℕ) → IsAlpha 10 config.session → 1 ≤ n → n ≤ 10 ^ 19
     → PacketSpells (is.LoginAccepted (acceptance config n)) (packet_spelling (is.LoginAccepted (acceptance config n))) Server
 accepted-spelled config n alpha low high = acceptance-spelled (acceptance config n) _ (server_session-fits config.session alpha) low high refl
 
--- what is written for a message spells its packet
+-- the bytes written for a message encode its packet
 data-spelled : (x : Message) → PacketSpells (data_packet x) (packet_spelling (data_packet x)) Server
 data-spelled x = record { first = refl; side = refl; size = omega arith; parts = (sym (append-nil (spelling x)), tt) }
 
@@ -52,7 +52,7 @@ pub data_packets : (xs : List Message) → FitPackets xs → ArePackets (map dat
 data_packets [] fit = tt
 data_packets (x ∷ xs) fit = ((fit.0, data-spelled x), data_packets xs fit.1)
 
--- after its acceptance a session gives each message the next number
+-- after the acceptance, a session gives each message the next number
 data_turn : (at : Stage) (next : ℕ) (payload : List ℕ) → at ≡ stage.Accepted → nat_lt next (10 ^ 19) ≡ true
     → client_turn next at (is.SequencedData payload) ≡ (act.Data next payload, stage.Accepted, next + 1)
 data_turn at next payload e k = rw e (rw k refl)
@@ -67,7 +67,7 @@ data_news c n (x ∷ xs) at next few =
     ∙ ap (λ k. act.Data k (spelling x) ∷ news later (map data_packet xs)) next
     ∙ ap (λ rest. act.Data n (spelling x) ∷ rest) (data_news later (n + 1) xs (ap (λ (t : ClientAct × Stage × ℕ). t.1) turn) (ap (λ (t : ClientAct × Stage × ℕ). t.2) turn ∙ ap (λ k. k + 1) next) (omega arith))
 
--- what is served is the packets that are heard, and then the end of the session
+-- the served packets are those that the client receives, and then the end of the session
 pub whole_answer : (first : Packet) (xs : List Message) (more : List ℕ)
     → blocks (map packet_spelling (first ∷ session_packets xs)) ++ more ≡ blocks (map packet_spelling (first ∷ map data_packet xs)) ++ (block (90 ∷ []) ++ more)
 whole_answer first xs more =
@@ -107,7 +107,7 @@ module _ (m : Content) (next : ℕ) (config : ServerConfig) (good : IsGood m) (n
     closes = Spells-spelling (message.End next) number;
   }
 
-  -- the answer to an accepted login for number 1, and anything after it, is fetched
+  -- the answer to an accepted login for number 1, followed by any bytes, is fetched
   pub served_fetched : (credentials : Credentials) (more : List ℕ) → verdict m next config (login_of (asking credentials)) ≡ server.Accept 1
       → Fetched (asking credentials) (Some (served m next config (login_of (asking credentials)) ++ more)) (Some (block (90 ∷ []) ++ more)) (laid m, next)
   unfolding closes spelling

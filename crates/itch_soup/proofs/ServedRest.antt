@@ -1,4 +1,4 @@
--- What is served from a number on is what is fetched from there.
+-- Fetching a rest that is served from a number on gives that rest.
 use Rattle.std.proofs.Common.{◌≡◌, ℕ, zero, suc, ◌+◌, ◌-◌, ◌^◌, ◌<◌, ◌≤◌, List, [], ◌∷◌, ◌++◌, map, length, take, drop, None, Some, refl, sym, ap, ◌∙◌, arith}
 use Rattle.std.proofs.lemmas.List.{map-append, length-map, length-drop, drop-append-le, take-append-drop}
 use Rattle.std.specs.List.{AllByRecursion}
@@ -35,7 +35,7 @@ use Rattle.itch_soup.specs.FetchingRest.{SpellsOther, SpellsRest, FetchedRest}
 use Rattle.itch_soup.proofs.SentSessions.{drop_fits}
 use Rattle.itch_soup.proofs.ServedIsFetched.{accepted-spelled, data_packets, data_news, whole_answer, all_fit, count}
 
--- messages that follow the order rules are no End of Snapshot
+-- messages that follow the order rules are not End of Snapshot
 no_number : (m : Content) (x : Message) → reason m x ≡ None → number_in x ≡ None
 no_number m (message.End next) follows = let no_one : ⊥ = cc in absurd no_one
 no_number m x follows = refl
@@ -82,7 +82,7 @@ module _ (m : Content) (next n : ℕ) (config : ServerConfig) (good : IsGood m) 
     closes = Spells-spelling last number;
   }
 
-  -- the answer to a login that is accepted from the number that it asks for, and anything after it, is fetched
+  -- the answer to a login that is accepted from the requested number, followed by any bytes, is fetched
   pub served_rest : (credentials : Credentials) (more : List ℕ) → verdict m next config (login_of (asking_from n credentials)) ≡ server.Accept n
       → FetchedRest n (asking_from n credentials) (Some (served m next config (login_of (asking_from n credentials)) ++ more)) (Some (block (90 ∷ []) ++ more)) (blocks (map spelling (messages_from n m next)))
   unfolding closes spelling
@@ -106,7 +106,7 @@ module _ (m : Content) (next n : ℕ) (config : ServerConfig) (good : IsGood m) 
         ),
       )
 
--- the blocks before a number, and those from there on
+-- the blocks before a number, and those from that number on
 pub rest_joined : (m : Content) (next n : ℕ) → IsGood m
     → blocks (map spelling (take (n - 1) (messages m next))) ++ blocks (map spelling (messages_from n m next)) ≡ canon (laid m) ++ closing next
 rest_joined m next n good =

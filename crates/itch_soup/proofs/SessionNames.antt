@@ -16,7 +16,7 @@ use Rattle.itch_soup.specs.Names.{session_name, server_session}
 abbrev spaces : ℕ → List ℕ
 spaces n = replicate n 32
 
--- a field without the spaces at its end is its front
+-- a field without the spaces at its end is a prefix of it
 before_spaces-take : (field : List ℕ) → prefix_len is_space (reverse field) ≤ length field
     → before_spaces field ≡ take (length field - prefix_len is_space (reverse field)) field
 unfolding before_spaces after_spaces
@@ -51,7 +51,7 @@ name_within field =
     let name = length-drop (prefix_len is_space (before_spaces field)) (before_spaces field) in
     omega (arith, front, name, length-reverse (after_spaces (reverse field)), length-reverse field)
 
--- a name with spaces on either side is a text of the field's width
+-- a name with spaces on either side is a text with the width of the field
 pub padded_to-fits : (width : ℕ) (name : List ℕ) → length name ≤ width → IsPrintable name → IsAlpha width (padded_to width name)
 padded_to-fits width name within printable =
     let room = width - length name in (
@@ -74,7 +74,7 @@ server_session-fits field (width, printable) =
     let within = name_within field in
     padded_on_left-fits 10 (session_name field) (omega (arith, within, width)) (name_printable field printable)
 
--- a test that is true exactly if two texts are equal
+-- a condition that holds if and only if two texts are equal
 pub tested-bytes_eq : (test : Bool) (text other : List ℕ) → IsTrue test ↔ (text ≡ other) → test ≡ bytes_eq text other
 tested-bytes_eq test text other h = same_from_decides _ _ h (bytes_eq-Decides text other)
 

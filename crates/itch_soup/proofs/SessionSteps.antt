@@ -1,4 +1,4 @@
--- A session step by step: the packets that came after a login for the messages from some number on, and one packet more.
+-- A session step by step: the packets that arrived after a login for the messages from some number on, and one more.
 use Rattle.std.proofs.Common.{◌≡◌, ℕ, ◌+◌, ◌^◌, ◌≤◌, nat_lt, Bool, true, false, List, [], ◌∷◌, ◌++◌, length, drop, Option, refl, sym, ap, subst, ◌∙◌, append-nil, arith, length-append}
 use Rattle.std.proofs.lemmas.List.{length-drop}
 use Rattle.std.specs.List.{AllByRecursion}
@@ -19,7 +19,7 @@ use Rattle.itch_soup.specs.NextPackets.{is_enough}
 use Rattle.itch_soup.specs.Fetching.{ArePackets, noted, news, after_packets, numbered, HearsFrom, HeardFrom}
 use Rattle.itch_soup.proofs.LoginWaits.{one_more}
 
--- what a turn of a session means for its stage and number
+-- the effect of a turn of a session on its stage and number
 abbrev pub Shows : Packet → Stage → ℕ → ClientAct → Stage → ℕ → Type 0
 Shows packet at next act.Nothing later number = (later ≡ at) × (number ≡ next)
 Shows packet at next (act.Accepted first) later number = (at ≡ stage.Before) × (later ≡ stage.Accepted) × (number ≡ first)
@@ -47,7 +47,7 @@ turn_shows stage.Accepted next is.ServerHeartbeat = (refl, refl)
 turn_shows stage.Accepted next (is.UnsequencedData payload) = (refl, refl)
 turn_shows at next packet = tt
 
--- one packet more
+-- one more packet
 noted-append : (answer : ClientAct) (xs ys : List ClientAct) → noted answer (xs ++ ys) ≡ noted answer xs ++ ys
 noted-append act.Nothing xs ys = refl
 noted-append answer xs ys = refl
@@ -75,7 +75,7 @@ packets-push [] (q ∷ qs) packet payload spelled fits last = absurd spelled
 packets-push (p ∷ ps) [] packet payload spelled fits last = absurd spelled
 packets-push (p ∷ ps) (q ∷ qs) packet payload spelled fits last = (spelled.0, packets-push ps qs packet payload spelled.1 fits last)
 
--- the stage of a session that asked for the messages from number n on, by what it has received
+-- the stage of a session that requested the messages from number n on, from the packets that it has received
 abbrev Phase : ℕ → Stage → ℕ → List ClientAct → List (List ℕ) → Type 0
 Phase n stage.Before next acts payloads = (acts ≡ []) × (payloads ≡ [])
 Phase n stage.Accepted next acts payloads = (acts ≡ act.Accepted n ∷ numbered n payloads) × (next ≡ n + length payloads)
@@ -86,7 +86,7 @@ hears n stage.Before next acts payloads (nothing, none) = subst (λ answers. Hea
 hears n stage.Accepted next acts payloads (all, number) = subst (λ answers. HearsFrom n answers payloads) (sym all) refl
 hears n stage.Closed next acts payloads h = absurd h
 
--- packets came, and what they mean is nothing yet, or an acceptance from number n and these messages
+-- packets arrived, and their meaning is nothing yet, or an acceptance from number n and these messages
 pub record Came (n : ℕ) (start : Client) (old new : Option (List ℕ)) (count : ℕ) (c : Client) (payloads : List (List ℕ)) : Type 0 where
   pub packets : List Packet
   pub read : List (List ℕ)
@@ -98,7 +98,7 @@ pub record Came (n : ℕ) (start : Client) (old new : Option (List ℕ)) (count 
   pub session : c ≡ after_packets start packets
   pub phase : Phase n c.connection.stage c.next (news start packets) payloads
 
--- at the start, none did
+-- no packets arrived at first
 pub came_first : (n : ℕ) (start : Client) (bytes : Option (List ℕ)) → start.connection.stage ≡ stage.Before → Came n start bytes bytes 0 start []
 came_first n start bytes before = record {
   packets = [];
@@ -166,7 +166,7 @@ only_data c packet number payload said =
     let later = client_after_packet c packet 0 in
     (subst (λ a. Shows packet c.connection.stage c.next a later.connection.stage later.next) said (turn_shows c.connection.stage c.next packet)).4
 
--- one packet more came
+-- one more packet arrived
 module _ (n : ℕ) (start : Client) (old mid new : Option (List ℕ)) (count : ℕ) (c : Client) (payloads : List (List ℕ)) (so_far : Came n start old mid count c payloads) (packet : Packet) (block_read : List ℕ)
     (room : is_enough count ≡ false) (fits : IsPayload block_read) (consumed : Consumes mid new (block block_read)) (spelled : PacketSpells packet block_read Server) where
   abbrev later : Client

@@ -1,4 +1,4 @@
--- All bytes that answer a login end a fetch.
+-- Any bytes that answer a login end a fetch.
 use Rattle.std.proofs.Common.{◌≡◌, ℕ, zero, suc, ◌+◌, ◌<◌, ◌⊎◌, ◌==◌, Bool, true, false, List, [], ◌∷◌, ◌++◌, length, drop, Option, Some, None, Result, Ok, Err, refl, sym, ap, subst, ◌∙◌, inl, inr, arith, length-append}
 use Rattle.std.proofs.lemmas.Bool.{eqb-true, eqb-false}
 use Rattle.std.specs.Prelude.{if◌then◌else◌}
@@ -44,7 +44,7 @@ use Rattle.itch_soup.proofs.FetchSteps.{Hearing, hearing_first, hearing_on, hear
 use Rattle.itch_soup.proofs.SessionSteps.{Shows, turn_shows}
 use Rattle.itch_soup.proofs.BlockFaults.{OfBlock, of_block, of_each}
 
--- a session's own faults are decided by what is received
+-- a session's own faults depend only on the received bytes
 abbrev DecidedTurn : ClientAct → Type 0
 DecidedTurn (act.Fault f) = IsDecidedFetch (Err f)
 DecidedTurn answer = Unit {0}
@@ -211,7 +211,7 @@ answered (suc fuel) start bytes rest count c load held short so_far = by_outcome
   by_outcome (inr (inr (new, later, after, f, step, decided))) on =
       (new, Err f, hearing_ends start (Some bytes) (Some rest) new count c later load after f so_far step, decided)
 
--- all bytes end a fetch, with no failed read and with memory enough
+-- any bytes end a fetch, without a failed read and with enough memory
 pub some_fetch : (start : Client) (bytes : List ℕ) → start.connection.stage ≡ stage.Before → AreBytes bytes → Answered start bytes
 unfolding book.lay
 some_fetch start bytes before are =

@@ -1,4 +1,4 @@
--- All bytes of a client end a wait for a login.
+-- Any bytes of a client end a wait for a login.
 use Rattle.std.proofs.Common.{◌≡◌, ℕ, zero, suc, ◌+◌, ◌<◌, ◌⊎◌, Bool, true, false, List, [], ◌∷◌, ◌++◌, length, Option, Some, None, Ok, Err, refl, sym, subst, inl, inr, arith, rules, length-append}
 use Rattle.itch_frame.specs.Blocks.{IsPayload, block, HasNoBlock}
 use Rattle.itch_frame.specs.declared.fault.FrameFault.TheVariants.{Truncated}
@@ -78,6 +78,6 @@ found (suc fuel) bytes rest count short so_far = by_outcome (outcome (is_enough 
   by_outcome (inl (more, step, less)) on = on more (count + 1) (omega (arith, short, less)) (waiting_on (Some bytes) (Some rest) (Some more) count so_far step)
   by_outcome (inr (new, wait, ends, decided)) on = (new, wait, waiting_ends (Some bytes) (Some rest) new count wait so_far ends, decided)
 
--- all bytes end a wait, with no failed read
+-- any bytes end a wait, without a failed read
 pub some_wait : (bytes : List ℕ) → Found bytes
 some_wait bytes = found (suc (length bytes)) bytes bytes 0 (omega arith) (waiting_first (Some bytes))

@@ -1,4 +1,4 @@
--- Texts that are refused: the first byte that is not printable.
+-- Texts that are not accepted: the first byte that is not printable.
 use Rattle.std.proofs.Common.{◌≡◌, ℕ, ◌<◌, Bool, true, false, not, ltb, List, length, Option, None, Some, refl, arith}
 use Rattle.std.specs.Prelude.{option_map}
 use Rattle.std.proofs.lemmas.Bool.Decides.{nat_tests}
@@ -22,7 +22,7 @@ found_lt : (bytes : List ℕ) (place : ℕ) (found : Option ℕ) → first_unpri
 found_lt bytes place None e h = absurd (cc)
 found_lt bytes place (Some other) e h = let same : other ≡ place = cc in first_unprintable-lt bytes place (cc)
 
--- so is the one that a refused text names
+-- so is the position in the fault of a text
 pub not_printable-lt : (bytes : List ℕ) (place : ℕ) → option_map NotPrintable (first_unprintable bytes) ≡ Some (NotPrintable place) → place < length bytes
 not_printable-lt bytes place h = found_lt bytes place (first_unprintable bytes) refl h
 

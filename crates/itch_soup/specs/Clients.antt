@@ -15,8 +15,7 @@ use Rattle.itch_soup.specs.Packets.{packet_type}
 use Rattle.itch_soup.specs.Names.{client_session}
 use Rattle.itch_soup.specs.Connections.{opened, after_packet, after_tick, after_sent}
 
--- a client's session: what it logs in with, the first number that it asks for, the number of the next message, and the
--- state of its connection
+-- a client's session: its credentials, the first number that it requests, the number of the next message, and the state of its connection
 pub record Client : Type 0 where
   pub credentials : Credentials
   pub from : ℕ
@@ -52,7 +51,7 @@ client_turn next stage.Accepted (is.LoginAccepted login) = (act.Fault fault.Seco
 client_turn next stage.Accepted (is.LoginRejected code) = (act.Fault fault.SecondLogin, stage.Closed, next)
 client_turn next at packet = (act.Fault (fault.WrongSide (packet_type packet).kind), stage.Closed, next)
 
--- a session that begins at this time, and asks for the messages from this number on
+-- a session that begins at this time, and requests the messages from this number on
 abbrev pub new_client : Credentials → ℕ → ℕ → Client
 new_client credentials from now = record { credentials = credentials; from = from; next = from; connection = opened now }
 

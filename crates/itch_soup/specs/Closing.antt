@@ -1,4 +1,4 @@
--- Sessions over lists of calls: once closed, a session stays closed.
+-- Sessions over lists of calls: a closed session remains closed.
 use Rattle.std.specs.Prelude.{ℕ, List, [], ◌∷◌}
 use Rattle.itch_soup.specs.declared.packet.Packet.{Packet}
 use Rattle.itch_soup.specs.declared.fault.SoupFault.TheVariants as fault
@@ -12,7 +12,7 @@ use Rattle.itch_soup.specs.Connections.{tick_answer}
 use Rattle.itch_soup.specs.Servers.{Server, server_answer, server_after_packet, server_after_tick, server_after_sent}
 use Rattle.itch_soup.specs.Clients.{Client, client_answer, client_after_packet, client_after_tick, client_after_sent}
 
--- what a caller of a session does, and when
+-- a call of a session, with its time
 pub data Call : Type 0 where
   OnPacket : (packet : Packet) (now : ℕ) → Call
   OnTick : (now : ℕ) → Call

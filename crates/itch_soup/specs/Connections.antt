@@ -1,4 +1,4 @@
--- What is due in a session as time passes (SoupBinTCP 3.00, "Heartbeats"). Times are in milliseconds.
+-- The actions that are due in a session as time passes (SoupBinTCP 3.00, "Heartbeats"). Times are in milliseconds.
 use Rattle.std.specs.Prelude.{ℕ, ◌-◌, nat_le, nat_lt, Bool, true, false}
 use Rattle.itch_soup.specs.declared.connection.Stage.{Stage}
 use Rattle.itch_soup.specs.declared.connection.Stage.TheVariants as stage
@@ -10,7 +10,7 @@ use Rattle.itch_soup.specs.declared.connection.Connection.{Connection}
 abbrev pub opened : ℕ → Connection
 opened now = record { stage = stage.Before; heard = now; sent = now }
 
--- nothing was received for 15,000 ms or more; before the last time that something was, 0 ms count as passed
+-- nothing was received for 15,000 ms or more; at a time before the last receipt, 0 ms count as passed
 abbrev pub is_silent : Connection → ℕ → Bool
 is_silent c now = nat_le 15000 (now - c.heard)
 
@@ -18,14 +18,14 @@ is_silent c now = nat_le 15000 (now - c.heard)
 abbrev pub is_idle : Connection → ℕ → Bool
 is_idle c now = nat_lt 1000 (now - c.sent)
 
--- what is due by the stage, and by whether the other side is silent and this one idle
+-- the due action, depending on the stage, on whether the other side is silent and on whether this side is idle
 abbrev pub tick_by : Stage → Bool → Bool → Tick
 tick_by stage.Closed silent idle = tick.Nothing
 tick_by stage true idle = tick.Lost
 tick_by stage.Accepted false true = tick.Heartbeat
 tick_by stage false idle = tick.Nothing
 
--- what is due at this time
+-- the action that is due at this time
 abbrev pub tick_answer : Connection → ℕ → Tick
 tick_answer c now = tick_by c.stage (is_silent c now) (is_idle c now)
 

@@ -1,4 +1,4 @@
--- A snapshot fetched in one session: what a client receives after its login, and what it makes of it.
+-- Fetching a snapshot in one session: the packets that a client receives after its login, and the result.
 use Rattle.std.specs.Prelude.{OnOk, ◌≡◌, ◌≢◌, ℕ, ◌+◌, ◌-◌, ◌^◌, ◌≤◌, ◌⊎◌, Bool, false, List, [], ◌∷◌, ◌++◌, map, length, ⊤, Option, None, Some, Result, Ok, Err}
 use Rattle.std.specs.List.{AllByRecursion}
 use Rattle.std.specs.Option.{is_some}
@@ -34,11 +34,11 @@ use Rattle.itch_soup.specs.Clients.{Client, new_client, login_of, client_answer,
 use Rattle.itch_soup.specs.NextPackets.{is_enough, PacketHere}
 use Rattle.itch_soup.specs.Serving.{CountsWait}
 
--- a client that asks for the messages from this number on
+-- a client that requests the messages from this number on
 abbrev pub asking_from : ℕ → Credentials → Client
 asking_from n credentials = new_client credentials n 0
 
--- a client that asks for all messages
+-- a client that requests all messages
 abbrev pub asking : Credentials → Client
 asking credentials = asking_from 1 credentials
 
@@ -46,11 +46,11 @@ asking credentials = asking_from 1 credentials
 abbrev pub login_bytes_of : Client → List ℕ
 login_bytes_of c = packet_spelling (is.LoginRequest (login_of c))
 
--- those of one that asks for all messages
+-- the bytes of the login of a client that requests all messages
 abbrev pub login_bytes : Credentials → List ℕ
 login_bytes credentials = login_bytes_of (asking credentials)
 
--- each block, from the server, spells the packet at its place
+-- each block, from the server, encodes the packet at its position
 abbrev pub ArePackets : List Packet → List (List ℕ) → Type 0
 ArePackets [] [] = Unit {0}
 ArePackets (packet ∷ packets) (payload ∷ payloads) = (IsPayload payload × PacketSpells packet payload Server) × ArePackets packets payloads
@@ -61,7 +61,7 @@ abbrev pub noted : ClientAct → List ClientAct → List ClientAct
 noted act.Nothing later = later
 noted answer later = answer ∷ later
 
--- what a session answers to packets, in order, without the answers that mean nothing
+-- the answers of a session to packets, in order, without those that mean nothing
 abbrev pub news : Client → List Packet → List ClientAct
 news c [] = []
 news c (packet ∷ packets) = noted (client_answer c packet) (news (client_after_packet c packet 0) packets)
@@ -71,12 +71,12 @@ abbrev pub after_packets : Client → List Packet → Client
 after_packets c [] = c
 after_packets c (packet ∷ packets) = after_packets (client_after_packet c packet 0) packets
 
--- messages with the numbers from n on
+-- messages with consecutive numbers from n on
 abbrev pub numbered : ℕ → List (List ℕ) → List ClientAct
 numbered n [] = []
 numbered n (payload ∷ payloads) = act.Data n payload ∷ numbered (n + 1) payloads
 
--- nothing yet; or the login is accepted from this number, and then these messages come
+-- nothing yet; or the login is accepted from this number, followed by these messages
 abbrev pub HearsFrom : ℕ → List ClientAct → List (List ℕ) → Type 0
 HearsFrom n [] payloads = payloads ≡ []
 HearsFrom n answers payloads = answers ≡ act.Accepted n ∷ numbered n payloads
@@ -85,7 +85,7 @@ HearsFrom n answers payloads = answers ≡ act.Accepted n ∷ numbered n payload
 abbrev pub Hears : List ClientAct → List (List ℕ) → Type 0
 Hears answers payloads = HearsFrom 1 answers payloads
 
--- packets came off the front, and what they mean is an acceptance from this number and these messages
+-- packets came off the front, and their meaning is an acceptance from this number and these messages
 pub record HeardFrom (n : ℕ) (c : Client) (old new : Option (List ℕ)) (payloads : List (List ℕ)) : Type 0 where
   pub packets : List Packet
   pub read : List (List ℕ)
@@ -98,8 +98,8 @@ pub record HeardFrom (n : ℕ) (c : Client) (old new : Option (List ℕ)) (paylo
 abbrev pub Heard : Client → Option (List ℕ) → Option (List ℕ) → List (List ℕ) → Type 0
 Heard c old new payloads = HeardFrom 1 c old new payloads
 
--- the payloads spell these messages, which follow the order rules (so that none is End of Snapshot), and then an End of
--- Snapshot with this number
+-- the payloads encode these messages, which follow the order rules (so that none is End of Snapshot), and then an End of Snapshot with this
+-- number
 pub record SpellsSnapshot (payloads : List (List ℕ)) (ms : List Message) (next : ℕ) : Type 0 where
   pub before : List (List ℕ)
   pub last : List ℕ
@@ -109,18 +109,18 @@ pub record SpellsSnapshot (payloads : List (List ℕ)) (ms : List Message) (next
   pub few : length ms ≤ 10 ^ 19 - 1
   pub closes : Spells (message.End next) last
 
--- the last packet read is the one with this message, so that nothing after it was read
+-- the last packet read is the one with this message, so nothing after it was read
 abbrev pub IsLast : List Packet → List ℕ → Type 0
 IsLast packets payload = (before : List Packet) × (packets ≡ before ++ is.SequencedData payload ∷ [])
 
--- the messages received are those of a snapshot and its End of Snapshot, and nothing after it was read
+-- the received messages are those of a snapshot and its End of Snapshot, and nothing after them was read
 abbrev pub Fetched : Client → Option (List ℕ) → Option (List ℕ) → Content × ℕ → Type 0
 Fetched c old new done =
     (payloads : List (List ℕ)) × (heard : Heard c old new payloads)
     × ((ms : List Message) × (snapshot : SpellsSnapshot payloads ms done.1) × AllByRecursion IsMessage ms × (done.0 ≡ laid (run ms))
     × IsLast heard.packets snapshot.last)
 
--- a packet came off the front, and the session's answer to it is so
+-- a packet came off the front, and this holds for the session's answer to it
 abbrev pub AnswersPacket : Bool → Client → Option (List ℕ) → Option (List ℕ) → (ClientAct → Type 0) → Type 0
 AnswersPacket enough c old new P =
     (packet : Packet) × PacketHere Server enough old new (Ok (Some packet)) × P (client_answer c packet)
@@ -130,8 +130,8 @@ abbrev pub IsRefused : Load → ClientAct → Load → Result (Option ℕ) SoupF
 IsRefused old (act.Data number payload) new (Err (Snapshot fault)) = Loads old payload (Err fault) new
 IsRefused old answer new result = ⊥
 
--- why messages from a number on are no longer received, if the session finds no fault: what is at the front, where a message is
--- refused as `Refuses` says
+-- the reason why no more messages from a number on are received, if the session finds no fault: the next bytes, where `Refuses` states which
+-- messages are refused
 abbrev pub EndsFrom : ℕ → (ClientAct → SnapFault → Type 0) → Bool → Client → Option (List ℕ) → Option (List ℕ) → SoupFault → Type 0
 EndsFrom n Refuses enough c old new EndedEarly = PacketHere Server enough old new (Ok None) ⊎ AnswersPacket enough c old new (λ answer. answer ≡ act.Ended)
 EndsFrom n Refuses enough c old new (Rejected code) = AnswersPacket enough c old new (λ answer. answer ≡ act.Rejected code)
@@ -139,16 +139,16 @@ EndsFrom n Refuses enough c old new (WrongStart next asked) = AnswersPacket enou
 EndsFrom n Refuses enough c old new (Snapshot fault) = AnswersPacket enough c old new (λ answer. Refuses answer fault)
 EndsFrom n Refuses enough c old new fault = PacketHere Server enough old new (Err fault)
 
--- why a fetch ends without a snapshot, if the session finds no fault: what is at the front, and how it is taken
+-- the reason why a fetch ends without a snapshot, if the session finds no fault: the next bytes, and how they are taken
 abbrev pub EndsOtherwise : Bool → Client → Load → Option (List ℕ) → Option (List ℕ) → SoupFault → Load → Type 0
 EndsOtherwise enough c load old new fault after = EndsFrom 1 (λ answer why. IsRefused load answer after (Err (Snapshot why))) enough c old new fault
 
--- why a fetch ends without a snapshot
+-- the reason why a fetch ends without a snapshot
 abbrev pub EndsFetch : Bool → Client → Load → Option (List ℕ) → Option (List ℕ) → SoupFault → Load → Type 0
 EndsFetch enough c load old new fault after =
     AnswersPacket enough c old new (λ answer. answer ≡ act.Fault fault) ⊎ EndsOtherwise enough c load old new fault after
 
--- what an answer does to the snapshot's reader, and whether the snapshot is closed then
+-- the effect of an answer on the snapshot's reader, and whether the snapshot is closed then
 abbrev pub TakesAnswer : ClientAct → Load → Bool → Load → Type 0
 TakesAnswer act.Nothing old closed new = (closed ≡ false) × (new ≡ old)
 TakesAnswer (act.Accepted next) old closed new = (next ≡ 1) × (closed ≡ false) × (new ≡ old)
@@ -166,32 +166,32 @@ TakesPacket enough c load old new (Err fault) c_after load_after = EndsFetch eno
 abbrev pub load_of : List (List ℕ) → Load
 load_of payloads = record { taken = length payloads; market = laid (run (map message_of payloads)); stage = Taking }
 
--- what is read after the login: a snapshot; or messages that follow the order rules, and then something that ends the fetch
+-- the result of reading after the login: a snapshot; or messages that follow the order rules, and then the end of the fetch
 abbrev pub Receives : Client → Option (List ℕ) → Option (List ℕ) → Result (Content × ℕ) SoupFault → Type 0
 Receives c old new (Ok done) = Fetched c old new done
 Receives c old new (Err fault) =
     (payloads : List (List ℕ)) × (mid : Option (List ℕ)) × (heard : Heard c old mid payloads) × NoCause empty payloads × AllByRecursion Fits payloads
     × ((load : Load) × EndsFetch (is_enough (length heard.packets)) (after_packets c heard.packets) (load_of payloads) mid new fault load)
 
--- what is read after a login was written, as `Reads` says; or it was not written, and nothing is read
+-- the result of reading after a login was written, as `Reads` states; or the login was not written, and nothing is read
 abbrev pub ReadsAfterLogin : {R T : Type 0} → (R → Option (List ℕ)) → (R → Failures) → (Option (List ℕ) → Option (List ℕ) → Result T SoupFault → Type 0) → Result (Unit {0}) FrameFault → Reading R → Result T SoupFault → Reading R → Type 0
 ReadsAfterLogin remaining reads Reads (Ok done) reader result reader_after =
     Reads (bytes_left remaining reader) (bytes_left remaining reader_after) result × CountsWait result (reads reader.reader) (reads reader_after.reader)
     × OnOk result (reader_after.held ≡ [])
 ReadsAfterLogin remaining reads Reads (Err fault) reader result reader_after = (result ≡ Err (Frame fault)) × (reader_after ≡ reader)
 
--- what a fetch does after the login was written, or was not
+-- the result of a fetch after the login was written, or was not
 abbrev pub FetchesAfterLogin : {R : Type 0} → (R → Option (List ℕ)) → (R → Failures) → Credentials → Result (Unit {0}) FrameFault → Reading R → Result (Content × ℕ) SoupFault → Reading R → Type 0
 FetchesAfterLogin remaining reads credentials sent reader result reader_after =
     ReadsAfterLogin remaining reads (Receives (asking credentials)) sent reader result reader_after
 
--- what a fetch does: the login is written, and then its answer is read
+-- the result of a fetch: the login is written, and then its answer is read
 abbrev pub Fetches : {R W : Type 0} → (R → Option (List ℕ)) → (R → Failures) → (W → Option (List ℕ)) → (W → Failures) → Credentials → Reading R → W → Result (Content × ℕ) SoupFault → Reading R → W → Type 0
 Fetches remaining reads contents writes credentials reader writer result reader_after writer_after =
     (sent : Result (Unit {0}) FrameFault) × WriteBlock contents writes writer (login_bytes credentials) sent writer_after
     × FetchesAfterLogin remaining reads credentials sent reader result reader_after
 
--- the bytes alone decide: no read and no write failed, and memory was not refused
+-- the result depends only on the bytes: no read and no write failed, and memory did not run out
 abbrev pub IsDecidedFetch : Result (Content × ℕ) SoupFault → Type 0
 IsDecidedFetch (Err (Frame fault)) = IsDecided (stop.Frame fault)
 IsDecidedFetch (Err (Snapshot fault)) = IsDecidedFault fault

@@ -1,4 +1,4 @@
--- The rest of a snapshot, fetched in one session: its messages from a number on, as they came.
+-- Fetching the rest of a snapshot in one session: its messages from a number on, as received.
 use Rattle.std.specs.Prelude.{◌≡◌, ℕ, ◌⊎◌, Bool, false, List, ◌∷◌, [], ◌++◌, length, Option, None, Some, Result, Ok, Err}
 use Rattle.std.specs.List.{AllByRecursion}
 use Rattle.std.specs.Option.{is_some}
@@ -24,11 +24,11 @@ use Rattle.itch_soup.specs.Clients.{Client, client_answer, client_after_packet}
 use Rattle.itch_soup.specs.NextPackets.{is_enough, PacketHere}
 use Rattle.itch_soup.specs.Fetching.{asking_from, login_bytes_of, after_packets, HeardFrom, IsLast, AnswersPacket, EndsFrom, ReadsAfterLogin}
 
--- the payload spells a message that is no End of Snapshot
+-- the payload encodes a message other than End of Snapshot
 abbrev pub SpellsOther : List ℕ → Type 0
 SpellsOther payload = (x : Message) × Spells x payload × (number_in x ≡ None)
 
--- the payloads spell messages, of which the last one is an End of Snapshot, and no other
+-- the payloads encode messages, of which only the last is an End of Snapshot
 pub record SpellsRest (payloads : List (List ℕ)) : Type 0 where
   pub before : List (List ℕ)
   pub last : List ℕ
@@ -37,29 +37,29 @@ pub record SpellsRest (payloads : List (List ℕ)) : Type 0 where
   pub others : AllByRecursion SpellsOther before
   pub closes : Spells (message.End next) last
 
--- the messages received are those from this number on up to the End of Snapshot, these are the bytes of their blocks, and nothing
--- after it was read
+-- the received messages are those from this number on up to the End of Snapshot, these are the bytes of their blocks, and nothing after them
+-- was read
 abbrev pub FetchedRest : ℕ → Client → Option (List ℕ) → Option (List ℕ) → List ℕ → Type 0
 FetchedRest n c old new bytes =
     (payloads : List (List ℕ)) × (heard : HeardFrom n c old new payloads)
     × ((rest : SpellsRest payloads) × (bytes ≡ blocks payloads) × IsLast heard.packets rest.last)
 
--- a message is not kept: it spells none, or there is no memory for it; its place is its number
+-- a message is not kept: its payload is not a valid message, or memory ran out for it; its place is its number
 abbrev pub IsNotKept : ClientAct → SnapFault → Type 0
 IsNotKept (act.Data number payload) (Codec place why) = (place ≡ number) × (fault payload ≡ Some why)
 IsNotKept (act.Data number payload) (Rule place OutOfMemory) = (place ≡ number) × (fault payload ≡ None)
 IsNotKept answer why = ⊥
 
--- what keeping the message of this number does to the bytes so far, and whether it is End of Snapshot
+-- the effect of keeping the message with this number on the bytes so far, and whether it is End of Snapshot
 abbrev pub KeepsMessage : ℕ → List ℕ → List ℕ → Result Bool SnapFault → List ℕ → Type 0
 KeepsMessage number payload old (Ok closed) new = ((x : Message) × Spells x payload × (closed ≡ is_some (number_in x))) × (new ≡ old ++ block payload)
 KeepsMessage number payload old (Err why) new = IsNotKept (act.Data number payload) why
 
--- why the fetch of a rest ends without it
+-- the reason why the fetch of a rest ends without it
 abbrev pub EndsRest : ℕ → Bool → Client → Option (List ℕ) → Option (List ℕ) → SoupFault → Type 0
 EndsRest n enough c old new why = AnswersPacket enough c old new (λ answer. answer ≡ act.Fault why) ⊎ EndsFrom n IsNotKept enough c old new why
 
--- what an answer does to the bytes so far, and whether they are closed then
+-- the effect of an answer on the bytes so far, and whether they are closed then
 abbrev pub KeepsAnswer : ℕ → ClientAct → List ℕ → Bool → List ℕ → Type 0
 KeepsAnswer n act.Nothing old closed new = (closed ≡ false) × (new ≡ old)
 KeepsAnswer n (act.Accepted next) old closed new = (next ≡ n) × (closed ≡ false) × (new ≡ old)
@@ -73,14 +73,14 @@ KeepsPacket n enough c bytes old new (Ok closed) c_after bytes_after =
     × KeepsAnswer n (client_answer c packet) bytes closed bytes_after
 KeepsPacket n enough c bytes old new (Err why) c_after bytes_after = EndsRest n enough c old new why
 
--- what is read after the login: the rest of a snapshot; or messages before its End of Snapshot, and then something that ends the fetch
+-- the result of reading after the login: the rest of a snapshot; or messages before its End of Snapshot, and then the end of the fetch
 abbrev pub ReceivesRest : ℕ → Client → Option (List ℕ) → Option (List ℕ) → Result (List ℕ) SoupFault → Type 0
 ReceivesRest n c old new (Ok bytes) = FetchedRest n c old new bytes
 ReceivesRest n c old new (Err why) =
     (payloads : List (List ℕ)) × (mid : Option (List ℕ)) × (heard : HeardFrom n c old mid payloads) × AllByRecursion SpellsOther payloads
     × EndsRest n (is_enough (length heard.packets)) (after_packets c heard.packets) mid new why
 
--- what the fetch of a rest does: the login is written, and then its answer is read
+-- the result of fetching a rest: the login is written, and then its answer is read
 abbrev pub FetchesRest : {R W : Type 0} → (R → Option (List ℕ)) → (R → Failures) → (W → Option (List ℕ)) → (W → Failures) → Credentials → ℕ → Reading R → W → Result (List ℕ) SoupFault → Reading R → W → Type 0
 FetchesRest remaining reads contents writes credentials n reader writer result reader_after writer_after =
     (sent : Result (Unit {0}) FrameFault) × WriteBlock contents writes writer (login_bytes_of (asking_from n credentials)) sent writer_after

@@ -1,4 +1,4 @@
--- How the names in a login are compared and written.
+-- Comparing and writing the names in a login.
 use Rattle.std.specs.Prelude.{ℕ, Bool, ◌||◌, List, map}
 use Rattle.std.specs.Char.{to_ascii_lowercase}
 use Rattle.std.specs.List.{list_all}
@@ -6,7 +6,7 @@ use Rattle.std.specs.Str.{bytes_eq}
 use Rattle.itch_codec.specs.Text.{padded_to, before_spaces}
 use Rattle.itch_codec.specs.Numbers.{is_space, after_spaces, padded_on_left}
 
--- user names and passwords are compared without the spaces at their end, and without the case of ASCII letters
+-- user names and passwords are compared without the spaces at their end, ignoring the case of ASCII letters
 abbrev pub is_same_name : List ℕ → List ℕ → Bool
 is_same_name name other =
     bytes_eq (map to_ascii_lowercase (before_spaces name)) (map to_ascii_lowercase (before_spaces other))
@@ -23,6 +23,6 @@ client_session field = padded_to 10 (session_name field)
 abbrev pub server_session : List ℕ → List ℕ
 server_session field = padded_on_left 10 (session_name field)
 
--- a login asks for the session that is served by its name, or by a blank field
+-- a login requests the served session by its name, or by a blank field
 abbrev pub asks_for_session : List ℕ → List ℕ → Bool
 asks_for_session served asked = list_all is_space asked || bytes_eq (session_name served) (session_name asked)

@@ -13,16 +13,15 @@ use Rattle.itch_soup.specs.declared.origin.Origin.{Origin}
 use Rattle.itch_soup.specs.declared.packet.Packet.{Packet}
 use Rattle.itch_soup.specs.Packets.{PacketSpells, packet_fault}
 
--- as many packets were read as may be
+-- the maximum number of packets was read
 abbrev pub is_enough : ℕ → Bool
 is_enough count = count == 10 ^ 19
 
--- a block came off the front, and its payload is so
+-- a block came off the front, and this holds for its payload
 abbrev pub ReadsBlock : Option (List ℕ) → Option (List ℕ) → (List ℕ → Type 0) → Type 0
 ReadsBlock old new P = (payload : List ℕ) × IsPayload payload × Consumes old new (block payload) × P payload
 
--- what is at the front: a packet from that side, the end of the input, or a fault; after as many packets as may be, any
--- block is one too many
+-- the next packet from that side, the end of the input, or a fault; after the maximum number of packets, any block is one too many
 abbrev pub PacketHere : Origin → Bool → Option (List ℕ) → Option (List ℕ) → Result (Option Packet) SoupFault → Type 0
 PacketHere from enough old new (Ok (Some packet)) = (enough ≡ false) × ReadsBlock old new (λ payload. PacketSpells packet payload from)
 PacketHere from enough old new (Ok None) = IsAtEnd old
@@ -36,7 +35,7 @@ ends_session TooMany = broke.TooManyMessages
 ends_session (Frame fault) = broke.Frame fault
 
 module _ {R : Type 0} (remaining : R → Option (List ℕ)) (failures : R → Failures) where
-  -- what a call that asks for the bytes of the next packet may return, and leave
+  -- the possible results of a request for the bytes of the next packet, and the reader afterwards
   abbrev pub NextPacket : Bool → Reading R → Result (Option (Bor (List ℕ))) ReadFault → Reading R → Type 0
   NextPacket enough old (Ok (Some packet)) new = (enough ≡ false) × NextBlock remaining failures old (Ok (Some packet)) new
   NextPacket enough old (Ok None) new = NextBlock remaining failures old (Ok None) new

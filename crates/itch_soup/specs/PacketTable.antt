@@ -1,4 +1,4 @@
--- Each packet type as data: its type byte, who sends it, its length and its fields (SoupBinTCP 3.00, "Logical Packets").
+-- Each packet type as data: its type byte, its sender, its length and its fields (SoupBinTCP 3.00, "Logical Packets").
 use Rattle.std.specs.Prelude.{ℕ, ◌==◌, Bool, true, false, List, [], ◌∷◌, Option, None, Some, if◌then◌else◌}
 use Rattle.itch_codec.specs.Layouts.{Column, column, Text, Code, Digits}
 use Rattle.itch_soup.specs.declared.origin.Origin.{Origin}
@@ -6,20 +6,20 @@ use Rattle.itch_soup.specs.declared.origin.Origin.TheVariants.{Client, Server}
 use Rattle.itch_soup.specs.declared.packet_types.Sender.{Sender}
 use Rattle.itch_soup.specs.declared.packet_types.Sender.TheVariants.{Only, Either}
 
--- what follows the type byte: a field as messages have it, the number that a login asks for, or all bytes from an offset on
+-- a part after the type byte: a field as in messages, the number that a login requests, or all bytes from an offset on
 pub data Part : Type 0 where
   Field : (column : Column) → Part
   Request : (offset : ℕ) → Part
   Rest : (offset : ℕ) → Part
 
--- a packet type: its byte, who sends it, its length with the type byte (none: any from 1), and what follows the type byte
+-- a packet type: its byte, its sender, its length with the type byte (none: any from 1), and the parts after the type byte
 pub record PacketType : Type 0 where
   pub kind : ℕ
   pub sender : Sender
   pub size : Option ℕ
   pub parts : List Part
 
--- whether packets of this sender come from that side
+-- packets of this sender come from that side
 abbrev pub sends : Sender → Origin → Bool
 sends Either side = true
 sends (Only Client) Client = true
@@ -63,7 +63,7 @@ end_of_session = fixed 90 Server 1 []
 abbrev pub login_request : PacketType
 login_request = fixed 76 Client 47 (Field (column 1 6 Text) ∷ Field (column 7 10 Text) ∷ Field (column 17 10 Text) ∷ Request 27 ∷ [])
 
--- Unsequenced Data, U: the client's, and read from a server too
+-- Unsequenced Data, U: from the client, and also accepted from a server
 abbrev pub unsequenced_data : PacketType
 unsequenced_data = carrier 85 Either
 

@@ -1,4 +1,4 @@
--- What spells a packet, what a block's fault is, and which packet a block spells (SoupBinTCP 3.00, "Logical Packets").
+-- The bytes of a packet, the fault of a block, and the packet of a block (SoupBinTCP 3.00, "Logical Packets").
 use Rattle.std.specs.Prelude.{◌≡◌, ℕ, ◌<◌, ◌==◌, IsTrue, MatchBool, List, [], ◌∷◌, ◌++◌, length, drop, Option, None, Some, if◌then◌else◌}
 use Rattle.std.specs.List.{list_all}
 use Rattle.itch_codec.specs.Numbers.{slice_at, byte_at, dec20, is_space, SpellsNumber, read20}
@@ -44,7 +44,7 @@ packet_values (is.LoginRequest login) = login_request_values login
 packet_values (is.UnsequencedData payload) = Bytes payload ∷ []
 packet_values packet = []
 
--- the number that a field asks for: 0 if the field is blank, else the number that it spells
+-- the number that a field requests: 0 if the field is blank, otherwise the number in it
 abbrev pub Requests : List ℕ → ℕ → Type 0
 Requests field number = MatchBool (list_all is_space field) (number ≡ 0) (SpellsNumber field number)
 
@@ -73,7 +73,7 @@ pub record IsPacket (t : PacketType) (values : List Value) (block : List ℕ) (f
   pub size : HasSize t.size block
   pub parts : HasParts block t.parts values
 
--- the block, from that side, spells the packet
+-- the block, from that side, encodes the packet
 abbrev pub PacketSpells : Packet → List ℕ → Origin → Type 0
 PacketSpells packet block from = IsPacket (packet_type packet) (packet_values packet) block from
 
@@ -84,7 +84,7 @@ bytes_of_part (Request offset) (Number number) = dec20 number
 bytes_of_part (Rest offset) (Bytes bytes) = bytes
 bytes_of_part part value = []
 
--- the parts' bytes, one after the other
+-- the bytes of the parts, one part after another
 abbrev pub joined_parts : List Part → List Value → List ℕ
 joined_parts (part ∷ parts) (value ∷ values) = bytes_of_part part value ++ joined_parts parts values
 joined_parts parts values = []
@@ -98,7 +98,7 @@ abbrev pub number_fault : ℕ → Option ℕ → Option SoupFault
 number_fault offset None = Some (BadNumber offset)
 number_fault offset (Some number) = None
 
--- the number that a field asks for: 0 if it is blank, else the one that it spells, if any
+-- the number that a field requests: 0 if it is blank, otherwise the number in it, if there is one
 abbrev pub requested : List ℕ → Option ℕ
 requested field = if list_all is_space field then Some 0 else read20 field
 
@@ -119,18 +119,18 @@ abbrev pub parts_fault : List ℕ → List Part → Option SoupFault
 parts_fault block [] = None
 parts_fault block (part ∷ parts) = first_of (part_fault block part) (parts_fault block parts)
 
--- the fault of a length that is not the type's
+-- the fault of a length that differs from the type's length
 abbrev pub size_fault : ℕ → Option ℕ → List ℕ → Option SoupFault
 size_fault kind None block = None
 size_fault kind (Some size) block = if length block == size then None else Some (WrongLength kind size (length block))
 
--- the fault of a block of this type, or of none: the wrong side, the length, the parts in order
+-- the fault of a block of this type, or of no type: the wrong side, the length, the parts in order
 abbrev pub fault_by_type : Option PacketType → ℕ → List ℕ → Origin → Option SoupFault
 fault_by_type None kind block from = Some (UnknownType kind)
 fault_by_type (Some t) kind block from =
     if sends t.sender from then first_of (size_fault kind t.size block) (parts_fault block t.parts) else Some (WrongSide kind)
 
--- why a block from that side spells no packet, if it spells none: empty, unknown type, wrong side, length, fields by offset
+-- the reason why a block from that side is not a valid packet, if it is not: empty, unknown type, wrong side, length, fields by offset
 abbrev pub packet_fault : List ℕ → Origin → Option SoupFault
 packet_fault [] from = Some EmptyPacket
 packet_fault (kind ∷ rest) from = fault_by_type (type_of kind) kind (kind ∷ rest) from

@@ -1,4 +1,4 @@
--- What is sent to a client: the packets that answer its login (SoupBinTCP 3.00, "Logical Packets").
+-- The packets that answer the login of a client (SoupBinTCP 3.00, "Logical Packets").
 use Rattle.std.specs.Prelude.{◌≡◌, ℕ, ◌-◌, List, [], ◌∷◌, ◌++◌, map, length, drop, Bool, true, false, Option, Result, Ok, Err}
 use Rattle.std.specs.List.{AllByRecursion}
 use Rattle.std.specs.Io.KnownBytes.{Appends}

@@ -17,7 +17,7 @@ use Rattle.itch_soup.specs.Packets.{packet_type}
 use Rattle.itch_soup.specs.Names.{is_same_name, asks_for_session, server_session}
 use Rattle.itch_soup.specs.Connections.{opened, after_packet, after_tick, after_sent}
 
--- a server's session: who may log in, how many messages it has, and the state of its connection
+-- a server's session: its configuration, its number of messages, and the state of its connection
 pub record Server : Type 0 where
   pub config : ServerConfig
   pub total : ℕ
@@ -27,7 +27,7 @@ pub record Server : Type 0 where
 abbrev pub is_user : ServerConfig → LoginRequest → Bool
 is_user config login = is_same_name config.username login.username && is_same_name config.password login.password
 
--- the number of the first message that a login asks for: 0 asks for all of them, as 1 does
+-- the number of the first message that a login requests: 0 requests all messages, as 1 does
 abbrev pub first_asked : LoginRequest → ℕ
 first_asked login = max 1 login.number
 
@@ -38,7 +38,7 @@ not_authorised = 65
 abbrev pub not_available : ℕ
 not_available = 83
 
--- a login is judged by user name and password, session, and number: at most the one after the last message
+-- a login is judged by user name and password, session, and number, which is at most the one after the last message
 abbrev pub judged : ServerConfig → ℕ → LoginRequest → ServerAct × Stage
 judged config total login =
     if not (is_user config login) then (act.Reject not_authorised, stage.Closed) else (
@@ -46,7 +46,7 @@ judged config total login =
     if nat_lt (total + 1) (first_asked login) then (act.Reject not_available, stage.Closed) else (
     (act.Accept (first_asked login), stage.Accepted))))
 
--- the answer to a login that is judged in this way, and the next stage
+-- the answer to a login with this judgement, and the next stage
 abbrev pub turn_of : Judgement → ServerAct × Stage
 turn_of (Accepted next) = (act.Accept next, stage.Accepted)
 turn_of (Rejected code) = (act.Reject code, stage.Closed)

@@ -11,10 +11,10 @@ use crate::payload::Payload;
 use itch_codec::{MOST_MESSAGES, Seq};
 use std::marker::Model;
 
-/// What a client learns from a packet.
+/// The meaning of a packet for a client.
 #[derive(Debug, Drop)]
 pub enum ClientAct<'a> {
-    /// The login was accepted. The first message has this number.
+    /// The login was accepted. The first message has the number `next`.
     Accepted { next: Seq },
     /// The login was rejected with this code. The session is closed.
     Rejected(u8),
@@ -23,13 +23,13 @@ pub enum ClientAct<'a> {
     Nothing,
     /// The server ended the session, which is closed now.
     Ended,
-    /// The server broke the protocol, or the session was closed before. It is closed now.
+    /// The server violated the protocol, or the session was closed before. It is closed now.
     Fault(SoupFault),
 }
 
-/// The client's side of a session. The caller passes in packets and times, and is told what they mean.
+/// The client's side of a session. Pass in packets and times; each call returns what they mean.
 ///
-/// It sends [`login`](ClientSession::login) first, and calls [`sent`](ClientSession::sent) after sending anything.
+/// The caller sends [`login`](ClientSession::login) first, and calls [`sent`](ClientSession::sent) whenever it has sent something.
 #[derive(Debug, Drop)]
 pub struct ClientSession {
     credentials: Credentials,
@@ -54,8 +54,8 @@ impl ClientSession {
     ghost use Rattle.itch_soup.specs.Connections.{tick_answer};
     ghost use Rattle.itch_soup.specs.Clients.{new_client, login_of, client_answer, client_after_packet, client_after_tick, client_after_sent};
 
-    /// A session that begins at `now_ms`, as if something had been received and sent then. It asks for the messages from
-    /// number `from` on; 0 asks for all of them.
+    /// Creates a session that begins at `now_ms`, as if something had been received and sent then. It requests the messages from number
+    /// `from` on; 0 requests all of them.
     ///
     /// `from` must be at most 10^19.
     pub fn new(credentials: Credentials, from: u64, now_ms: u64) -> ClientSession
@@ -70,8 +70,8 @@ impl ClientSession {
         }
     }
 
-    /// The login request to send, without the length in front. Its session is that of the credentials, without the spaces
-    /// at both ends and padded on the right.
+    /// Returns the login request to send, without the length in front. Its session is that of the credentials, without the spaces at both
+    /// ends and padded on the right.
     pub fn login(&self) -> [u8; 47]
         ensures bytes { result ≡ packet_spelling (Packet.LoginRequest (login_of self.now)) }
         ensures spelled { PacketSpells (Packet.LoginRequest (login_of self.now)) result Origin.Client }
@@ -79,7 +79,7 @@ impl ClientSession {
         LoginRequest::spelling(&self.credentials, self.from)
     }
 
-    /// The packet to send at [`Tick::Heartbeat`], without the length in front.
+    /// Returns the packet to send at [`Tick::Heartbeat`], without the length in front.
     pub fn heartbeat() -> [u8; 1]
         ensures bytes { result ≡ packet_spelling Packet.ClientHeartbeat }
         ensures spelled { PacketSpells Packet.ClientHeartbeat result Origin.Client }
@@ -87,7 +87,7 @@ impl ClientSession {
         [b'R']
     }
 
-    /// The packet that logs out, without the length in front.
+    /// Returns the packet that logs out, without the length in front.
     pub fn logout() -> [u8; 1]
         ensures bytes { result ≡ packet_spelling Packet.LogoutRequest }
         ensures spelled { PacketSpells Packet.LogoutRequest result Origin.Client }
@@ -95,15 +95,15 @@ impl ClientSession {
         [b'O']
     }
 
-    /// What a packet received at `now_ms` means.
+    /// Returns the meaning of a packet received at `now_ms`.
     ///
     /// Debug packets, unsequenced data and heartbeats mean nothing.
     ///
     /// # Faults
     ///
-    /// [`SoupFault::Early`] for sequenced data before the login was accepted, [`SoupFault::SecondLogin`] for an answer to a
-    /// login afterwards, [`SoupFault::TooManyMessages`] for data that would have a number above 10^19 - 1,
-    /// [`SoupFault::WrongSide`] for a packet that clients send, and [`SoupFault::Closed`] once the session is closed.
+    /// [`SoupFault::Early`] for sequenced data before the login was accepted, [`SoupFault::SecondLogin`] for an answer to a login afterwards,
+    /// [`SoupFault::TooManyMessages`] for data whose number would be above 10^19 - 1, [`SoupFault::WrongSide`] for a packet that only clients
+    /// send, and [`SoupFault::Closed`] after the session is closed.
     pub fn on_packet<'a>(&mut self, packet: &Packet<'a>, now_ms: u64) -> ClientAct<'a>
         ensures answer { result ≡ client_answer self.old packet.now }
         ensures after { self.new ≡ client_after_packet self.old packet.now now_ms }
@@ -122,7 +122,7 @@ impl ClientSession {
         self.connection.sent = now_ms;
     }
 
-    /// What to do at `now_ms` if no packet has come. A heartbeat counts as sent.
+    /// Returns the action that is due at `now_ms` if no packet has arrived. A heartbeat counts as sent.
     pub fn tick(&mut self, now_ms: u64) -> Tick
         ensures answer { result ≡ tick_answer self.old.connection now_ms }
         ensures after { self.new ≡ client_after_tick self.old now_ms }
@@ -131,7 +131,7 @@ impl ClientSession {
     }
 }
 
-// The answer to a packet, the next stage, and the number of the next message.
+// Returns the meaning of a packet, the next stage, and the number of the next message.
 fn turn<'a>(next: u64, stage: Stage, packet: &Packet<'a>) -> (ClientAct<'a>, Stage, u64)
     ensures { result ≡ client_turn next stage packet.now }
 {
@@ -165,7 +165,7 @@ fn closing<'a>(fault: SoupFault, next: u64) -> (ClientAct<'a>, Stage, u64)
     (ClientAct::Fault(fault), Stage::Closed, next)
 }
 
-// The turn for a message after the login was accepted.
+// Returns the same for a message after the login was accepted.
 fn data<'a>(number: u64, payload: &Payload<'a>) -> (ClientAct<'a>, Stage, u64)
     ensures { result ≡ client_turn number Stage.Accepted (Packet.SequencedData payload.now) }
 {

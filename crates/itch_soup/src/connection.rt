@@ -1,7 +1,7 @@
-//! What each side of a session knows of its connection, and what is due as time passes.
+//! The state of each side's connection, and the actions that are due as time passes.
 ghost use Rattle.std.specs.Prelude.{◌≡◌};
 
-/// How far a session has come.
+/// The stage of a session.
 #[derive(Clone, Copy, Debug)]
 pub(crate) enum Stage {
     /// No login has been accepted yet.
@@ -12,11 +12,11 @@ pub(crate) enum Stage {
     Closed,
 }
 
-/// What is due at a given time (SoupBinTCP 3.00, "Heartbeats").
+/// The action that is due at a given time (SoupBinTCP 3.00, "Heartbeats").
 #[derive(Clone, Copy, Debug, PartialEq, Eq)]
 pub enum Tick {
     Nothing,
-    /// A heartbeat is to be sent: nothing was sent for more than 1,000 ms.
+    /// Send a heartbeat: nothing was sent for more than 1,000 ms.
     Heartbeat,
     /// The other side is gone: nothing was received for 15,000 ms or more. The session is closed.
     Lost,
@@ -26,7 +26,7 @@ const SILENCE_MS: u64 = 15_000;
 
 const IDLE_MS: u64 = 1_000;
 
-/// The stage of a session, and when something was last received and sent, in milliseconds.
+/// The stage of a session, and the times of the last receipt and of the last sending, in milliseconds.
 #[derive(Clone, Copy, Debug)]
 pub(crate) struct Connection {
     pub(crate) stage: Stage,
@@ -37,7 +37,7 @@ pub(crate) struct Connection {
 impl Connection {
     ghost use Rattle.itch_soup.specs.Connections.{opened, tick_answer, after_tick};
 
-    /// A session that begins at `now_ms`.
+    /// Creates the connection of a session that begins at `now_ms`.
     pub(crate) fn new(now_ms: u64) -> Connection
         ensures { result ≡ opened now_ms }
     {
@@ -48,7 +48,7 @@ impl Connection {
         }
     }
 
-    /// What is due at `now_ms`. Where that is before an earlier time, no time counts as passed.
+    /// Returns the action that is due at `now_ms`. If this is before an earlier time, no time counts as passed.
     pub(crate) fn tick(&mut self, now_ms: u64) -> Tick
         ensures answer { result ≡ tick_answer self.old now_ms }
         ensures after { self.new ≡ after_tick self.old now_ms }

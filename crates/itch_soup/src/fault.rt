@@ -1,4 +1,4 @@
-//! What can be wrong with a packet or in a session.
+//! Faults of packets and sessions.
 ghost use Rattle.std.specs.Prelude.{◌≡◌};
 ghost use Rattle.itch_soup.specs.declared.fault.SoupFault.TheVariants.{Frame, Snapshot};
 
@@ -7,9 +7,9 @@ use itch_frame::FrameFault;
 use itch_snapshot::SnapFault;
 use thiserror::Error;
 
-/// Why a block is no packet, or what ended a session. Offsets count from 0, at the packet's type byte.
+/// The reason why a block is not a valid packet, or why a session ended. Offsets count from 0, at the packet's type byte.
 ///
-/// The first six are looked for in this order, and the first one found is returned.
+/// The first six are checked in this order, and the first fault found is returned.
 #[derive(Clone, Copy, Debug, Error)]
 pub enum SoupFault {
     /// The block has no bytes.
@@ -24,22 +24,22 @@ pub enum SoupFault {
     /// The packet's length is not that of its type. Both include the type byte.
     #[error("wrong length for packet {}: want {want}, got {got}", char::from(*.kind))]
     WrongLength { kind: u8, want: usize, got: usize },
-    /// This byte of a text is not printable, and those before it in its field are.
+    /// The byte at this offset is in a text and is not printable. The bytes before it in the same field are printable.
     #[error("bad text at {offset}")]
     BadText { offset: usize },
-    /// The field that begins here has no valid number: none at all, one above 10^19, or 0 in an acceptance.
+    /// The field at this offset does not hold a valid number: it holds no number, one above 10^19, or 0 in an acceptance.
     #[error("bad number at {offset}")]
     BadNumber { offset: usize },
-    /// A login, or an answer to one, after the login was accepted.
+    /// There was a login, or an answer to one, after the login was accepted.
     #[error("second login")]
     SecondLogin,
-    /// Sequenced data before the login was accepted, with its type byte.
+    /// There was sequenced data, with this type byte, before the login was accepted.
     #[error("packet {} before the login was accepted", char::from(*.0))]
     Early(u8),
     /// The session is over.
     #[error("the session is closed")]
     Closed,
-    /// Sequenced data that would have a number above 10^19 - 1.
+    /// There was sequenced data whose number would be above 10^19 - 1.
     #[error("too many messages")]
     TooManyMessages,
     /// A block could not be read or written.
@@ -48,7 +48,7 @@ pub enum SoupFault {
     /// The server rejected the login with this code.
     #[error("login rejected with {}", char::from(*.0))]
     Rejected(u8),
-    /// The server accepted the login from another number than was asked for.
+    /// The server accepted the login from another number than the requested one.
     #[error("accepted from {}, not from {}", .next.value(), .asked.value())]
     WrongStart { next: Seq, asked: Seq },
     /// The session or the input ended before the End of Snapshot.

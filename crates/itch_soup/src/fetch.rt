@@ -1,4 +1,4 @@
-//! A snapshot, or the rest of one, fetched in one session.
+//! Fetches a snapshot, or the rest of one, in one session.
 ghost use Rattle.std.specs.Prelude.{◌≡◌, [], OnOk};
 ghost use Rattle.itch_frame.specs.Reading.{bytes_left};
 ghost use Rattle.itch_soup.specs.Serving.{CountsWait};
@@ -21,14 +21,13 @@ use itch_snapshot::SnapshotReader;
 pub use rest::{Rest, fetch_rest};
 use std::alloc::Allocator;
 
-/// Fetches a snapshot: writes a login that asks for all messages, and reads up to the End of Snapshot, no further.
+/// Fetches a snapshot: writes a login that requests all messages, and reads up to the End of Snapshot, but no further.
 ///
 /// # Faults
 ///
-/// `Frame(Write)` if the login could not be written; then nothing was read. Otherwise the first of: a fault of a packet, of
-/// its block or of the session; `Rejected`; `WrongStart` if the login is accepted from another number than 1; `EndedEarly`
-/// if the session or the input ends; `Snapshot` for a message that is refused, `OutOfMemory` among the reasons; and
-/// `TooManyMessages` for a packet after 10^19 others.
+/// `Frame(Write)` if the login could not be written; then nothing was read. Otherwise the first of: a fault of a packet, of its block or of
+/// the session; `Rejected`; `WrongStart` if the login is accepted from another number than 1; `EndedEarly` if the session or the input ends;
+/// `Snapshot` for a message that is refused, also for `OutOfMemory`; and `TooManyMessages` for a packet after 10^19 others.
 pub fn fetch_one<R: CountedRead, A: Allocator, W: CountedWrite, B: OrderBook>(
     alloc: B::Alloc,
     reader: &mut BlockReader<R, A>,
@@ -63,7 +62,7 @@ fn receive<R: CountedRead, A: Allocator, B: OrderBook>(
     unreachable!()
 }
 
-// Takes the next packet, unless as many were read as may be (`enough`). True if it closes the snapshot.
+// Takes the next packet, unless the maximum number was read (`enough`). Returns true if it closes the snapshot.
 fn take_packet<R: CountedRead, A: Allocator, B: OrderBook>(
     reader: &mut BlockReader<R, A>,
     session: &mut ClientSession,

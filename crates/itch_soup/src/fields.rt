@@ -1,4 +1,4 @@
-//! The fields of a packet: one function reads each kind.
+//! The fields of a packet: each kind of field has one reader.
 ghost use Rattle.std.specs.Prelude.{◌≡◌, ◌+◌, ◌≤◌, length};
 ghost use Rattle.itch_codec.specs.Numbers.{slice_at};
 ghost use Rattle.itch_codec.specs.Layouts.{column, Text, Digits};
@@ -10,7 +10,7 @@ use crate::fault::SoupFault;
 use itch_codec::spaces::is_blank;
 use itch_codec::{Alpha, AlphaFault, Seq, read_number20};
 
-// The `N` bytes at this offset.
+// Returns the `N` bytes at this offset.
 #[tactic(auto, unfolding(itch_codec::specs::Numbers::slice_at))]
 fn bytes_at<const N: usize>(block: &[u8], offset: usize) -> [u8; N]
     requires { offset + N ≤ length block.now }
@@ -21,7 +21,7 @@ fn bytes_at<const N: usize>(block: &[u8], offset: usize) -> [u8; N]
     bytes
 }
 
-/// The text in the `N` bytes at this offset.
+/// Returns the text in the `N` bytes at this offset.
 #[tactic(auto, using(crate::proofs::TextFaults::printing))]
 pub(crate) fn text_at<const N: usize>(block: &[u8], offset: usize) -> Result<Alpha<N>, SoupFault>
     requires { offset + N ≤ length block.now }
@@ -36,7 +36,7 @@ pub(crate) fn text_at<const N: usize>(block: &[u8], offset: usize) -> Result<Alp
     }
 }
 
-/// The sequence number in the twenty bytes at this offset.
+/// Returns the sequence number in the twenty bytes at this offset.
 pub(crate) fn seq_at(block: &[u8], offset: usize) -> Result<Seq, SoupFault>
     requires { offset + 20 ≤ length block.now }
     ensures { Reads (λ next. HasPart block.now (Field (column offset 20 Digits)) (Number next)) (part_fault block.now (Field (column offset 20 Digits))) result }
@@ -50,7 +50,7 @@ pub(crate) fn seq_at(block: &[u8], offset: usize) -> Result<Seq, SoupFault>
     }
 }
 
-/// The number that a login asks for in the twenty bytes at this offset: 0 if they are blank.
+/// Returns the number that a login requests in the twenty bytes at this offset: 0 if they are blank.
 pub(crate) fn request_at(block: &[u8], offset: usize) -> Result<u64, SoupFault>
     requires { offset + 20 ≤ length block.now }
     ensures { Reads (λ number. HasPart block.now (Request offset) (Number number)) (part_fault block.now (Request offset)) result }

@@ -1,12 +1,12 @@
-//! SoupBinTCP 3.00: its packets, the server's and the client's side of a session, and one snapshot served or fetched.
+//! SoupBinTCP 3.00: its packets, the server's and the client's side of a session, and functions that serve or fetch one snapshot.
 //!
-//! Nothing here reads a clock or opens a socket. Only [`fetch_one`] and [`fetch_rest`] allocate memory, for the market or the bytes
-//! that they return.
+//! This crate does not read clocks or open sockets. Only [`fetch_one`] and [`fetch_rest`] allocate memory, for the market or the bytes that
+//! they return.
 //!
-//! [`serve_one`], [`fetch_one`] and [`fetch_rest`] are whole sessions over a reader and a writer. For any other session a caller cuts the
-//! stream into blocks, parses each with [`parse_packet`], passes the packet to [`ServerSession`] or [`ClientSession`], and
-//! does what the session answers. It sends the packets that the session's functions return, and messages by [`write_data`].
-//! Times are milliseconds since a time of the caller's choice.
+//! [`serve_one`], [`fetch_one`] and [`fetch_rest`] are complete sessions over a reader and a writer. For any other session, cut the stream
+//! into blocks, parse each with [`parse_packet`], pass the packet to [`ServerSession`] or [`ClientSession`], and do what the session answers.
+//! Send the packets that the session's functions return, and messages by [`write_data`]. Times are milliseconds since a time of the caller's
+//! choice.
 //!
 //! ```
 //! let mut client = ClientSession::new(credentials, 1, 0);

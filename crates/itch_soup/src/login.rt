@@ -1,4 +1,4 @@
-//! Logins: what each side of a session knows of one, and how its names are compared and written.
+//! Logins: the data of each side of a session, and how its names are compared and written.
 ghost use Rattle.std.specs.Prelude.{◌≡◌, ◌≤◌, length, map};
 ghost use Rattle.std.specs.Char.{to_ascii_lowercase};
 ghost use Rattle.std.specs.Str.{bytes_eq};
@@ -10,7 +10,7 @@ use itch_codec::Alpha;
 use itch_codec::spaces::{after_spaces, is_blank};
 use std::fmt::{self, Debug, Formatter};
 
-/// Who may log in to a server, and the session that it serves.
+/// The user that may log in to a server, and the session that it serves.
 ///
 /// `{:?}` leaves the password out.
 #[derive(Clone, Copy, PartialEq, Eq)]
@@ -26,14 +26,14 @@ impl Debug for ServerConfig {
     }
 }
 
-/// What a client logs in with.
+/// The credentials of a client, with the session that it requests.
 ///
 /// `{:?}` leaves the password out.
 #[derive(Clone, Copy, PartialEq, Eq)]
 pub struct Credentials {
     pub username: Alpha<6>,
     pub password: Alpha<10>,
-    /// The session that is asked for; blank for the current one.
+    /// The requested session; blank for the current one.
     pub session: Alpha<10>,
 }
 
@@ -56,7 +56,7 @@ fn show_names<W: fmt::Write>(
         .finish_non_exhaustive()
 }
 
-/// Whether two user names or passwords are the same, apart from spaces at their end and the case of ASCII letters.
+/// Returns whether two user names or passwords are the same, apart from spaces at their end and the case of ASCII letters.
 #[tactic(auto, using(crate::proofs::SessionNames::texts))]
 pub(crate) fn is_same_name<const N: usize>(name: &Alpha<N>, other: &Alpha<N>) -> bool
     ensures { result ≡ is_same_name name.now other.now }
@@ -71,14 +71,14 @@ fn is_same_text(text: &str, other: &str) -> bool
     text.eq_ignore_ascii_case(other)
 }
 
-/// Whether the session asked for is the one served: it is asked for by name, or by a blank field.
+/// Returns whether the requested session is the served one: it is requested by name, or by a blank field.
 pub(crate) fn asks_for_session(served: &Alpha<10>, asked: &Alpha<10>) -> bool
     ensures { result ≡ asks_for_session served.now asked.now }
 {
     is_blank(asked.bytes()) || session_name(served) == session_name(asked)
 }
 
-/// A session's name as a client writes it, padded on the right.
+/// Returns a session's name as a client writes it, padded on the right.
 pub(crate) fn client_session(session: &Alpha<10>) -> [u8; 10]
     ensures field { result ≡ client_session session.now }
     ensures fits { IsAlpha 10 (client_session session.now) }
@@ -89,7 +89,7 @@ pub(crate) fn client_session(session: &Alpha<10>) -> [u8; 10]
     field
 }
 
-/// A session's name as a server writes it, padded on the left.
+/// Returns a session's name as a server writes it, padded on the left.
 pub(crate) fn server_session(session: &Alpha<10>) -> [u8; 10]
     ensures field { result ≡ server_session session.now }
     ensures fits { IsAlpha 10 (server_session session.now) }
@@ -100,7 +100,7 @@ pub(crate) fn server_session(session: &Alpha<10>) -> [u8; 10]
     field
 }
 
-// The name without the spaces at both ends, since it may be padded at either.
+// Returns the name without the spaces at both ends, since it may be padded at either end.
 #[tactic(auto, using(crate::proofs::SessionNames::trimming))]
 fn session_name(session: &Alpha<10>) -> &[u8]
     ensures name { result.now ≡ session_name session.entry.now }

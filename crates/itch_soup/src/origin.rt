@@ -1,10 +1,10 @@
 //! The two sides of a connection.
 
-/// The side of a connection that a packet comes from.
+/// The side of a connection that sends a packet.
 #[derive(Clone, Copy, Debug, PartialEq, Eq)]
 pub enum Origin {
-    /// Asks for messages.
+    /// The side that requests messages.
     Client,
-    /// Has the messages.
+    /// The side that has the messages.
     Server,
 }

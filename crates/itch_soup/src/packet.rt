@@ -1,4 +1,4 @@
-//! The packets.
+//! The packets of SoupBinTCP.
 
 ghost use Rattle.std.specs.Prelude.{◌≡◌, ◌+◌, ◌≤◌, ◌++◌, length, take};
 
@@ -17,9 +17,9 @@ use std::fmt::{self, Debug, Formatter};
 pub struct LoginRequest {
     pub username: Alpha<6>,
     pub password: Alpha<10>,
-    /// The session that is asked for; blank for the current one.
+    /// The requested session; blank for the current one.
     pub session: Alpha<10>,
-    /// The number of the first message that is asked for. 0, or a blank field, asks for all of them, as 1 does.
+    /// The number of the first requested message. 0, or a blank field, requests all messages, as 1 does.
     pub number: u64,
 }
 
@@ -42,8 +42,8 @@ impl LoginRequest {
         })
     }
 
-    /// The bytes of a login with these credentials that asks for the messages from this number on. Texts are padded on the
-    /// right, and the number on the left.
+    /// Returns the bytes of a login with these credentials that requests the messages from this number on. Texts are padded on the right, and
+    /// the number on the left.
     pub(crate) fn spelling(credentials: &Credentials, number: u64) -> [u8; 47]
         requires { number ≤ 10 ^ 19 }
         ensures bytes { result ≡ packet_spelling (Packet.LoginRequest (login_with credentials.now number)) }
@@ -83,7 +83,7 @@ impl LoginAccepted {
     ghost use Rattle.itch_soup.specs.Packets.{PacketSpells, packet_spelling, HasParts, parts_fault, login_accepted_values};
     ghost use Rattle.itch_soup.specs.Servers.{acceptance};
 
-    /// The bytes of this server's acceptance from this number on. Both fields are padded on the left.
+    /// Returns the bytes of this server's acceptance from this number on. Both fields are padded on the left.
     pub(crate) fn spelling(config: &ServerConfig, next: Seq) -> [u8; 31]
         ensures bytes { result ≡ packet_spelling (Packet.LoginAccepted (acceptance config.now next)) }
         ensures spelled { PacketSpells (Packet.LoginAccepted (acceptance config.now next)) result Origin.Server }
@@ -105,14 +105,14 @@ impl LoginAccepted {
     }
 }
 
-/// A packet, one variant for each type (SoupBinTCP 3.00, "Logical Packets").
+/// A packet. Each type has one variant (SoupBinTCP 3.00, "Logical Packets").
 #[derive(Debug, Drop, PartialEq, Eq)]
 pub enum Packet<'a> {
     /// `+`, from either side: a text for people.
     Debug(Payload<'a>),
     /// `A`, from the server.
     LoginAccepted(LoginAccepted),
-    /// `J`, from the server: `A` for not authorised, `S` for a session that is not available; any byte is read.
+    /// `J`, from the server: `A` for not authorised, `S` for a session that is not available. Any byte is accepted.
     LoginRejected { code: u8 },
     /// `S`, from the server: the next message.
     SequencedData(Payload<'a>),
@@ -122,7 +122,7 @@ pub enum Packet<'a> {
     EndOfSession,
     /// `L`, from the client.
     LoginRequest(LoginRequest),
-    /// `U`, from the client; from a server it is read too.
+    /// `U`, from the client; it is also accepted from a server.
     UnsequencedData(Payload<'a>),
     /// `R`, from the client.
     ClientHeartbeat,
@@ -134,7 +134,7 @@ impl Packet<'_> {
     ghost use Rattle.std.specs.Prelude.{◌≡◌};
     ghost use Rattle.itch_soup.specs.Packets.{packet_type};
 
-    /// The type byte.
+    /// Returns the type byte.
     pub(crate) fn kind(&self) -> u8
         ensures { result ≡ (packet_type self.now).kind }
     {

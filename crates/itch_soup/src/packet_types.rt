@@ -1,10 +1,10 @@
-//! The packet types: who sends them, and how long they are.
+//! The packet types: their senders and their lengths.
 ghost use Rattle.std.specs.Prelude.{◌≡◌, option_map, option_and_then};
 ghost use Rattle.itch_soup.specs.PacketTable.{type_of, sends};
 
 use crate::origin::Origin;
 
-/// Who sends packets of a type.
+/// The senders of packets of a type.
 #[derive(Clone, Copy)]
 pub(crate) enum Sender {
     Only(Origin),
@@ -24,7 +24,7 @@ impl Sender {
     }
 }
 
-/// Who sends packets with this type byte, if there is such a type.
+/// Returns the sender of packets with this type byte, if there is such a type.
 pub(crate) fn sender_of_type(kind: u8) -> Option<Sender>
     ensures { result ≡ option_map (λ t. t.sender) (type_of kind) }
 {
@@ -36,7 +36,7 @@ pub(crate) fn sender_of_type(kind: u8) -> Option<Sender>
     }
 }
 
-/// How many bytes a packet with this type byte has, if its type has a fixed length.
+/// Returns the number of bytes of a packet with this type byte, if its type has a fixed length.
 pub(crate) fn size_of_type(kind: u8) -> Option<usize>
     ensures { result ≡ option_and_then (λ t. t.size) (type_of kind) }
 {

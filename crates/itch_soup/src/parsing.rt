@@ -1,4 +1,4 @@
-//! Packets parsed from blocks.
+//! Parses packets from blocks.
 ghost use Rattle.std.specs.Prelude.{◌≡◌, Some, Ok, IfOk, IfErr};
 ghost use Rattle.itch_codec.specs.Fields.{Reads};
 ghost use Rattle.itch_soup.specs.declared.packet.Packet.{Packet as PacketValue};
@@ -10,12 +10,12 @@ use crate::packet::{LoginAccepted, LoginRequest, Packet};
 use crate::packet_types::{sender_of_type, size_of_type};
 use crate::payload::Payload;
 
-/// Parses a packet that came from that side: the type byte and what follows it, without the length in front.
+/// Parses a packet from that side: the type byte and the bytes after it, without the length in front.
 ///
 /// # Errors
 ///
-/// The first fault that applies: no bytes, an unknown type, a type that only the other side sends, a length that is not the
-/// type's, and then the fields in order.
+/// The first fault that applies: no bytes, an unknown type, a type that only the other side sends, a length that is not the type's, and then
+/// the fields in order.
 pub fn parse_packet(block: &[u8], from: Origin) -> Result<Packet<'_>, SoupFault>
     ensures spelled { IfOk result (λ packet. PacketSpells packet block.entry.now from) }
     ensures only { (packet : PacketValue) → PacketSpells packet block.entry.now from → result ≡ Ok packet }
@@ -24,7 +24,7 @@ pub fn parse_packet(block: &[u8], from: Origin) -> Result<Packet<'_>, SoupFault>
     read(block, from)
 }
 
-// The packet that the block spells, or the block's fault.
+// Returns the packet of the block, or the block's fault.
 fn read(block: &[u8], from: Origin) -> Result<Packet<'_>, SoupFault>
     ensures { Reads (λ packet. PacketSpells packet block.entry.now from) (packet_fault block.entry.now from) result }
 {

@@ -6,7 +6,7 @@ ghost use Rattle.std.proofs.Common.{rules};
 
 use std::marker::Model;
 
-/// The bytes after the type of a packet that carries a message or a text. There may be none.
+/// The bytes after the type of a packet with a message or a text. There may be none.
 ///
 /// Equality is that of the bytes.
 #[derive(Debug, Drop)]
@@ -21,21 +21,21 @@ impl<'a> Model for Payload<'a> {
 }
 
 impl<'a> Payload<'a> {
-    /// These bytes as a payload.
+    /// Returns these bytes as a payload.
     pub fn new(bytes: &'a [u8]) -> Payload<'a>
         ensures { result ≡ bytes.entry.now }
     {
         Payload { bytes }
     }
 
-    /// The bytes themselves.
+    /// Returns the bytes.
     pub fn bytes(&self) -> &'a [u8]
         ensures { result.now ≡ self.now }
     {
         self.bytes
     }
 
-    // What follows the type byte of a block.
+    // Returns the bytes after the type byte of a block.
     pub(crate) fn after_type(block: &'a [u8]) -> Payload<'a>
         requires { 1 ≤ length block.now }
         ensures { result ≡ drop 1 block.entry.now }

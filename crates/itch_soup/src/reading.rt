@@ -1,4 +1,4 @@
-//! The next packet of a connection.
+//! Reads the next packet of a connection.
 ghost use types.Logic.{sem};
 ghost use Rattle.std.specs.Prelude.{◌≡◌};
 ghost use Rattle.std.specs.Io.BufRead.{Rests};
@@ -11,13 +11,13 @@ use itch_codec::GREATEST_SEQ;
 use itch_frame::{BlockReader, CountedRead, FrameFault};
 use std::alloc::Allocator;
 
-/// A session has no more packets than these: 10^19.
+/// The maximum number of packets of a session: 10^19.
 pub(crate) const MOST_PACKETS: u64 = GREATEST_SEQ;
 
-/// Why a packet was not read.
+/// The reason why a packet was not read.
 #[derive(Clone, Copy)]
 pub(crate) enum ReadFault {
-    /// As many as may be were read before.
+    /// The maximum number of packets was read before.
     TooMany,
     /// Its block could not be read.
     Frame(FrameFault),
@@ -42,7 +42,8 @@ impl From<ReadFault> for SoupFault {
     }
 }
 
-/// The bytes of the next packet, or `None` at the end of the input. After `MOST_PACKETS` (`enough`) any is one too many.
+/// Returns the bytes of the next packet, or `None` at the end of the input. After `MOST_PACKETS` packets (`enough`), any further packet is
+/// one too many.
 pub(crate) fn next_packet<R: CountedRead, A: Allocator>(
     reader: &mut BlockReader<R, A>,
     enough: bool,

@@ -1,4 +1,4 @@
-//! Packets sent to a client.
+//! Sends packets to a client.
 ghost use Rattle.std.specs.Prelude.{◌≡◌, ◌<◌, ◌-◌, ◌^◌, ◌∷◌, [], map, drop, length, IfOk};
 ghost use Rattle.itch_codec.specs.Widths.{IsMessage};
 ghost use Rattle.itch_frame.specs.Writing.{WriteBlock};
@@ -22,8 +22,7 @@ use itch_snapshot::{SnapshotIter, snapshot_len};
 ///
 /// # Faults
 ///
-/// `Write` with the number of the block's bytes that were written; `TooLong` for a payload above 65,534 bytes, of which
-/// nothing was written.
+/// `Write` with the number of bytes of the block that were written. `TooLong` for a payload above 65,534 bytes; then nothing was written.
 pub fn write_data<W: CountedWrite>(writer: &mut W, payload: &[u8]) -> Result<(), FrameFault>
     ensures { WriteBlock W.contents W.failures writer.old (packet_spelling (is.SequencedData payload.now)) result writer.new }
 {
@@ -56,7 +55,7 @@ fn write_acceptance<W: CountedWrite>(
     write_block(writer, &LoginAccepted::spelling(config, from))
 }
 
-/// The number of a session's messages before its End of Snapshot, found without going through them.
+/// Returns the number of a session's messages before its End of Snapshot, without iterating over them.
 pub(crate) fn messages_before_end<B: OrderBook>(market: &Market<B>) -> u64
     requires { length (snap market.now) < 10 ^ 19 - 1 }
     ensures { result ≡ length (snap market.now) }
@@ -73,8 +72,7 @@ fn pass_over<B: OrderBook>(messages: &mut SnapshotIter<'_, B>, count: u64)
     }
 }
 
-/// Accepts a login, writes the packet of each message from this number on, and ends the session. Returns how many messages
-/// there were.
+/// Accepts a login, writes the packet of each message from this number on, and ends the session. Returns the number of messages.
 pub fn write_session<W: CountedWrite, B: OrderBook>(
     writer: &mut W,
     market: &Market<B>,
@@ -91,8 +89,8 @@ pub fn write_session<W: CountedWrite, B: OrderBook>(
     write_answer(writer, market, next, from)
 }
 
-/// Writes what follows the acceptance of a login: the packet of each message from this number on, and that of the session's end.
-/// Returns how many messages there were.
+/// Writes the packets after the acceptance of a login: one for each message from this number on, and one for the session's end. Returns the
+/// number of messages.
 pub fn write_answer<W: CountedWrite, B: OrderBook>(
     writer: &mut W,
     market: &Market<B>,
@@ -113,8 +111,7 @@ pub fn write_answer<W: CountedWrite, B: OrderBook>(
     Ok(count + end)
 }
 
-// Writes the packet of the End of Snapshot, if it is asked for, and that of the session's end. Returns how many messages
-// there were.
+// Writes the packet of the End of Snapshot, if it is requested, and that of the session's end. Returns the number of messages.
 fn write_end<W: CountedWrite>(writer: &mut W, next: Seq, with_end: bool) -> Result<u64, FrameFault>
     ensures packets { SendsPackets W.contents W.failures writer.old (session_packets (end_part with_end next)) result writer.new }
     ensures count { IfOk result (λ count. count ≡ length (end_part with_end next)) }
@@ -128,7 +125,7 @@ fn write_end<W: CountedWrite>(writer: &mut W, next: Seq, with_end: bool) -> Resu
     Ok(count)
 }
 
-// Writes the packet of each message. Returns how many there were.
+// Writes the packet of each message. Returns the number of messages.
 fn write_messages<W: CountedWrite, B: OrderBook>(
     writer: &mut W,
     messages: SnapshotIter<'_, B>,

@@ -1,4 +1,4 @@
-//! A snapshot served in one session.
+//! Serves a snapshot in one session.
 ghost use Rattle.std.specs.Prelude.{◌≡◌, ◌<◌, ◌-◌, ◌^◌, [], length, OnOk};
 ghost use Rattle.itch_frame.specs.Reading.{bytes_left};
 ghost use Rattle.itch_snapshot.specs.Snapshot.{snap};
@@ -18,7 +18,7 @@ use itch_frame::{BlockReader, CountedRead, CountedWrite, write_block};
 use itch_market::Market;
 use std::alloc::Allocator;
 
-/// How a served connection ended.
+/// The end of a served connection.
 #[derive(Clone, Copy, Debug, PartialEq, Eq)]
 pub enum Served {
     /// The login was accepted, and `packets` messages were sent, the first one with the number `from`.
@@ -29,7 +29,7 @@ pub enum Served {
     Left,
 }
 
-/// How a client begins: it logs in, or leaves before that.
+/// The first action of a client: it logs in, or leaves before that.
 #[derive(Clone, Copy)]
 pub(crate) enum Opening {
     Login(LoginRequest),
@@ -38,18 +38,18 @@ pub(crate) enum Opening {
 
 /// Serves one connection: reads packets up to a login, writes the answer, and reads no more. It allocates no memory.
 ///
-/// Debug packets, unsequenced data and heartbeats are ignored. A login is judged by its user name and password, then by its
-/// session, then by its number. If it is accepted, the answer is the acceptance, the messages of the market's snapshot from
-/// that number on, the last of them the End of Snapshot with `next`, and the end of the session. If the client logs out, or
-/// its input ends before a login, it has `Left`, and nothing is written.
+/// Debug packets, unsequenced data and heartbeats are ignored. A login is judged by its user name and password, then by its session, then by
+/// its number. If it is accepted, the answer consists of the acceptance, the messages of the market's snapshot from that number on, the last
+/// of which is the End of Snapshot with `next`, and the end of the session. If the client logs out, or its input ends before a login, the
+/// result is `Left`, and nothing is written.
 ///
 /// The snapshot must have fewer than 10^19 - 1 messages: `snapshot_len` counts them.
 ///
 /// # Faults
 ///
-/// The fault of the first packet or block that has one, and `TooManyMessages` for a packet after 10^19 others; then nothing
-/// was written. After `Frame(Read)` the call may be made again, and continues where it was. `Frame(Write)` for a failed
-/// write: the blocks before it were written whole, and `sent` bytes of this one.
+/// The fault of the first packet or block that has one, and `TooManyMessages` for a packet after 10^19 others; then nothing was written.
+/// After `Frame(Read)` the call may be repeated, and continues where it was. `Frame(Write)` for a failed write: the blocks before it were
+/// written completely, and `sent` bytes of the current one.
 pub fn serve_one<R: CountedRead, A: Allocator, W: CountedWrite, B: OrderBook>(
     reader: &mut BlockReader<R, A>,
     writer: &mut W,
@@ -90,7 +90,7 @@ fn answer<W: CountedWrite, B: OrderBook>(
     }
 }
 
-// Reads packets up to a login, or to what comes in its place.
+// Reads packets up to a login, or to a logout, the end of the input or a fault.
 fn read_login<R: CountedRead, A: Allocator>(
     reader: &mut BlockReader<R, A>,
 ) -> Result<Opening, SoupFault>
@@ -106,7 +106,7 @@ fn read_login<R: CountedRead, A: Allocator>(
     unreachable!()
 }
 
-// Reads the next packet, unless as many were read as may be (`enough`). `None` if it is ignored.
+// Reads the next packet, unless the maximum number was read (`enough`). Returns `None` if it is ignored.
 fn read_packet<R: CountedRead, A: Allocator>(
     reader: &mut BlockReader<R, A>,
     enough: bool,

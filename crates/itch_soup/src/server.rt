@@ -14,33 +14,32 @@ const NOT_AUTHORISED: u8 = b'A';
 
 const NOT_AVAILABLE: u8 = b'S';
 
-/// What a server does after a packet.
+/// The action of a server after a packet.
 #[derive(Clone, Copy, Debug)]
 pub enum ServerAct {
-    /// Accepts the login, and sends the messages from this number on.
+    /// Accept the login, and send the messages from this number on.
     Accept { next: Seq },
-    /// Rejects the login with this code: `A` for not authorised, `S` for a session that is not available. The session is
-    /// closed.
+    /// Reject the login with this code: `A` for not authorised, `S` for a session that is not available. The session is closed.
     Reject(u8),
     Nothing,
     /// The client logged out. The session is closed.
     Close,
-    /// The client broke the protocol, or the session was closed before. It is closed now.
+    /// The client violated the protocol, or the session was closed before. It is closed now.
     Fault(SoupFault),
 }
 
-/// How a login is judged.
+/// The judgement on a login.
 #[derive(Clone, Copy)]
 pub(crate) enum Judgement {
-    /// It is accepted, and the messages from this number on are sent.
+    /// The login is accepted, and the messages from this number on are sent.
     Accepted { next: Seq },
-    /// It is rejected with this code.
+    /// The login is rejected with this code.
     Rejected(u8),
 }
 
-/// The server's side of a session. The caller passes in packets and times, and is told what to do.
+/// The server's side of a session. Pass in packets and times; each call returns the action to take.
 ///
-/// It calls [`sent`](ServerSession::sent) after sending anything.
+/// The caller calls [`sent`](ServerSession::sent) whenever it has sent something.
 #[derive(Debug, Drop)]
 pub struct ServerSession {
     config: ServerConfig,
@@ -64,7 +63,7 @@ impl ServerSession {
     ghost use Rattle.itch_soup.specs.Connections.{tick_answer};
     ghost use Rattle.itch_soup.specs.Servers.{new_server, acceptance, server_answer, server_after_packet, server_after_tick, server_after_sent};
 
-    /// A session of `total` messages that begins at `now_ms`, as if something had been received and sent then.
+    /// Creates a session of `total` messages that begins at `now_ms`, as if something had been received and sent then.
     ///
     /// `total` must be at most 10^19 - 1.
     pub fn new(config: ServerConfig, total: u64, now_ms: u64) -> ServerSession
@@ -78,8 +77,8 @@ impl ServerSession {
         }
     }
 
-    /// The packet to send once a login is accepted from this number on, without the length in front. Its session is that of
-    /// the configuration, without the spaces at both ends and padded on the left.
+    /// Returns the packet to send after a login is accepted from this number on, without the length in front. Its session is that of the
+    /// configuration, without the spaces at both ends and padded on the left.
     pub fn accepted(&self, next: Seq) -> [u8; 31]
         ensures bytes { result ≡ packet_spelling (Packet.LoginAccepted (acceptance self.now.config next)) }
         ensures spelled { PacketSpells (Packet.LoginAccepted (acceptance self.now.config next)) result Origin.Server }
@@ -87,7 +86,7 @@ impl ServerSession {
         LoginAccepted::spelling(&self.config, next)
     }
 
-    /// The packet to send once a login is rejected with this code, without the length in front.
+    /// Returns the packet to send after a login is rejected with this code, without the length in front.
     pub fn rejected(code: u8) -> [u8; 2]
         ensures bytes { result ≡ packet_spelling (Packet.LoginRejected code) }
         ensures spelled { PacketSpells (Packet.LoginRejected code) result Origin.Server }
@@ -95,7 +94,7 @@ impl ServerSession {
         [b'J', code]
     }
 
-    /// The packet to send at [`Tick::Heartbeat`], without the length in front.
+    /// Returns the packet to send at [`Tick::Heartbeat`], without the length in front.
     pub fn heartbeat() -> [u8; 1]
         ensures bytes { result ≡ packet_spelling Packet.ServerHeartbeat }
         ensures spelled { PacketSpells Packet.ServerHeartbeat result Origin.Server }
@@ -103,7 +102,7 @@ impl ServerSession {
         [b'H']
     }
 
-    /// The packet to send after the last message, without the length in front.
+    /// Returns the packet to send after the last message, without the length in front.
     pub fn end() -> [u8; 1]
         ensures bytes { result ≡ packet_spelling Packet.EndOfSession }
         ensures spelled { PacketSpells Packet.EndOfSession result Origin.Server }
@@ -111,15 +110,15 @@ impl ServerSession {
         [b'Z']
     }
 
-    /// The answer to a packet received at `now_ms`.
+    /// Returns the answer to a packet received at `now_ms`.
     ///
-    /// The first login is judged by its user name and password, then by its session, then by its number, which may be at
-    /// most the one after the last message. The answer to debug packets, unsequenced data and heartbeats is `Nothing`.
+    /// The first login is judged by its user name and password, then by its session, then by its number, which may be at most the one after
+    /// the last message. The answer to debug packets, unsequenced data and heartbeats is `Nothing`.
     ///
     /// # Faults
     ///
-    /// [`SoupFault::SecondLogin`] once a login was accepted, [`SoupFault::WrongSide`] for a packet that servers send, and
-    /// [`SoupFault::Closed`] once the session is closed.
+    /// [`SoupFault::SecondLogin`] after a login was accepted, [`SoupFault::WrongSide`] for a packet that only servers send, and
+    /// [`SoupFault::Closed`] after the session is closed.
     pub fn on_packet(&mut self, packet: &Packet<'_>, now_ms: u64) -> ServerAct
         ensures answer { result ≡ server_answer self.old packet.now }
         ensures after { self.new ≡ server_after_packet self.old packet.now now_ms }
@@ -137,7 +136,7 @@ impl ServerSession {
         self.connection.sent = now_ms;
     }
 
-    /// What to do at `now_ms` if no packet has come. A heartbeat counts as sent.
+    /// Returns the action that is due at `now_ms` if no packet has arrived. A heartbeat counts as sent.
     pub fn tick(&mut self, now_ms: u64) -> Tick
         ensures answer { result ≡ tick_answer self.old.connection now_ms }
         ensures after { self.new ≡ server_after_tick self.old now_ms }
@@ -146,7 +145,7 @@ impl ServerSession {
     }
 }
 
-// The answer to a packet, and the next stage.
+// Returns the answer to a packet, and the next stage.
 fn turn(config: &ServerConfig, total: u64, stage: Stage, packet: &Packet<'_>) -> (ServerAct, Stage)
     requires { total < 10 ^ 19 }
     ensures { result ≡ server_turn config.now total stage packet.now }
@@ -172,7 +171,7 @@ fn closing(fault: SoupFault) -> (ServerAct, Stage)
     (ServerAct::Fault(fault), Stage::Closed)
 }
 
-/// Judges a login to a session of `total` messages.
+/// Returns the judgement on a login to a session of `total` messages.
 pub(crate) fn judge(config: &ServerConfig, total: u64, login: &LoginRequest) -> Judgement
     requires { total < 10 ^ 19 }
     ensures { turn_of result ≡ judged config.now total login.now }

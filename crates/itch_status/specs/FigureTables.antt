@@ -10,14 +10,14 @@ use Rattle.itch_status.specs.declared.figure.Figure.TheVariants as is
 use Rattle.itch_status.specs.declared.shown.Shown.{Shown}
 use Rattle.itch_status.specs.declared.shown.Shown.TheVariants as shown
 
--- a feed that clients are served the market of
+-- clients receive the market of a feed in this state
 abbrev pub is_current : FeedState → Bool
 is_current Connecting = false
 is_current Following = true
 is_current Lost = false
 is_current Ended = true
 
--- whether a client that logs in now is served the feed's market
+-- a client that logs in now receives the feed's market
 abbrev pub is_ready : Figures → Bool
 is_ready f = is_some f.next && is_current f.state
 
@@ -27,7 +27,7 @@ record_length f = option_map (λ r. r.length) f.recorded
 abbrev pub record_unsynced : Figures → Option ℕ
 record_unsynced f = option_map (λ r. r.unsynced) f.recorded
 
--- its key in JSON, and after itchsnap_ its name as a metric
+-- the key in JSON, which is also the name of the metric after itchsnap_
 abbrev pub figure_key : Figure → List ℕ
 figure_key is.Ready = codes "ready"
 figure_key is.State = codes "feed_state"
@@ -55,7 +55,7 @@ figure_key is.Missed = codes "snapshot_files_missed_total"
 figure_key is.LinesLost = codes "log_lines_lost_total"
 figure_key is.Uptime = codes "uptime_seconds"
 
--- its label on the page for people
+-- the label on the page for people
 abbrev pub figure_label : Figure → List ℕ
 figure_label is.Ready = codes "Ready"
 figure_label is.State = codes "Feed"
@@ -83,7 +83,7 @@ figure_label is.Missed = codes "Snapshot files not written"
 figure_label is.LinesLost = codes "Lines of the log lost"
 figure_label is.Uptime = codes "Seconds since the start"
 
--- its description as a metric
+-- the description of the metric
 abbrev pub figure_help : Figure → List ℕ
 figure_help is.Ready = codes "Whether clients are served the current market."
 figure_help is.State = codes "The state of the feed."
@@ -111,7 +111,7 @@ figure_help is.Missed = codes "Snapshot files that could not be written."
 figure_help is.LinesLost = codes "Lines of the log that could not be written."
 figure_help is.Uptime = codes "Seconds since the start."
 
--- its type as a metric
+-- the type of the metric
 abbrev pub figure_kind : Figure → List ℕ
 figure_kind is.Ready = codes "gauge"
 figure_kind is.State = codes "gauge"
@@ -159,7 +159,7 @@ abbrev pub as_session : Option (List ℕ) → Shown
 as_session None = shown.Nothing
 as_session (Some s) = shown.Session s
 
--- its value
+-- the value of a figure
 abbrev pub figure_value : Figure → Figures → Shown
 figure_value is.Ready f = shown.Yes (is_ready f)
 figure_value is.State f = shown.State f.state
@@ -187,7 +187,7 @@ figure_value is.Missed f = shown.Count f.missed
 figure_value is.LinesLost f = shown.Count f.lines_lost
 figure_value is.Uptime f = shown.Thousandths f.uptime_ms
 
--- all of them, in the order in which they are shown
+-- all figures, in the order of the output
 abbrev pub figures_shown : List Figure
 figures_shown =
     is.Ready ∷ is.State ∷ is.Cause ∷ is.Session ∷ is.Server ∷ is.Losses ∷ is.Next ∷ is.Messages ∷ is.Rate

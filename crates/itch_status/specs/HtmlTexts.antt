@@ -10,7 +10,7 @@ use Rattle.itch_status.specs.declared.figure.Figure.{Figure}
 use Rattle.itch_status.specs.declared.shown.Shown.{Shown}
 use Rattle.itch_status.specs.declared.shown.Shown.TheVariants as shown
 
--- a value: plain, as no other may have a character of the document's own
+-- a value in HTML: only a session's name can contain characters that have to be escaped
 abbrev pub html_value : Shown → List ℕ
 html_value shown.Nothing = plain_value shown.Nothing
 html_value (shown.Count n) = plain_value (shown.Count n)
@@ -25,7 +25,7 @@ html_value (shown.Session s) = flat_map html_escaped (session_name s)
 unfoldable pub html_row : Figures → Figure → List ℕ
 html_row f figure = codes "<tr><th>" ++ figure_label figure ++ codes "</th><td>" ++ html_value (figure_value figure f) ++ codes "</td></tr>\n"
 
--- what is said of the chart, and the beginning of the table
+-- the caption of the chart, and the beginning of the table
 unfoldable pub caption : ℕ → List ℕ
 caption most = codes "<p>Messages per second over the last minute, at most " ++ decimal most ++ codes ".</p>\n<table>\n"
 

@@ -25,7 +25,7 @@ json_value (shown.Session s) = codes "\"" ++ flat_map escaped (session_name s) +
 unfoldable pub json_member : Figures → Figure → List ℕ
 json_member f figure = codes "\"" ++ figure_key figure ++ codes "\":" ++ json_value (figure_value figure f) ++ codes ","
 
--- the messages of a second
+-- the number of messages of a second
 abbrev pub json_second : ℕ → List ℕ
 json_second n = decimal n ++ codes ","
 

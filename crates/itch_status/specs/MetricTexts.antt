@@ -14,7 +14,7 @@ use Rattle.itch_status.specs.declared.shown.Shown.TheVariants as shown
 abbrev pub metric_name : Figure → List ℕ
 metric_name figure = codes "itchsnap_" ++ figure_key figure
 
--- its description and its type
+-- the description and the type of a metric
 unfoldable pub metric_heading : Figure → List ℕ
 metric_heading figure =
     codes "# HELP " ++ metric_name figure ++ codes " " ++ figure_help figure ++ codes "\n# TYPE " ++ metric_name figure ++ codes " " ++ figure_kind figure ++ codes "\n"
@@ -28,14 +28,14 @@ metric_number (shown.Yes true) = codes "1"
 metric_number (shown.Yes false) = codes "0"
 metric_number value = []
 
--- a sample of 1 whose label is a text, after an opening brace and its name
+-- a sample of 1 whose label is a text, after an opening brace and the label's name
 unfoldable pub labelled : Figure → List ℕ → List ℕ → List ℕ
 labelled figure opening text = metric_name figure ++ opening ++ flat_map escaped text ++ codes "\"} 1\n"
 
 abbrev pub states : List FeedState
 states = Connecting ∷ Following ∷ Lost ∷ Ended ∷ []
 
--- a sample of a state: 1 for the present one, and 0 for the others
+-- the sample of a state: 1 for the current state, and 0 for the others
 unfoldable pub state_sample : Figure → FeedState → FeedState → List ℕ
 state_sample figure present state =
     metric_name figure ++ codes "{state=\"" ++ state_words state ++ (if is_state state present then codes "\"} 1\n" else codes "\"} 0\n")
@@ -43,7 +43,7 @@ state_sample figure present state =
 abbrev pub numbered : Figure → Shown → List ℕ
 numbered figure value = metric_name figure ++ codes " " ++ metric_number value ++ codes "\n"
 
--- its samples, if it has any now
+-- the samples of a metric, if it has any now
 abbrev pub sample : Figure → Shown → List ℕ
 sample figure shown.Nothing = []
 sample figure (shown.Count n) = numbered figure (shown.Count n)

@@ -1,4 +1,4 @@
--- The pages of the status port, and the request that each is for.
+-- The pages of the status port, and the requests for each page.
 use Rattle.std.specs.Prelude.{ℕ, ◌==◌, ◌||◌, ◌&&◌, nat_le, Bool, true, false, List, [], ◌∷◌, length, take, drop, Option, None, Some, bytes_eq, codes, if◌then◌else◌}
 use Rattle.std.specs.Str.{str_eq_ignore_ascii_case}
 use Rattle.httparse.specs.Grammar.{RequestHead}
@@ -14,11 +14,11 @@ abbrev pub before_query : List ℕ → List ℕ
 before_query [] = []
 before_query (byte ∷ bytes) = if byte == 63 then [] else byte ∷ before_query bytes
 
--- whether a target is in absolute form, as `http://host:8080/metrics`: it begins with the scheme, in letters of either case
+-- a target is in absolute form, such as `http://host:8080/metrics`: it begins with the scheme, in upper or lower case
 abbrev pub is_absolute : List ℕ → Bool
 is_absolute target = nat_le 7 (length target) && str_eq_ignore_ascii_case (take 7 target) (codes "http://")
 
--- what follows a host and its port: it begins with the `/` of the path, or with the `?` of the query
+-- the part of a target after the host and its port: it begins with the `/` of the path, or with the `?` of the query
 abbrev pub after_host : List ℕ → List ℕ
 after_host [] = []
 after_host (byte ∷ bytes) = if byte == 47 || byte == 63 then byte ∷ bytes else after_host bytes
@@ -42,26 +42,26 @@ page_at path =
     else (if bytes_eq path (codes "/status") then Some Status
     else (if bytes_eq path (codes "/status.txt") then Some Lines else None)))))
 
--- the page that a target names
+-- the page of a target
 unfoldable pub page_of : List ℕ → Option Page
 page_of target = page_at (path_of target)
 
--- a refusal with a body, as of a request whose method is not HEAD, or is not known
+-- a refusal with a body, for a request whose method is not HEAD or is not known
 abbrev pub refused : Refusal → Answer
 refused why = answer.Refused why true
 
--- a page with a body or without one, or as much of the refusal where there is no page
+-- a page, or the refusal if there is no page; both with a body or without one
 abbrev pub page_answer : Bool → Option Page → Answer
 page_answer body None = answer.Refused refusal.NotFound body
 page_answer body (Some page) = answer.Page page body
 
--- what a request with this method and this target is answered
+-- the answer to a request with this method and this target
 abbrev pub method_answer : List ℕ → List ℕ → Answer
 method_answer method target =
     if bytes_eq method (codes "GET") then page_answer true (page_of target)
     else (if bytes_eq method (codes "HEAD") then page_answer false (page_of target)
     else refused refusal.MethodNotAllowed)
 
--- what a request with this head is answered
+-- the answer to a request with this head
 abbrev pub answer_of : RequestHead → Answer
 answer_of head = method_answer head.method head.target

@@ -9,7 +9,7 @@ use Rattle.itch_status.specs.declared.figure.Figure.{Figure}
 use Rattle.itch_status.specs.declared.shown.Shown.{Shown}
 use Rattle.itch_status.specs.declared.shown.Shown.TheVariants as shown
 
--- nanoseconds since midnight as a time of the day, to the millisecond
+-- nanoseconds since midnight as a time of day, to the millisecond
 abbrev pub time_of_day : ℕ → List ℕ
 time_of_day n =
     let seconds = n / 1000000000 in
@@ -32,6 +32,6 @@ plain_value (shown.Session s) = session_name s
 unfoldable pub plain_line : Figures → Figure → List ℕ
 plain_line f figure = figure_key figure ++ codes " " ++ plain_value (figure_value figure f) ++ codes "\n"
 
--- the lines of all figures, and that of the version
+-- the lines of all figures, and the line of the version
 abbrev pub plain_text : Figures → List ℕ → List ℕ
 plain_text f version = flat_map (plain_line f) figures_shown ++ codes "version " ++ version ++ codes "\n"

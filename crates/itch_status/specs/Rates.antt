@@ -1,58 +1,58 @@
--- How many messages came in each second of the last minute.
+-- The number of messages in each second of the last minute.
 use Rattle.std.specs.Prelude.{ℕ, zero, suc, ◌+◌, ◌-◌, ◌*◌, ◌/◌, nat_lt, List, [], ◌∷◌, ◌++◌, Option, None, Some, drop, min, max, if◌then◌else◌}
 use Rattle.itch_status.specs.declared.rate.Minute.{Minute}
 use Rattle.itch_status.specs.declared.tally.Tally.{Tally}
 
--- the greatest number of 64 bits
+-- the largest number of 64 bits
 abbrev pub most : ℕ
 most = 18446744073709551615
 
--- a sum, which stays at the greatest number
+-- a sum, at most the largest number
 abbrev pub added : ℕ → ℕ → ℕ
 added a b = min (a + b) most
 
--- a second later: the present second is the last one before, and the oldest is forgotten
+-- one second later: the current second becomes the last one before it, and the oldest is dropped
 abbrev pub passed : Minute → Minute
 passed m = record { before = drop 1 m.before ++ m.present ∷ []; present = 0; second = m.second }
 
--- so many seconds later
+-- this many seconds later
 abbrev pub passed_by : ℕ → Minute → Minute
 passed_by zero m = m
 passed_by (suc n) m = passed (passed_by n m)
 
--- in this second, or in the present one if that is later
+-- the minute in this second, or in its current one if that is later
 abbrev pub in_second : Minute → ℕ → Minute
 in_second m second = record { before = m.before; present = m.present; second = max m.second second }
 
--- the same after the seconds up to there have passed. After 61 nothing is left of those before
+-- the minute after the seconds up to this one have passed. After 61 seconds no earlier second is kept
 abbrev pub advanced : Minute → ℕ → Minute
 advanced m second = in_second (passed_by (min (second - m.second) 61) m) second
 
--- with so many messages more in this second
+-- the minute with this number of additional messages in this second
 abbrev pub counted : Minute → ℕ → ℕ → Minute
 counted m second messages =
     let m = advanced m second in record { before = m.before; present = added m.present messages; second = m.second }
 
--- a sum of numbers, from a first one on
+-- the sum of numbers, added to a first one
 abbrev pub sum_from : ℕ → List ℕ → ℕ
 sum_from so_far [] = so_far
 sum_from so_far (n ∷ ns) = sum_from (added so_far n) ns
 
--- the messages of the seconds before the present one
+-- the number of messages of the seconds before the current one
 abbrev pub total : Minute → ℕ
 total m = sum_from 0 m.before
 
--- the messages per second of those seconds, in thousandths
+-- the messages per second over those seconds, in thousandths
 abbrev pub rate : Minute → ℕ
 rate m = min (total m * 1000) most / 60
 
--- how many messages come before the one number and not before the other
+-- the number of messages before the one number and not before the other
 abbrev pub received : Option ℕ → Option ℕ → ℕ
 received (Some before) (Some next) = next - before
 received None next = 0
 received (Some before) None = 0
 
--- with messages in the present second, which are none or some
+-- the tally with this number of additional messages in the current second, which may be 0
 abbrev pub with_received : Tally → Option ℕ → ℕ → ℕ → Tally
 with_received t next now_ms count =
     record {
@@ -62,6 +62,6 @@ with_received t next now_ms count =
       received_ms = if nat_lt 0 count then Some now_ms else t.received_ms;
     }
 
--- with the messages before this number
+-- the tally after the messages before this number
 abbrev pub seen : Tally → Option ℕ → ℕ → Tally
 seen t next now_ms = with_received t next now_ms (received t.next next)

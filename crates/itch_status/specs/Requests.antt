@@ -1,4 +1,4 @@
--- What the beginning of a connection is answered, by the grammar of requests.
+-- The answer to the first bytes of a connection, by the grammar of requests.
 use Rattle.std.specs.Prelude.{◌≡◌, ℕ, ◌<◌, ◌≤◌, ◌⊎◌, true, false, List, length}
 use Rattle.httparse.specs.Grammar.{RequestHead, ReadsRequest, HasNoRequest, NeverHasRequest, MayBecomeRequest}
 use Rattle.httparse.specs.Spans.{RequestExceeds}
@@ -7,12 +7,12 @@ use Rattle.itch_status.specs.declared.refusal.Refusal.TheVariants as refusal
 use Rattle.itch_status.specs.declared.request.Answer.{Answer}
 use Rattle.itch_status.specs.declared.request.Answer.TheVariants as answer
 
--- the bytes begin with a head that is answered so
+-- the bytes begin with a head that has this answer
 abbrev pub IsAnswered : List ℕ → Answer → Type 0
 IsAnswered bytes given = (head : RequestHead) × (rest : List ℕ) × ReadsRequest bytes head rest × (answer_of head ≡ given)
 
--- More is to come while there is no head and one may still come, within 8 KiB. Bytes are bad where none can come, and too large where none has come in
--- 8 KiB, or one has more than 64 fields. Otherwise the answer is that of the head.
+-- More bytes are needed while there is no head and one may still follow within 8 KiB. A request is bad if no head can follow, and too large
+-- if no head is complete within 8 KiB, or if the head has more than 64 fields. Otherwise the answer is that of the head.
 abbrev pub Answers : List ℕ → Answer → Type 0
 Answers bytes answer.More = (length bytes < 8192) × HasNoRequest bytes × MayBecomeRequest bytes
 Answers bytes (answer.Refused refusal.BadRequest true) = NeverHasRequest bytes

@@ -22,7 +22,7 @@ refusal_code refusal.MethodNotAllowed = 405
 refusal_code refusal.TimedOut = 408
 refusal_code refusal.TooLarge = 431
 
--- the phrase of a code, where it has one of at most 40 characters
+-- the phrase of a code, if it has a phrase of at most 40 characters
 abbrev pub short_phrase : Option (List ℕ) → List ℕ
 short_phrase None = []
 short_phrase (Some words) = if nat_le (length words) 40 then words else []
@@ -34,12 +34,12 @@ phrase code = short_phrase (reason_phrase code)
 abbrev pub status_text : ℕ → List ℕ
 status_text code = decimal code ++ codes " " ++ phrase code
 
--- the field with the date, where it is known
+-- the field with the date, if the date is known
 abbrev pub date_field : Option HttpDate → List ℕ
 date_field None = []
 date_field (Some date) = codes "\r\nDate: " ++ date_text date
 
--- the field with the methods, where one is not allowed
+-- the field with the allowed methods, for a method that is not allowed
 abbrev pub allow : ℕ → List ℕ
 allow code = if code == 405 then codes "\r\nAllow: GET, HEAD" else []
 
@@ -50,7 +50,7 @@ head_text code kind count date =
     ++ date_field date ++ allow code
     ++ codes "\r\nCache-Control: no-store\r\nX-Content-Type-Options: nosniff\r\nContent-Security-Policy: default-src 'none'; style-src 'unsafe-inline'\r\nConnection: close\r\n\r\n"
 
--- the type of a page
+-- the content type of a page
 abbrev pub content_type : Page → List ℕ
 content_type People = codes "text/html; charset=utf-8"
 content_type Metrics = codes "text/plain; version=0.0.4; charset=utf-8"
@@ -67,7 +67,7 @@ abbrev pub ready_words : Bool → List ℕ
 ready_words true = codes "ready\n"
 ready_words false = codes "not ready\n"
 
--- its status code: 503 where it is asked whether the server is ready, and it is not
+-- the status code of a page: 503 for the question whether the server is ready, if it is not
 abbrev pub page_code : Page → Figures → ℕ
 page_code People f = 200
 page_code Metrics f = 200
@@ -76,7 +76,7 @@ page_code Ready f = ready_code (is_ready f)
 page_code Status f = 200
 page_code Lines f = 200
 
--- its body
+-- the body of a page
 abbrev pub page_body : Page → Figures → List ℕ → List ℕ
 page_body People f version = html_text f version
 page_body Metrics f version = metrics_text f version
@@ -85,7 +85,7 @@ page_body Ready f version = ready_words (is_ready f)
 page_body Status f version = json_text f version
 page_body Lines f version = plain_text f version
 
--- the head, and the body unless it is not asked for
+-- the head, and the body unless only the head was requested
 abbrev pub with_body : Bool → List ℕ → List ℕ → List ℕ
 with_body true head body = head ++ body
 with_body false head body = head
@@ -95,7 +95,7 @@ abbrev pub page_response : Page → Bool → Figures → List ℕ → Option Htt
 page_response page asked f version date =
     with_body asked (head_text (page_code page f) (content_type page) (length (page_body page f version)) date) (page_body page f version)
 
--- the response to a request that is not answered with a page, with a body that says so unless it is not asked for
+-- the response to a request that is not answered with a page: the body states the reason, unless only the head was requested
 abbrev pub refusal_response : Refusal → Bool → Option HttpDate → List ℕ
 refusal_response why asked date =
     let words = status_text (refusal_code why) ++ codes "\n" in

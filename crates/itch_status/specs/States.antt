@@ -1,18 +1,18 @@
--- The state of a feed, and why it is not followed.
+-- The state of a feed, and the reason why it is not followed.
 use Rattle.std.specs.Prelude.{ℕ, Bool, true, false, List, codes}
 use Rattle.itch_status.specs.declared.state.FeedState.{FeedState}
 use Rattle.itch_status.specs.declared.state.FeedState.TheVariants.{Connecting, Following, Lost, Ended}
 use Rattle.itch_status.specs.declared.cause.Cause.{Cause}
 use Rattle.itch_status.specs.declared.cause.Cause.TheVariants as cause
 
--- a state in a word
+-- the word for a state
 abbrev pub state_words : FeedState → List ℕ
 state_words Connecting = codes "connecting"
 state_words Following = codes "following"
 state_words Lost = codes "lost"
 state_words Ended = codes "ended"
 
--- a cause in words
+-- the text of a cause
 abbrev pub cause_words : Cause → List ℕ
 cause_words cause.NotFound = codes "not found"
 cause_words cause.Refused = codes "refused"
@@ -30,7 +30,7 @@ cause_words cause.Gap = codes "gap"
 cause_words cause.NoMemory = codes "out of memory"
 cause_words cause.Broken = codes "broke the protocol"
 
--- whether two states are the same
+-- two states are equal
 abbrev pub is_state : FeedState → FeedState → Bool
 is_state Connecting Connecting = true
 is_state Following Following = true

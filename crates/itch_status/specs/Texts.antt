@@ -17,7 +17,7 @@ nanoseconds n =
     decimal (n / 1000000000) ++ 46 ∷ digit (n / 100000000) ∷ digit (n / 10000000) ∷ digit (n / 1000000) ∷ digit (n / 100000)
     ∷ digit (n / 10000) ∷ digit (n / 1000) ∷ digit (n / 100) ∷ digit (n / 10) ∷ digit n ∷ []
 
--- a byte of a quoted text: after a reverse solidus if it is a quotation mark or one itself
+-- a byte of a quoted text: a quotation mark and a backslash have a backslash before them
 abbrev pub escaped : ℕ → List ℕ
 escaped byte = if byte == 34 || byte == 92 then 92 ∷ byte ∷ [] else byte ∷ []
 

@@ -1,8 +1,8 @@
--- The time as a log writes it: 2026-11-29T09:30:00.123Z, from a date of HTTP: Sun, 29 Nov 2026 09:30:00 GMT.
+-- The time in a log, such as 2026-11-29T09:30:00.123Z, from an HTTP date, such as Sun, 29 Nov 2026 09:30:00 GMT.
 use Rattle.std.specs.Prelude.{ℕ, ◌/◌, ◌==◌, ◌&&◌, List, [], ◌∷◌, codes, slice_index, if◌then◌else◌}
 use Rattle.itch_status.specs.Texts.{digit}
 
--- the two digits of a month, by its three letters
+-- the two digits of a month, from its three letters
 abbrev pub month_digits : ℕ → ℕ → ℕ → List ℕ
 month_digits first second third =
     if first == 74 && second == 97 then codes "01"
@@ -17,7 +17,7 @@ month_digits first second third =
     else (if first == 79 then codes "10"
     else (if first == 78 then codes "11" else codes "12"))))))))))
 
--- the time of a date of HTTP and of milliseconds since 1970
+-- the time of an HTTP date and of milliseconds since 1970
 abbrev pub utc_text : List ℕ → ℕ → List ℕ
 utc_text date ms =
     let at = slice_index date in

@@ -1,25 +1,25 @@
-//! Why a feed is not followed.
+//! The reasons why a feed is not followed.
 ghost use Rattle.std.specs.Prelude.{◌≡◌, ◌≤◌, length};
 ghost use Rattle.itch_status.specs.States.{cause_words};
 
-/// Why the last connection to a feed ended, or was not made.
+/// The reason why the last connection to a feed ended, or failed.
 #[derive(Clone, Copy, Debug, PartialEq, Eq)]
 pub enum Cause {
     /// No address was found for the server's name.
     NotFound,
     /// The server's machine refused the connection.
     Refused,
-    /// There is no way to the server.
+    /// No route leads to the server.
     Unreachable,
     /// The server reset the connection.
     Reset,
-    /// The system gave up the connection.
+    /// The system gave up on the connection.
     TimedOut,
     /// The server closed the connection, or ended its session before any message.
     Closed,
     /// The server sent nothing for 15 seconds.
     Silent,
-    /// Another call of the system failed.
+    /// Another system call failed.
     Failed,
     /// The user name or the password is wrong.
     WrongLogin,
@@ -27,18 +27,18 @@ pub enum Cause {
     NoSession,
     /// The server rejected the login with another code.
     Rejected,
-    /// The server accepted the login in another session.
+    /// The server accepted the login for another session.
     OtherSession,
-    /// The server begins with a later message than the next one.
+    /// The server starts with a later message than the next one.
     Gap,
-    /// Memory was refused for a message.
+    /// Memory ran out for a message.
     NoMemory,
-    /// The server broke the protocol.
+    /// The server violated the protocol.
     Broken,
 }
 
 impl Cause {
-    /// The cause in words.
+    /// Returns the text of the cause.
     pub fn words(self) -> &'static str
         ensures words { result.now ≡ cause_words self }
         ensures short { length result.now ≤ 20 }

@@ -1,4 +1,4 @@
-//! A chart of the messages of each second, as SVG.
+//! A chart of the messages per second, as SVG.
 ghost use Rattle.std.specs.Prelude.{◌≡◌, ◌≤◌, ◌++◌, OnOk};
 ghost use Rattle.itch_status.specs.ChartTexts.{bar, bar_height, bars, chart_text, greatest};
 
@@ -9,7 +9,7 @@ use std::alloc::AllocError;
 /// The height of the highest bar.
 const HEIGHT: u64 = 100;
 
-/// Appends a chart with a bar for each second.
+/// Appends a chart with one bar per second.
 #[tactic(auto, using(crate::proofs::Joining::joining))]
 pub(crate) fn extend_chart(text: &mut Vec<u8>, seconds: &[u64]) -> Result<(), AllocError>
     ensures { OnOk result (text.new.items ≡ text.old.items ++ chart_text seconds.now) }
@@ -33,7 +33,7 @@ fn extend_bars(text: &mut Vec<u8>, seconds: &[u64], most: u64) -> Result<(), All
     Ok(())
 }
 
-// A bar of this height, at this place from the left.
+// Returns a bar of this height, at this distance from the left.
 #[tactic(auto, using(crate::proofs::Joining::joining), unfolding(crate::specs::ChartTexts::bar))]
 fn bar(left: u64, height: u64) -> ArrayVec<u8, 128>
     requires { height ≤ 100 }
@@ -50,7 +50,7 @@ fn bar(left: u64, height: u64) -> ArrayVec<u8, 128>
     line
 }
 
-// The height of a bar, where the highest one has so many messages.
+// Returns the height of a bar if the highest bar has `most` messages.
 fn bar_height(messages: u64, most: u64) -> u64
     ensures height { result ≡ bar_height messages most }
     ensures within { result ≤ 100 }
@@ -62,7 +62,7 @@ fn bar_height(messages: u64, most: u64) -> u64
     u64::try_from(height).unwrap_or(HEIGHT).min(HEIGHT)
 }
 
-/// The greatest number of a list, or 0.
+/// Returns the largest number of a list, or 0.
 pub(crate) fn greatest(numbers: &[u64]) -> u64
     ensures { result ≡ greatest numbers.now }
 {

@@ -38,7 +38,7 @@ pub(crate) enum Figure {
 }
 
 impl Figure {
-    /// All figures, in the order in which they are shown.
+    /// All figures, in the order of the output.
     pub(crate) const ALL: [Figure; 25] = [
         Figure::Ready,
         Figure::State,
@@ -67,7 +67,7 @@ impl Figure {
         Figure::Uptime,
     ];
 
-    /// Its key in JSON, and after `itchsnap_` its name as a metric.
+    /// Returns the key in JSON, which is also the name of the metric after `itchsnap_`.
     pub(crate) fn key(self) -> &'static str
         ensures key { result.now ≡ figure_key self }
         ensures short { length result.now ≤ 32 }
@@ -101,7 +101,7 @@ impl Figure {
         }
     }
 
-    /// Its label on the page for people.
+    /// Returns the label on the page for people.
     pub(crate) fn label(self) -> &'static str
         ensures label { result.now ≡ figure_label self }
         ensures short { length result.now ≤ 40 }
@@ -135,7 +135,7 @@ impl Figure {
         }
     }
 
-    /// Its description as a metric.
+    /// Returns the description of the metric.
     pub(crate) fn help(self) -> &'static str
         ensures help { result.now ≡ figure_help self }
         ensures short { length result.now ≤ 90 }
@@ -169,7 +169,7 @@ impl Figure {
         }
     }
 
-    /// Its type as a metric: what can only grow is a counter.
+    /// Returns the type of the metric: a figure that never decreases is a counter.
     pub(crate) fn kind(self) -> &'static str
         ensures kind { result.now ≡ figure_kind self }
         ensures short { length result.now ≤ 7 }
@@ -186,7 +186,7 @@ impl Figure {
         }
     }
 
-    /// Its value.
+    /// Returns the value.
     pub(crate) fn value(self, figures: &Figures) -> Shown
         ensures { result ≡ figure_value self figures.now }
     {

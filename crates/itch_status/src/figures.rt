@@ -8,48 +8,48 @@ use crate::rate::Minute;
 use crate::state::FeedState;
 use itch_codec::Alpha;
 
-/// What a live server knows of itself at one moment.
+/// The figures of a live server at one point in time.
 #[derive(Clone, Copy, Debug, PartialEq, Eq)]
 pub struct Figures {
     pub state: FeedState,
-    /// Why the feed is not followed, where that is known.
+    /// The reason why the feed is not followed, if it is known.
     pub cause: Option<Cause>,
-    /// The feed's session, once it is known.
+    /// The feed's session, after the feed named it.
     pub session: Option<Alpha<10>>,
-    /// The number of the next message, once there is a market.
+    /// The number of the next message, if there is a market.
     pub next: Option<u64>,
-    /// The messages that were received since the start, and in the last minute.
+    /// The number of messages received since the start, and in the last minute.
     pub messages: u64,
     pub minute: Minute,
-    /// The timestamp of the last message, in nanoseconds since midnight, and how long ago it was received.
+    /// The timestamp of the last message, in nanoseconds since midnight, and the time since it was received, in milliseconds.
     pub market_ns: Option<u64>,
     pub silence_ms: Option<u64>,
-    /// Which of the feed's servers is used, from 1, and how often a connection to one was lost, or was not made.
+    /// The number of the feed's server in use, from 1, and how often a connection to a server was lost or failed.
     pub server: u64,
     pub losses: u64,
-    /// The connections so far, those that have not logged in yet, the clients that wait for a snapshot, those that are sent one, and the
-    /// slots for both.
+    /// The connections so far, those that have not logged in yet, the clients that wait for a snapshot, the clients that are receiving one,
+    /// and the slots for both.
     pub connections: u64,
     pub opening: u64,
     pub waiting: u64,
     pub served: u64,
     pub slots: u64,
-    /// The snapshots that were encoded, the bytes of those in use, and the bytes that clients were sent.
+    /// The snapshots that were encoded, the bytes of those in use, and the bytes sent to clients.
     pub encoded: u64,
     pub kept: u64,
     pub sent: u64,
-    /// None where messages are not recorded.
+    /// `None` if messages are not recorded.
     pub recorded: Option<Recorded>,
-    /// How many messages the newest snapshot file has, if one was written, and how many files could not be written.
+    /// The number of messages of the newest snapshot file, if one was written, and the number of files that could not be written.
     pub saved: Option<u64>,
     pub missed: u64,
-    /// The lines of the log that could not be written.
+    /// The number of lines of the log that could not be written.
     pub lines_lost: u64,
-    /// How long ago the server started.
+    /// The time since the server started, in milliseconds.
     pub uptime_ms: u64,
 }
 
-/// A record: its bytes, and those that are not known to be on disk.
+/// A record: its bytes, and those that may not be on disk yet.
 #[derive(Clone, Copy, Debug, PartialEq, Eq)]
 pub struct Recorded {
     pub length: u64,
@@ -57,7 +57,7 @@ pub struct Recorded {
 }
 
 impl Figures {
-    /// Those of a server that has just begun: all are 0, or none.
+    /// Returns the figures of a server that has just started: all are 0 or `None`.
     pub fn new() -> Figures
         ensures state { result.state ≡ Connecting }
         ensures next { result.next ≡ None }
@@ -89,21 +89,21 @@ impl Figures {
         }
     }
 
-    /// Whether a client that logs in now is served the feed's market: there is one, and the feed is followed, or has ended.
+    /// Returns whether a client that logs in now receives the feed's market: there is a market, and the feed is followed or has ended.
     pub fn is_ready(&self) -> bool
         ensures { result ≡ is_ready self.now }
     {
         self.next.is_some() && matches!(self.state, FeedState::Following | FeedState::Ended)
     }
 
-    /// The bytes of the record, if there is one.
+    /// Returns the number of bytes of the record, if there is one.
     pub fn record_length(&self) -> Option<u64>
         ensures { result ≡ record_length self.now }
     {
         Some(self.recorded?.length)
     }
 
-    /// Its bytes that are not known to be on disk.
+    /// Returns the number of its bytes that may not be on disk yet.
     pub fn record_unsynced(&self) -> Option<u64>
         ensures { result ≡ record_unsynced self.now }
     {

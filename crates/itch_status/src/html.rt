@@ -13,7 +13,7 @@ use crate::shown::{Shown, session_name};
 use arrayvec::ArrayVec;
 use std::alloc::{AllocError, Global};
 
-/// What comes before the chart: the document's head, with all styles.
+/// The page before the chart: the document's head, with all styles.
 const HEAD: &[u8] = b"<!DOCTYPE html>
 <html lang=\"en\">
 <head>
@@ -35,7 +35,7 @@ p { color: #57606a; }
 <h1>itchsnap live</h1>
 ";
 
-/// The page: the chart of the last minute, and a row for each figure.
+/// Returns the page: the chart of the last minute, and one row per figure.
 #[tactic(auto, using(crate::proofs::Joining::joining))]
 pub(crate) fn html(alloc: Global, figures: &Figures, version: &str) -> Result<Vec<u8>, AllocError>
     ensures { IfOk result (λ text. text.items ≡ html_text figures.now version.now) }
@@ -51,14 +51,14 @@ pub(crate) fn html(alloc: Global, figures: &Figures, version: &str) -> Result<Ve
     Ok(text)
 }
 
-// What comes before the chart.
+// Returns the page before the chart.
 fn beginning() -> &'static [u8]
     ensures { result.now ≡ html_beginning }
 {
     HEAD
 }
 
-// What is said of the chart, and the beginning of the table.
+// Returns the caption of the chart, and the beginning of the table.
 #[tactic(auto, using(crate::proofs::Joining::joining), unfolding(crate::specs::HtmlTexts::caption))]
 fn caption(most: u64) -> ArrayVec<u8, 160>
     ensures { result.items ≡ caption most }

@@ -11,7 +11,8 @@ use crate::shown::{Shown, session_name};
 use arrayvec::ArrayVec;
 use std::alloc::{AllocError, Global};
 
-/// The figures as an object: each figure, the version, and the messages of each second of the last minute, the last of which is not over.
+/// Returns the figures as an object: each figure, the version, and the messages of each second of the last minute. The last second is not
+/// over yet.
 #[tactic(auto, using(crate::proofs::Joining::joining))]
 pub(crate) fn json(alloc: Global, figures: &Figures, version: &str) -> Result<Vec<u8>, AllocError>
     ensures { IfOk result (λ text. text.items ≡ json_text figures.now version.now) }

@@ -1,7 +1,7 @@
-//! The status of a live server over HTTP/1.1: which page a request asks for, and the bytes of each answer as a function of the server's figures.
+//! The status of a live server over HTTP/1.1: the page for a request, and the bytes of each response as a function of the server's figures.
 //!
-//! Nothing here has a socket or a clock. [`answer_to`] reads a request, [`respond`] makes the response to it from [`Figures`], and
-//! [`Minute`] counts messages per second. Requests are those of the grammar of `httparse`.
+//! This crate uses neither sockets nor clocks. [`answer_to`] reads a request, [`respond`] builds the response from [`Figures`], and
+//! [`Minute`] counts messages per second. Requests follow the grammar of `httparse`.
 #![tactic(auto)]
 
 mod cause;

@@ -1,4 +1,4 @@
-//! Pieces of text, made in place.
+//! Pieces of text, built in place.
 ghost use Rattle.std.specs.Prelude.{◌≡◌, ◌+◌, ◌*◌, ◌≤◌, ◌++◌, length, decimal};
 ghost use Rattle.std.specs.List.{flat_map};
 ghost use Rattle.arrayvec.specs.ArrayVec.{array_vec_len};
@@ -16,7 +16,7 @@ pub(crate) fn push<const N: usize>(line: &mut ArrayVec<u8, N>, bytes: &[u8])
     line.try_extend_from_slice(bytes).unwrap();
 }
 
-/// Appends a number in decimal digits, of which it has twenty at most.
+/// Appends a number in decimal digits, at most twenty.
 pub(crate) fn push_number<const N: usize>(line: &mut ArrayVec<u8, N>, number: u64)
     requires { array_vec_len line.old + 20 ≤ N }
     ensures items { line.new.items ≡ line.old.items ++ decimal number }
@@ -62,14 +62,14 @@ pub(crate) fn push_nanoseconds<const N: usize>(line: &mut ArrayVec<u8, N>, numbe
     );
 }
 
-/// The last decimal digit of a number.
+/// Returns the last decimal digit of a number.
 pub(crate) fn digit(number: u64) -> u8
     ensures { result ≡ digit number }
 {
     b'0' + (number % 10) as u8
 }
 
-/// Appends bytes, with a reverse solidus before each quotation mark and each reverse solidus.
+/// Appends bytes, with a backslash before each quotation mark and each backslash.
 pub(crate) fn push_escaped<const N: usize>(line: &mut ArrayVec<u8, N>, bytes: &[u8])
     requires { array_vec_len line.old + 2 * length bytes.now ≤ N }
     ensures items { line.new.items ≡ line.old.items ++ flat_map escaped bytes.now }

@@ -10,7 +10,7 @@ use crate::plain::push_plain;
 use arrayvec::ArrayVec;
 use std::alloc::{AllocError, Global};
 
-/// A line for each figure, with its key and its value, and one for the version.
+/// Returns one line per figure, with its key and its value, and a line with the version.
 #[tactic(auto, using(crate::proofs::Joining::joining))]
 pub(crate) fn lines(alloc: Global, figures: &Figures, version: &str) -> Result<Vec<u8>, AllocError>
     ensures { IfOk result (λ text. text.items ≡ plain_text figures.now version.now) }

@@ -13,10 +13,10 @@ use crate::state::FeedState;
 use arrayvec::ArrayVec;
 use std::alloc::{AllocError, Global};
 
-/// The longest metric.
+/// The length of the longest metric.
 const LONGEST: usize = 640;
 
-/// The figures as metrics, and the version.
+/// Returns the figures as metrics, and the version.
 #[tactic(auto, using(crate::proofs::Joining::joining))]
 pub(crate) fn metrics(
     alloc: Global,
@@ -44,7 +44,7 @@ fn extend_metrics(text: &mut Vec<u8>, shown: &[Figure], figures: &Figures) -> Re
     Ok(())
 }
 
-// A metric: its description, its type, and its samples, if it has any now.
+// Returns a metric: its description, its type, and its samples, if it has any now.
 #[tactic(auto, using(crate::proofs::Joining::joining), unfolding(crate::specs::MetricTexts::metric))]
 fn metric(figure: Figure, figures: &Figures) -> ArrayVec<u8, LONGEST>
     ensures { result.items ≡ metric figures.now figure }
@@ -106,7 +106,7 @@ fn push_sample(lines: &mut ArrayVec<u8, LONGEST>, figure: Figure, shown: Shown)
     }
 }
 
-// A value that is a number.
+// Appends a value that is a number.
 fn push_number_of(lines: &mut ArrayVec<u8, LONGEST>, shown: Shown)
     requires { array_vec_len lines.old + 30 ≤ 640 }
     ensures items { lines.new.items ≡ lines.old.items ++ metric_number shown }
@@ -122,7 +122,7 @@ fn push_number_of(lines: &mut ArrayVec<u8, LONGEST>, shown: Shown)
     }
 }
 
-// A sample of 1 whose label is a text, after an opening brace and its name.
+// Appends a sample of 1 whose label is a text, after an opening brace and the label's name.
 #[tactic(auto, using(crate::proofs::Joining::joining), unfolding(crate::specs::MetricTexts::labelled))]
 fn push_labelled(lines: &mut ArrayVec<u8, LONGEST>, figure: Figure, opening: &[u8], text: &[u8])
     requires { array_vec_len lines.old + length opening.now + 2 * length text.now + 46 ≤ 640 }
@@ -134,7 +134,7 @@ fn push_labelled(lines: &mut ArrayVec<u8, LONGEST>, figure: Figure, opening: &[u
     push(lines, b"\"} 1\n");
 }
 
-// A sample for each state: 1 for the present one, and 0 for the others.
+// Appends one sample per state: 1 for the current state, and 0 for the others.
 #[tactic(auto, using(crate::proofs::Joining::joining))]
 fn push_states(lines: &mut ArrayVec<u8, LONGEST>, figure: Figure, present: FeedState)
     requires { array_vec_len lines.old ≤ 226 }

@@ -2,16 +2,16 @@
 ghost use Rattle.std.specs.Prelude.{◌≡◌, ◌≤◌, IsTrue, length};
 ghost use Rattle.itch_status.specs.Pages.{after_host, before_query, is_absolute, or_root, page_of, path_of};
 
-/// A page.
+/// A page of the status port.
 #[derive(Clone, Copy, Debug, PartialEq, Eq)]
 pub enum Page {
     /// `/`, for people.
     People,
     /// `/metrics`, for Prometheus.
     Metrics,
-    /// `/healthz`: the server runs.
+    /// `/healthz`: confirms that the server runs.
     Health,
-    /// `/readyz`: whether a client that logs in now is served the feed's market.
+    /// `/readyz`: states whether a client that logs in now receives the feed's market.
     Ready,
     /// `/status`, as JSON.
     Status,
@@ -19,7 +19,7 @@ pub enum Page {
     Lines,
 }
 
-/// The page that a request's target names, in origin form or in absolute form, whatever query follows its path.
+/// Returns the page for a request's target, in origin form or in absolute form, for any query after its path.
 #[tactic(auto, unfolding(crate::specs::Pages::page_of))]
 pub fn page_of(target: &[u8]) -> Option<Page>
     ensures { result ≡ page_of target.now }
@@ -42,7 +42,7 @@ pub fn page_of(target: &[u8]) -> Option<Page>
     }
 }
 
-// The path of a target.
+// Returns the path of a target.
 fn path_of(target: &[u8]) -> &[u8]
     ensures { result.now ≡ path_of target.now }
 {
@@ -55,7 +55,7 @@ fn path_of(target: &[u8]) -> &[u8]
 
 const SCHEME: &[u8; 7] = b"http://";
 
-// Whether a target begins with the scheme and a host.
+// Returns whether a target begins with the scheme and a host.
 fn is_absolute(target: &[u8]) -> bool
     ensures absolute { result ≡ is_absolute target.now }
     ensures long { IsTrue result → 7 ≤ length target.now }
@@ -63,7 +63,7 @@ fn is_absolute(target: &[u8]) -> bool
     target.len() >= SCHEME.len() && target[..SCHEME.len()].eq_ignore_ascii_case(SCHEME)
 }
 
-// What follows a host.
+// Returns the part of a target after its host.
 fn after_host(target: &[u8]) -> &[u8]
     ensures { result.now ≡ after_host target.now }
 {
@@ -75,14 +75,14 @@ fn after_host(target: &[u8]) -> &[u8]
     b""
 }
 
-// A path, or that of the page for people where it is empty.
+// Returns a path, or the path of the page for people if it is empty.
 fn or_root(path: &[u8]) -> &[u8]
     ensures { result.now ≡ or_root path.now }
 {
     if path.is_empty() { b"/" } else { path }
 }
 
-// The part of a target before its query.
+// Returns the part of a target before its query.
 fn before_query(target: &[u8]) -> &[u8]
     ensures { result.now ≡ before_query target.now }
 {

@@ -26,7 +26,7 @@ pub(crate) fn push_plain<const N: usize>(line: &mut ArrayVec<u8, N>, shown: Show
     }
 }
 
-// Nanoseconds since midnight as a time of the day, to the millisecond.
+// Appends nanoseconds since midnight as a time of day, to the millisecond.
 fn push_clock<const N: usize>(line: &mut ArrayVec<u8, N>, nanoseconds: u64)
     requires { array_vec_len line.old + 12 ≤ N }
     ensures items { line.new.items ≡ line.old.items ++ time_of_day nanoseconds }

@@ -1,25 +1,25 @@
-//! How many messages came in each second of the last minute.
+//! Counts the messages of each second of the last minute.
 ghost use Rattle.std.specs.Prelude.{◌≡◌};
 ghost use Rattle.itch_status.specs.Rates.{advanced, counted, passed, rate, total};
 
-/// How many seconds are remembered.
+/// The number of seconds that are kept.
 pub const SECONDS: usize = 60;
 
-/// After so many seconds nothing is left of those before.
+/// After this many seconds no earlier second is kept.
 const FORGOTTEN: u64 = 61;
 
-/// The messages of the present second, and of each of the sixty seconds before it.
+/// The number of messages of the current second, and of each of the sixty seconds before it.
 #[derive(Clone, Copy, Debug, PartialEq, Eq)]
 pub struct Minute {
-    /// The seconds before the present one, the oldest first.
+    /// The seconds before the current one, the oldest first.
     pub before: [u64; SECONDS],
-    /// The messages of the present second, and which one that is.
+    /// The number of messages of the current second, and the number of that second.
     pub present: u64,
     pub second: u64,
 }
 
 impl Minute {
-    /// A minute without messages, in second 0.
+    /// Returns a minute without messages, in second 0.
     pub fn new() -> Minute {
         Minute {
             before: [0; SECONDS],
@@ -28,7 +28,7 @@ impl Minute {
         }
     }
 
-    /// Counts messages in this second. A second before the present one is taken for that.
+    /// Counts messages in this second. Messages of an earlier second count as those of the current one.
     pub fn count(&mut self, second: u64, messages: u64)
         ensures { self.new ≡ counted self.old second messages }
     {
@@ -36,7 +36,7 @@ impl Minute {
         self.present = self.present.saturating_add(messages);
     }
 
-    // Makes this second the present one.
+    // Makes this second the current one.
     fn advance(&mut self, second: u64)
         ensures { self.new ≡ advanced self.old second }
     {
@@ -47,7 +47,7 @@ impl Minute {
         self.second = self.second.max(second);
     }
 
-    // The present second is over, and the next one has no message yet.
+    // Ends the current second; the next one has no messages yet.
     #[tactic(auto, using(crate::proofs::Minutes::last_set))]
     fn pass(&mut self)
         ensures { self.new ≡ passed self.old }
@@ -57,7 +57,7 @@ impl Minute {
         self.present = 0;
     }
 
-    /// The messages of the sixty seconds before the present one.
+    /// Returns the number of messages of the sixty seconds before the current one.
     pub fn total(&self) -> u64
         ensures { result ≡ total self.now }
     {
@@ -68,7 +68,7 @@ impl Minute {
         total
     }
 
-    /// The messages per second of those seconds, in thousandths.
+    /// Returns the messages per second over those seconds, in thousandths.
     pub fn thousandths(&self) -> u64
         ensures { result ≡ rate self.now }
     {

@@ -4,10 +4,10 @@ ghost use Rattle.itch_status.specs.Responses.{refusal_code};
 
 use http::StatusCode;
 
-/// Why a request is not answered with a page.
+/// The reason why a request is not answered with a page.
 #[derive(Clone, Copy, Debug, PartialEq, Eq)]
 pub enum Refusal {
-    /// It is not a request of HTTP/1.1 or 1.0.
+    /// It is not an HTTP/1.1 or HTTP/1.0 request.
     BadRequest,
     /// There is no page at its path.
     NotFound,
@@ -20,7 +20,7 @@ pub enum Refusal {
 }
 
 impl Refusal {
-    /// The status code of the response.
+    /// Returns the status code of the response.
     pub fn code(self) -> StatusCode
         ensures { result ≡ refusal_code self }
     {

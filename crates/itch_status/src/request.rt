@@ -1,4 +1,4 @@
-//! What a request is answered, as far as it has come.
+//! The answer to a request, of which only a part may have arrived.
 ghost use Rattle.std.specs.Prelude.{◌≡◌};
 ghost use Rattle.itch_status.specs.Pages.{method_answer, page_answer, refused};
 ghost use Rattle.itch_status.specs.Requests.{Answers};
@@ -8,24 +8,24 @@ use crate::refusal::Refusal;
 use httparse::spans::{EMPTY_HEADER_SPAN, parse_request};
 use httparse::{Error, Status};
 
-/// The most bytes of a request that are read.
+/// The maximum number of bytes that are read of a request.
 pub const LONGEST: usize = 8_192;
 
-/// The most fields that its head may have.
+/// The maximum number of fields in its head.
 const MOST_FIELDS: usize = 64;
 
-/// What a request is answered.
+/// The answer to a request.
 #[derive(Clone, Copy, Debug, PartialEq, Eq)]
 pub enum Answer {
-    /// Nothing yet: its head is not complete.
+    /// No answer yet: the head is not complete.
     More,
-    /// This page, with its body, or without it for HEAD.
+    /// This page, with its body, or without a body for HEAD.
     Page { page: Page, has_body: bool },
-    /// No page, with a body that says so, or without it for HEAD.
+    /// No page: a body with the reason, or no body for HEAD.
     Refused { refusal: Refusal, has_body: bool },
 }
 
-/// This refusal, with a body.
+/// Returns this refusal, with a body.
 pub fn refused(refusal: Refusal) -> Answer
     ensures { result ≡ refused refusal }
 {
@@ -35,7 +35,7 @@ pub fn refused(refusal: Refusal) -> Answer
     }
 }
 
-/// What the request that these bytes begin with is answered. What follows its head is not looked at.
+/// Returns the answer to the request at the front of the bytes. Bytes after its head are ignored.
 pub fn answer_to(bytes: &[u8]) -> Answer
     ensures { Answers bytes.now result }
 {
@@ -49,7 +49,7 @@ pub fn answer_to(bytes: &[u8]) -> Answer
     }
 }
 
-// What a request with this method and this target is answered.
+// Returns the answer to a request with this method and this target.
 fn answer_of(method: &[u8], target: &[u8]) -> Answer
     ensures { result ≡ method_answer method.now target.now }
 {

@@ -1,4 +1,4 @@
-//! Responses.
+//! HTTP responses.
 ghost use Rattle.std.specs.Prelude.{◌≡◌, ◌+◌, ◌≤◌, ◌++◌, length, decimal, codes, IfOk};
 ghost use Rattle.arrayvec.specs.ArrayVec.{array_vec_len};
 ghost use Rattle.itch_status.specs.Responses.{allow, content_type, date_field, head_text, page_body, page_code, page_response, phrase, ready_code, ready_words, refusal_response, status_text, with_body};
@@ -19,7 +19,7 @@ use std::alloc::{AllocError, Global};
 /// Room for the head of a response.
 const HEAD: usize = 512;
 
-/// The response with a page, or with its head alone.
+/// Returns the response with a page, or only its head.
 pub fn respond(
     alloc: Global,
     page: Page,
@@ -42,7 +42,7 @@ pub fn respond(
     )
 }
 
-/// The response to a request that is not answered with a page, or its head alone.
+/// Returns the response to a request that is not answered with a page, or only its head.
 pub fn refuse(
     alloc: Global,
     refusal: Refusal,
@@ -56,7 +56,7 @@ pub fn refuse(
     whole(alloc, code, TEXT, words.as_slice(), has_body, date)
 }
 
-// A response with a body of this type, or with its head alone.
+// Returns a response with a body of this type, or only its head.
 fn whole(
     alloc: Global,
     code: StatusCode,
@@ -78,7 +78,7 @@ fn whole(
 
 const TEXT: &[u8] = b"text/plain; charset=utf-8";
 
-// The type of a page.
+// Returns the content type of a page.
 fn content_type(page: Page) -> &'static [u8]
     ensures text { result.now ≡ content_type page }
     ensures short { length result.now ≤ 45 }
@@ -91,7 +91,7 @@ fn content_type(page: Page) -> &'static [u8]
     }
 }
 
-// The status code of a page.
+// Returns the status code of a page.
 fn code_of(page: Page, figures: &Figures) -> StatusCode
     ensures { result ≡ page_code page figures.now }
 {
@@ -135,7 +135,7 @@ fn ready_words(is_ready: bool) -> &'static [u8]
     if is_ready { b"ready\n" } else { b"not ready\n" }
 }
 
-// A status as the text of a response.
+// Returns the body for a status: a line with its code and its phrase.
 fn words_of(code: StatusCode) -> ArrayVec<u8, 64>
     ensures { result.items ≡ status_text code ++ codes "\n" }
 {
@@ -145,7 +145,7 @@ fn words_of(code: StatusCode) -> ArrayVec<u8, 64>
     line
 }
 
-// The head of a response, whose body has this type and this length.
+// Returns the head of a response whose body has this type and this length.
 #[tactic(auto, using(crate::proofs::Joining::joining))]
 fn head(code: StatusCode, kind: &[u8], count: usize, date: Option<HttpDate>) -> ArrayVec<u8, HEAD>
     requires { length kind.now ≤ 45 }
@@ -167,7 +167,7 @@ fn head(code: StatusCode, kind: &[u8], count: usize, date: Option<HttpDate>) -> 
     head
 }
 
-// What is allowed where a method is not.
+// Returns the field with the allowed methods, for a method that is not allowed.
 fn allow(code: u16) -> &'static [u8]
     ensures text { result.now ≡ allow code }
     ensures short { length result.now ≤ 18 }
@@ -179,7 +179,7 @@ fn allow(code: u16) -> &'static [u8]
     }
 }
 
-// A status code, and its phrase.
+// Appends a status code and its phrase.
 #[tactic(auto, using(crate::proofs::Joining::joining))]
 fn push_status<const N: usize>(line: &mut ArrayVec<u8, N>, code: StatusCode)
     requires { array_vec_len line.old + 61 ≤ N }
@@ -191,7 +191,7 @@ fn push_status<const N: usize>(line: &mut ArrayVec<u8, N>, code: StatusCode)
     push(line, phrase(code).as_bytes());
 }
 
-// The phrase of a code.
+// Returns the phrase of a code.
 fn phrase(code: StatusCode) -> &'static str
     ensures text { result.now ≡ phrase code }
     ensures short { length result.now ≤ 40 }

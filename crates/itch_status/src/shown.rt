@@ -7,10 +7,10 @@ use crate::state::FeedState;
 use itch_codec::Alpha;
 use itch_codec::spaces::after_spaces;
 
-/// A value, as it is shown.
+/// A value in its form of output.
 #[derive(Clone, Copy, Debug, PartialEq, Eq)]
 pub(crate) enum Shown {
-    /// There is none now.
+    /// There is no value now.
     Nothing,
     Count(u64),
     /// A number of thousandths, with three decimals.
@@ -23,7 +23,7 @@ pub(crate) enum Shown {
     Session(Alpha<10>),
 }
 
-/// A session's name without the spaces at both ends.
+/// Returns a session's name without the spaces at both ends.
 pub(crate) fn session_name(session: &Alpha<10>) -> &[u8]
     ensures name { result.now ≡ session_name session.entry.now }
     ensures short { length result.now ≤ 10 }

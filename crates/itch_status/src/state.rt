@@ -7,11 +7,11 @@ ghost use Rattle.itch_status.specs.States.{state_words};
 pub enum FeedState {
     /// No login was accepted yet.
     Connecting,
-    /// Its messages are followed.
+    /// The server follows its messages.
     Following,
-    /// Its connection was lost after a login was accepted.
+    /// The connection was lost after a login was accepted.
     Lost,
-    /// It has ended its session.
+    /// The feed has ended its session.
     Ended,
 }
 
@@ -24,7 +24,7 @@ impl FeedState {
         FeedState::Ended,
     ];
 
-    /// The state in a word.
+    /// Returns the state as a word.
     pub fn words(self) -> &'static str
         ensures words { result.now ≡ state_words self }
         ensures short { length result.now ≤ 10 }

@@ -1,22 +1,22 @@
-//! The messages of a feed, as they are received.
+//! Counts the messages of a feed as they are received.
 ghost use Rattle.std.specs.Prelude.{◌≡◌, ◌-◌, ◌/◌, None, option_map};
 ghost use Rattle.itch_status.specs.Rates.{counted, seen};
 
 use crate::rate::Minute;
 
-/// The messages that were received since the start.
+/// The messages received since the start.
 #[derive(Clone, Copy, Debug, PartialEq, Eq)]
 pub struct Tally {
-    /// The number of the next message, once there is a market.
+    /// The number of the next message, if there is a market.
     pub next: Option<u64>,
     pub messages: u64,
     pub minute: Minute,
-    /// When the last one was received.
+    /// The time when the last message was received, in milliseconds.
     pub received_ms: Option<u64>,
 }
 
 impl Tally {
-    /// No message was received, and this is the number of the next one, if there is a market.
+    /// Creates a tally without messages. `next` is the number of the next message, if there is a market.
     pub fn new(next: Option<u64>) -> Tally
         ensures next { result.next ≡ next }
         ensures messages { result.messages ≡ 0 }
@@ -30,7 +30,7 @@ impl Tally {
         }
     }
 
-    /// Takes note of the number of the next message at this moment: those before it were received since the last note.
+    /// Notes the number of the next message at this time: the messages before it were received since the last note.
     pub fn see(&mut self, next: Option<u64>, now_ms: u64)
         ensures { self.new ≡ seen self.old next now_ms }
     {
@@ -46,7 +46,7 @@ impl Tally {
         }
     }
 
-    /// How long ago the last message was received.
+    /// Returns the time since the last message was received, in milliseconds, or `None` if none was received.
     pub fn silence_ms(&self, now_ms: u64) -> Option<u64>
         ensures { result ≡ option_map (λ received. now_ms - received) self.now.received_ms }
     {
@@ -56,7 +56,7 @@ impl Tally {
         }
     }
 
-    /// The last minute at this moment.
+    /// Returns the last minute at this time.
     pub fn minute_at(&self, now_ms: u64) -> Minute
         ensures { result ≡ counted self.now.minute (now_ms / 1000) 0 }
     {

@@ -1,4 +1,4 @@
-//! The time of the day and the date as a log writes them.
+//! The date and the time of day in a log.
 ghost use Rattle.std.specs.Prelude.{◌≡◌, ◌/◌, IfSome};
 ghost use Rattle.httpdate.specs.Date.{date_text, unix_secs};
 ghost use Rattle.httpdate.specs.declared.date.HttpDate.{HttpDate as Date};
@@ -7,10 +7,10 @@ ghost use Rattle.itch_status.specs.Times.{month_digits, utc_text};
 use crate::line::digit;
 use httpdate::HttpDate;
 
-/// How many bytes a time has.
+/// The number of bytes of a time.
 pub const UTC: usize = 24;
 
-/// The time of so many milliseconds since 1970, as in `2026-11-29T09:30:00.123Z`; none after the year 9999.
+/// Returns the time of a number of milliseconds since 1970, such as `2026-11-29T09:30:00.123Z`, or `None` after the year 9999.
 pub fn utc(unix_ms: u64) -> Option<[u8; UTC]>
     ensures { IfSome result (λ text. (d : Date) × (unix_secs d ≡ unix_ms / 1000) × (text ≡ utc_text (date_text d) unix_ms)) }
 {
@@ -20,7 +20,7 @@ pub fn utc(unix_ms: u64) -> Option<[u8; UTC]>
     Some(time_of(&date.to_bytes(), unix_ms))
 }
 
-// The time that the date of HTTP and the milliseconds are.
+// Returns the time of an HTTP date and of its milliseconds.
 fn time_of(date: &[u8; 29], unix_ms: u64) -> [u8; UTC]
     ensures { result ≡ utc_text date.now unix_ms }
 {
@@ -53,7 +53,7 @@ fn time_of(date: &[u8; 29], unix_ms: u64) -> [u8; UTC]
     ]
 }
 
-// The two digits of a month, by the three letters that a date of HTTP has.
+// Returns the two digits of a month, from its three letters in an HTTP date.
 fn month_digits(first: u8, second: u8, third: u8) -> [u8; 2]
     ensures { result ≡ month_digits first second third }
 {

@@ -1,3 +1,5 @@
 pub mod Endings
+pub mod Hints
+pub mod Histories
 pub mod Names
 pub mod Serving

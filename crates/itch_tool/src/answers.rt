@@ -1,14 +1,14 @@
-//! The bytes that a server sends, with a time limit for each read.
+//! Reads what a server sends, with a time limit per read.
 
 use std::io::{self, ErrorKind, Read};
 use std::net::TcpStream;
 use std::rt::Clock;
 use std::time::{Duration, Instant};
 
-/// How long a read that was interrupted at the end of its time still waits, for bytes that have arrived meanwhile.
+/// The least time limit of a read that is repeated: bytes may have arrived while the process was stopped.
 const LEAST_MS: u64 = 1;
 
-/// Reads what a server sends. Each read ends with an error after the time limit, if there is one.
+/// Reads from a socket. Each read fails after the time limit, if there is one.
 #[derive(Drop)]
 pub struct Answers<'a, C> {
     stream: &'a TcpStream,
@@ -17,7 +17,7 @@ pub struct Answers<'a, C> {
 }
 
 impl<'a, C: Clock> Answers<'a, C> {
-    /// Nothing was read yet.
+    /// Creates a reader of a socket.
     pub fn new(stream: &'a TcpStream, limit: Option<Duration>, clock: &'a C) -> Answers<'a, C> {
         Answers {
             stream,
@@ -26,7 +26,7 @@ impl<'a, C: Clock> Answers<'a, C> {
         }
     }
 
-    // Sets how long the socket waits for a read that has begun at this time.
+    // Limits the next read of the socket to the time that is left of a read that began at this time.
     fn set_time_left(&self, begun: Instant) -> io::Result<()> {
         let Some(limit) = self.limit else {
             return Ok(());
@@ -38,7 +38,7 @@ impl<'a, C: Clock> Answers<'a, C> {
 }
 
 impl<C: Clock> Read for Answers<'_, C> {
-    // A read with a time limit ends with `Interrupted` when the process is stopped and continued. It is tried again for the time that is left.
+    // A read with a time limit ends with `Interrupted` if the process is stopped and continued. It is repeated with the remaining time.
     fn read(&mut self, buf: &mut [u8]) -> io::Result<usize> {
         let begun = Instant::now(self.clock)?;
         for _ in 0..u64::MAX {

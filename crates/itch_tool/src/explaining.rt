@@ -1,8 +1,11 @@
 //! Writes the messages on standard error, and returns the exit status for them.
 
 use crate::beginning::Beginning;
+use crate::counts::Counts;
 use crate::failure::Failure;
 use crate::final_status::{ends_by_closed_pipe, final_status};
+use crate::hints::{MixedUp, login_hint, mixup_of};
+use crate::lacked_locate::{bad_list, lacked_locate};
 use crate::names::{CommandFiles, JobNames, Name, SessionNames, Subject};
 use crate::packed::packed_file;
 use crate::second_look::{lacked_stock, last_event};
@@ -122,7 +125,7 @@ fn say<R: Files + Eprint + AllocGlobal>(
         Failure::Command { fault, checkpoint } => {
             rt.eprintln(fault)?;
             match subject_of(&names.files, fault, checkpoint) {
-                Some(subject) => say_subject(rt, fault, subject, beginning),
+                Some(subject) => say_subject(rt, fault, subject, names.counts, beginning),
                 None => say_lack(rt, fault, names),
             }
         }
@@ -130,6 +133,11 @@ fn say<R: Files + Eprint + AllocGlobal>(
         Failure::Open { name, error } => {
             rt.eprintln("itchsnap: cannot open")?;
             eprintln!(rt; "  {name}: {error}")
+        }
+        Failure::NoOrder { reference } => eprintln!(rt; "itchsnap: no order {reference}"),
+        Failure::OnlyOnce { path } => {
+            rt.eprintln("itchsnap: cannot read twice")?;
+            eprintln!(rt; "  {path}: --history needs a regular file")
         }
         Failure::Checkpoint { why, detail } => {
             let feed = names.files.subject(Source::Only);
@@ -155,24 +163,44 @@ fn subject_of<'a>(
     }
 }
 
-// For a command: writes which file failed and the system's error, or the kind of a file that is not a day file.
+// For a command: writes which file failed and the system's error, how many messages it lacks, or the kind of a file that is not a day file.
 fn say_subject<R: Files + Eprint>(
     rt: &R,
     fault: &ToolFault,
     subject: Subject<'_>,
+    counts: Counts,
     beginning: &Beginning,
 ) -> io::Result<()> {
+    let name = subject.name();
     if let Some(error) = fault.io_error() {
-        let name = subject.name();
         return eprintln!(rt; "  {name}: {error}");
+    }
+    if let ToolFault::Short { count, .. } = fault {
+        return match counts.beyond(*count) {
+            Some(wanted) => eprintln!(rt; "  {name}: {wanted} messages are requested"),
+            None => Ok(()),
+        };
     }
     if !matches!(fault, ToolFault::Stopped { .. } | ToolFault::Snap { .. }) {
         return Ok(());
     }
     match packed_file(rt, subject, beginning) {
         Some(packed) => eprintln!(rt; "  {packed}"),
-        None => Ok(()),
+        None => say_mixup(rt, fault, subject),
     }
+}
+
+// For a command: writes what to do with an input file that may be of the other kind.
+fn say_mixup<R: Eprint>(rt: &R, fault: &ToolFault, subject: Subject<'_>) -> io::Result<()> {
+    let (Some(mixup), Subject::Input(file)) = (mixup_of(fault), subject) else {
+        return Ok(());
+    };
+    let mixed_up = MixedUp {
+        mixup,
+        file: Name::of_input(file.path),
+        flag: file.flag,
+    };
+    eprintln!(rt; "  {mixed_up}")
 }
 
 // For a command: writes which name on the command line does not exist, or what its file lacks.
@@ -188,8 +216,12 @@ fn say_lack<R: Files + Eprint + AllocGlobal>(
     } = names.selected;
     let file = names.files.last();
     match (fault, locates, stocks) {
-        (ToolFault::BadLocates, Some(list), _) => match stock_in(list) {
-            Some(stock) => eprintln!(rt; "  {stock}: use --stock to name a stock"),
+        (ToolFault::BadLocates, Some(list), _) => {
+            let bad = bad_list(rt.alloc(), list);
+            eprintln!(rt; "  {bad}")
+        }
+        (ToolFault::UnknownLocate, Some(list), _) => match lacked_locate(rt, file, list, part) {
+            Some(lacked) => eprintln!(rt; "  {lacked}"),
             None => Ok(()),
         },
         (ToolFault::UnknownStock, _, Some(stocks)) => match lacked_stock(rt, file, stocks, part) {
@@ -204,18 +236,7 @@ fn say_lack<R: Files + Eprint + AllocGlobal>(
     }
 }
 
-// Returns the first item of a list that may be a stock: it begins with a capital letter, and has at most 8 characters.
-fn stock_in(list: &str) -> Option<&str> {
-    list.split(',').find(|item| {
-        item.len() <= 8
-            && item
-                .bytes()
-                .next()
-                .is_some_and(|byte| byte.is_ascii_uppercase())
-    })
-}
-
-// For a session: writes which device failed and the system's error, or how its peer broke the protocol.
+// For a session: writes which device failed and the system's error, how its peer broke the protocol, or what its login must be.
 fn say_session<R: Eprint>(
     rt: &R,
     fault: &SessionFault,
@@ -226,9 +247,10 @@ fn say_session<R: Eprint>(
         return say_session_at(rt, fault, cause, name);
     }
     rt.eprintln(fault)?;
-    match fault.peer_fault() {
-        Some(peer) => say_peer(rt, &peer, name),
-        None => Ok(()),
+    match (fault.peer_fault(), login_hint(fault)) {
+        (Some(peer), _) => say_peer(rt, &peer, name),
+        (None, Some(hint)) => eprintln!(rt; "  {hint}"),
+        (None, None) => Ok(()),
     }
 }
 

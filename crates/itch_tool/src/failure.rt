@@ -23,6 +23,14 @@ pub enum Failure {
         name: String,
         error: io::Error,
     },
+    /// No message of the requested part names this order.
+    NoOrder {
+        reference: u64,
+    },
+    /// The input at this path can be read only once: it is a pipe or a device.
+    OnlyOnce {
+        path: String,
+    },
     /// The checkpoint nearest to a point of the day does not fit.
     Checkpoint {
         why: Unfit,
@@ -59,6 +67,8 @@ impl Failure {
             Failure::Command { fault, .. } => fault.status(),
             Failure::Session(fault) => fault.status(),
             Failure::Open { .. } => 3,
+            Failure::NoOrder { .. } => 1,
+            Failure::OnlyOnce { .. } => 3,
             Failure::Checkpoint { .. } => 1,
             Failure::Users { .. } => 2,
             Failure::Said { status } => *status,

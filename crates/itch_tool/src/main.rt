@@ -8,11 +8,16 @@
 mod answers;
 mod at;
 mod beginning;
+mod books;
 mod checkpoints;
+mod counts;
 mod explaining;
 mod failure;
 mod feed;
 mod final_status;
+mod hints;
+mod history;
+mod lacked_locate;
 mod live;
 mod locate_list;
 mod names;
@@ -37,7 +42,7 @@ use crate::password::password_of_environment;
 use crate::run::run;
 use crate::standard_streams::Occupied;
 use clap::Error;
-use itchsnap_cli::words::{read_job, usage_fault};
+use itchsnap_cli::words::{read_job, usage_error};
 use std::alloc::{AllocError, Global};
 use std::env::{self, Args, Env};
 use std::io::{self, IsTerminal};
@@ -88,6 +93,6 @@ fn read_line(alloc: Global, args: io::Result<Args>) -> Result<Vec<String>, Error
         Err(error) if matches!(error.kind(), io::ErrorKind::OutOfMemory) => {
             Err(Error::from(AllocError))
         }
-        Err(_) => Err(usage_fault(alloc, "an argument is not UTF-8")?),
+        Err(_) => Err(usage_error(alloc, "an argument is not UTF-8")?),
     }
 }

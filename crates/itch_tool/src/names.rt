@@ -2,11 +2,13 @@
 ghost use Rattle.std.specs.Prelude.{◌≡◌, Some, None};
 ghost use Rattle.itch_tool.specs.Names.{first_path, input_name, last_path, name_of, output_name, subject_of};
 
+use crate::counts::Counts;
 use crate::selected::Selected;
-use itch_commands::{Command, PairCommand, Request, Source};
+use itch_commands::{Command, FileKind, PairCommand, Request, Source};
 use itch_sessions::{SessionDevice, SessionFault};
 use itchsnap_cli::words::{
-    FeedWords, FollowWords, Job, LiveWords, PointWords, Server, StatusWords,
+    BookWords, FeedWords, FollowWords, HistoryWords, Job, LiveWords, PointWords, Server,
+    StatusWords,
 };
 use std::fmt;
 use std::net::SocketAddr;
@@ -77,11 +79,30 @@ impl<'a> Subject<'a> {
     }
 }
 
-/// An input file of a command: its path, or `None` for standard input, and the words of a command that reads it from there.
+/// An input file of a command: its path, or `None` for standard input, the words of a command that reads it from there, and whether that
+/// takes `--snapshot`. The words are empty for a command that reads no pipe.
 #[derive(Clone, Copy)]
 pub struct InputFile<'a> {
     pub path: Option<&'a str>,
     pub words: &'static str,
+    pub flag: SnapshotFlag,
+}
+
+/// Whether a command takes `--snapshot`, and was given it.
+#[derive(Clone, Copy, Debug, PartialEq, Eq)]
+pub enum SnapshotFlag {
+    NotTaken,
+    Omitted,
+    Given,
+}
+
+impl SnapshotFlag {
+    fn of_kind(kind: FileKind) -> SnapshotFlag {
+        match kind {
+            FileKind::Day(_) => SnapshotFlag::Omitted,
+            FileKind::Snapshot => SnapshotFlag::Given,
+        }
+    }
 }
 
 /// The files of a command, one of which is in its fault.
@@ -96,12 +117,17 @@ pub struct CommandFiles<'a> {
 }
 
 impl<'a> CommandFiles<'a> {
-    fn of_one(path: Option<&'a str>, words: &'static str, output: Option<&'a str>) -> Self
+    fn of_one(
+        path: Option<&'a str>,
+        words: &'static str,
+        flag: SnapshotFlag,
+        output: Option<&'a str>,
+    ) -> Self
         ensures first { result.first.path ≡ path.entry }
         ensures last { result.last.path ≡ path.entry }
         ensures output { result.output ≡ output.entry }
     {
-        let file = InputFile { path, words };
+        let file = InputFile { path, words, flag };
         CommandFiles {
             first: file,
             last: file,
@@ -118,6 +144,7 @@ impl<'a> CommandFiles<'a> {
             Request::One { file, command } => CommandFiles::of_one(
                 *file,
                 words_of(command),
+                flag_of(command),
                 output,
             ),
             Request::Two {
@@ -126,33 +153,54 @@ impl<'a> CommandFiles<'a> {
                 command,
             } => {
                 let (first_words, second_words) = words_of_pair(command);
+                let flag = flag_of_pair(command);
                 CommandFiles {
                     first: InputFile {
                         path: *first,
                         words: first_words,
+                        flag,
                     },
                     last: InputFile {
                         path: *second,
                         words: second_words,
+                        flag,
                     },
                     output,
                 }
             }
-            Request::At { feed, .. } => CommandFiles::of_one(*feed, "at .. - ..", output),
+            Request::At { feed, .. } => CommandFiles::of_one(
+                *feed,
+                "at .. - ..",
+                SnapshotFlag::NotTaken,
+                output,
+            ),
         }
+    }
+
+    pub fn of_history(words: &HistoryWords<'a>) -> Self
+        ensures { result.last.path ≡ Some words.now.file }
+    {
+        CommandFiles::of_one(Some(words.file), "", SnapshotFlag::NotTaken, None)
     }
 
     pub fn of_points(words: &PointWords<'a>) -> Self
         ensures file { result.last.path ≡ words.now.file }
         ensures folder { result.output ≡ Some words.now.folder }
     {
-        CommandFiles::of_one(words.file, "snap --to ..", Some(words.folder))
+        let folder = Some(words.folder);
+        CommandFiles::of_one(words.file, "snap --to ..", SnapshotFlag::NotTaken, folder)
     }
 
-    pub fn of_served(path: Option<&'a str>) -> Self
+    pub fn of_books(words: &BookWords<'a>) -> Self
+        ensures { result.last.path ≡ words.now.file }
+    {
+        CommandFiles::of_one(words.file, "book ..", SnapshotFlag::NotTaken, None)
+    }
+
+    pub fn of_served(path: Option<&'a str>, kind: FileKind) -> Self
         ensures { result.last.path ≡ path.entry }
     {
-        CommandFiles::of_one(path, "serve - ..", None)
+        CommandFiles::of_one(path, "serve - ..", SnapshotFlag::of_kind(kind), None)
     }
 
     /// Returns the only file, the second of two, or the feed.
@@ -185,7 +233,22 @@ fn words_of(command: &Command<'_>) -> &'static str {
     }
 }
 
-// Returns the same for the first file, and for the second.
+// Returns whether a command takes `--snapshot`, and was given it. `show` prints the messages of a snapshot in a day file without it.
+fn flag_of(command: &Command<'_>) -> SnapshotFlag {
+    match command {
+        Command::Book { kind, .. } | Command::Show { kind, .. } => SnapshotFlag::of_kind(*kind),
+        _ => SnapshotFlag::NotTaken,
+    }
+}
+
+fn flag_of_pair(command: &PairCommand<'_>) -> SnapshotFlag {
+    match command {
+        PairCommand::Compare { kind, .. } => SnapshotFlag::of_kind(*kind),
+        _ => SnapshotFlag::NotTaken,
+    }
+}
+
+// Returns the words for the first file, and for the second.
 fn words_of_pair(command: &PairCommand<'_>) -> (&'static str, &'static str) {
     match command {
         PairCommand::Compare { .. } => ("compare - ..", "compare .. -"),
@@ -278,6 +341,7 @@ impl<'a> SessionNames<'a> {
 pub struct JobNames<'a> {
     pub files: CommandFiles<'a>,
     pub selected: Selected<'a>,
+    pub counts: Counts,
     pub session: SessionNames<'a>,
 }
 
@@ -285,6 +349,7 @@ impl<'a> JobNames<'a> {
     pub fn of(job: &Job<'a>) -> JobNames<'a> {
         JobNames {
             selected: Selected::of(job),
+            counts: Counts::of(job),
             ..JobNames::named(job)
         }
     }
@@ -296,11 +361,18 @@ impl<'a> JobNames<'a> {
                 output,
                 ..
             } => JobNames::of_files(CommandFiles::of_request(request, *output)),
+            Job::History(words) => JobNames::of_files(CommandFiles::of_history(words)),
             Job::Points(words) => JobNames::of_files(CommandFiles::of_points(words)),
-            Job::Serve { file, address, .. } => JobNames {
-                files: CommandFiles::of_served(*file),
-                selected: Selected::nothing(),
+            Job::Books(words) => JobNames::of_files(CommandFiles::of_books(words)),
+            Job::Serve {
+                file,
+                kind,
+                address,
+                ..
+            } => JobNames {
+                files: CommandFiles::of_served(*file, *kind),
                 session: SessionNames::of_served(*address),
+                ..JobNames::none()
             },
             Job::Fetch { server, output, .. } => {
                 JobNames::of_session(SessionNames::of_fetched(server, *output))
@@ -316,8 +388,9 @@ impl<'a> JobNames<'a> {
     /// Returns no names, for a job in which only standard output can fail.
     pub fn none() -> JobNames<'a> {
         JobNames {
-            files: CommandFiles::of_one(None, "", None),
+            files: CommandFiles::of_one(None, "", SnapshotFlag::NotTaken, None),
             selected: Selected::nothing(),
+            counts: Counts::nothing(),
             session: SessionNames::of_peer(Name::Output, None),
         }
     }

@@ -23,7 +23,7 @@ pub fn packed_file<'a, R: Files>(
     subject: Subject<'a>,
     beginning: &Beginning,
 ) -> Option<PackedFile<'a>> {
-    let Subject::Input(InputFile { path, words }) = subject else {
+    let Subject::Input(InputFile { path, words, .. }) = subject else {
         return None;
     };
     let packing = match path {
@@ -61,8 +61,11 @@ impl fmt::Display for PackedFile<'_> {
         if let Some(path) = self.path {
             write!(f, " {}", Quoted { path })?;
         }
-        let words = self.words;
-        write!(f, " | itchsnap {words}")
+        // A command that reads its file twice takes no pipe.
+        match self.words {
+            "" => f.write_str(" > FILE"),
+            words => write!(f, " | itchsnap {words}"),
+        }
     }
 }
 

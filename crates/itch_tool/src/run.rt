@@ -2,7 +2,9 @@
 
 use crate::at::join_at;
 use crate::beginning::Beginning;
+use crate::books::run_books;
 use crate::failure::Failure;
+use crate::history::run_history;
 use crate::live::{run_feed, run_follow, run_live};
 use crate::locate_list::read_only;
 use crate::opened::open;
@@ -37,7 +39,9 @@ where
             progress,
             output,
         } => run_request(rt, *request, *progress, beginning, *output),
+        Job::History(words) => run_history(rt, words, beginning),
         Job::Points(words) => run_points(rt, words, beginning),
+        Job::Books(words) => run_books(rt, words, beginning),
         Job::Serve {
             file,
             kind,
@@ -95,7 +99,8 @@ fn run_request<R: Files + Input + Print + Eprint + AllocGlobal + Clock>(
     output.finish(rt, outcome)
 }
 
-fn request_to<R: Files + Input + Eprint + AllocGlobal + Clock, W: Write + Drop>(
+/// Performs a request with the set of its list of locates, and writes its output to a writer.
+pub fn request_to<R: Files + Input + Eprint + AllocGlobal + Clock, W: Write + Drop>(
     rt: &R,
     request: Request<'_>,
     progress: bool,

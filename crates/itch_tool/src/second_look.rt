@@ -155,8 +155,8 @@ impl fmt::Display for TimeOfDay {
     }
 }
 
-// Reads the part of a file again, if it is a file and not a pipe. A fault ends it, as it did before.
-fn is_read_again<R: Files + AllocGlobal, S: Sink>(
+/// Reads the part of a file again, if it is a file and not a pipe, and returns whether it did. A fault ends it, as it did before.
+pub fn is_read_again<R: Files + AllocGlobal, S: Sink>(
     rt: &R,
     file: InputFile<'_>,
     part: Option<Limit>,

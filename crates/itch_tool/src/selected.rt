@@ -1,7 +1,7 @@
 //! The selection of a request, and the part of its file.
 
 use itch_commands::{Command, FileKind, Limit, PairCommand, Request, Selection};
-use itchsnap_cli::words::{Job, PointWords};
+use itchsnap_cli::words::{BookWords, HistoryWords, Job, PointWords, Times};
 
 /// The list of locates or of stocks that a request selects, and the part of its one file that it reads.
 #[derive(Clone, Copy)]
@@ -16,7 +16,11 @@ impl<'a> Selected<'a> {
     pub fn of(job: &Job<'a>) -> Selected<'a> {
         match job {
             Job::Files { request, .. } => Selected::of_request(*request),
+            Job::History(HistoryWords { filters, limit, .. }) => {
+                Selected::new(filters.only, filters.stocks, Some(*limit))
+            }
             Job::Points(PointWords { only, .. }) => Selected::new(*only, None, None),
+            Job::Books(words) => Selected::of_books(words),
             _ => Selected::nothing(),
         }
     }
@@ -31,6 +35,15 @@ impl<'a> Selected<'a> {
             stocks,
             part,
         }
+    }
+
+    // The directory is that at the last time, or at the end of the file.
+    fn of_books(words: &BookWords<'a>) -> Selected<'a> {
+        let until = match &words.times {
+            Times::At(times) => times.last().copied(),
+            Times::Every(_) => None,
+        };
+        Selected::by(words.request.selection, Some(Limit { after: None, until }))
     }
 
     fn of_request(request: Request<'a>) -> Selected<'a> {

@@ -5,3 +5,5 @@ pub mod Watches
 pub mod Packings
 pub mod Types
 pub mod Times
+pub mod Histories
+pub mod UsageFaults

@@ -1,9 +1,9 @@
--- The line of what has become of a feed.
+-- The line about the state of a feed.
 use Rattle.std.specs.Prelude.{ℕ, List, ◌++◌, codes, decimal}
 use Rattle.itchsnap_live.specs.declared.feed_line.FeedLine.{FeedLine}
 use Rattle.itchsnap_live.specs.declared.feed_line.FeedLine.TheVariants.{GlimpseAccepted, GlimpseLost, Accepted, Joined, Lost, Ended}
 
--- what has become of it, in words
+-- its text
 abbrev pub feed_words : FeedLine → List ℕ
 feed_words GlimpseAccepted = codes "glimpse: accepted"
 feed_words GlimpseLost = codes "glimpse: lost"

@@ -1,4 +1,4 @@
--- Why a connection to a feed was lost, or was not made.
+-- Why a connection to a feed was lost, or could not be made.
 use Rattle.std.specs.Prelude.{ℕ, ◌==◌, if◌then◌else◌}
 use Rattle.std.specs.declared.io.ErrorKind.{ErrorKind}
 use Rattle.std.specs.declared.io.ErrorKind.TheVariants as kind
@@ -7,7 +7,7 @@ use Rattle.itch_status.specs.declared.cause.Cause.TheVariants as cause
 use Rattle.itchsnap_live.specs.declared.feed_line.Trouble.{Trouble}
 use Rattle.itchsnap_live.specs.declared.feed_line.Trouble.TheVariants as trouble
 
--- the cause that a failed call on a socket is
+-- the cause for a failed call on a socket
 abbrev pub kind_cause : ErrorKind → Cause
 kind_cause kind.ConnectionRefused = cause.Refused
 kind_cause kind.ConnectionReset = cause.Reset
@@ -18,11 +18,11 @@ kind_cause kind.NetworkUnreachable = cause.Unreachable
 kind_cause kind.NetworkDown = cause.Unreachable
 kind_cause _ = cause.Failed
 
--- the cause that the code of a rejection is: A, 65, or S, 83
+-- the cause for the code of a rejection: A, 65, or S, 83
 abbrev pub code_cause : ℕ → Cause
 code_cause code = if code == 65 then cause.WrongLogin else (if code == 83 then cause.NoSession else cause.Rejected)
 
--- the cause that a trouble is
+-- the cause for a trouble
 abbrev pub trouble_cause : Trouble → Cause
 trouble_cause trouble.GlimpseUnknown = cause.NotFound
 trouble_cause (trouble.GlimpseRejected code) = code_cause code

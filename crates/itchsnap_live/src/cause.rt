@@ -1,4 +1,4 @@
-//! Why a feed was lost.
+//! The causes of a lost feed.
 ghost use Rattle.std.specs.Prelude.{◌≡◌};
 ghost use Rattle.std.specs.IoError.{error_kind};
 ghost use Rattle.itchsnap_live.specs.Losses.{code_cause, kind_cause};
@@ -6,7 +6,7 @@ ghost use Rattle.itchsnap_live.specs.Losses.{code_cause, kind_cause};
 use itch_status::Cause;
 use std::io::{self, ErrorKind};
 
-/// The cause that an error of a socket is.
+/// Returns the cause for an error of a socket.
 pub(crate) fn cause_of(error: io::Error) -> Cause
     ensures { result ≡ kind_cause (error_kind error) }
 {
@@ -21,7 +21,7 @@ pub(crate) fn cause_of(error: io::Error) -> Cause
     }
 }
 
-/// The cause that the code of a rejection is.
+/// Returns the cause for the code of a rejection.
 pub(crate) fn cause_of_code(code: u8) -> Cause
     ensures { result ≡ code_cause code }
 {

@@ -1,4 +1,4 @@
-//! What has become of the feed, in a line.
+//! The lines about the state of the feed.
 ghost use Rattle.std.specs.Prelude.{◌≡◌};
 ghost use Rattle.itchsnap_live.specs.Losses.{trouble_cause};
 
@@ -9,20 +9,20 @@ use itch_sessions::log::form::LogForm;
 use itch_status::Cause;
 use std::fmt::{self, Display, Formatter};
 
-/// What has become of the connection to the feed, or to the server of a snapshot.
+/// The state of the connection to the feed, or to the snapshot server.
 #[derive(Clone, Copy, Debug, PartialEq, Eq)]
 pub(crate) enum FeedLine {
-    /// The server of a snapshot accepted the login.
+    /// The snapshot server accepted the login.
     GlimpseAccepted,
-    /// The server of a snapshot was lost, or does not answer.
+    /// The connection to the snapshot server is lost, or the server does not answer.
     GlimpseLost,
     /// The feed accepted the login from this number on.
     Accepted(u64),
     /// The market is that of the snapshot, up to this number.
     Joined(u64),
-    /// The feed was lost, or does not answer. The next message is that with this number.
+    /// The connection to the feed is lost, or the feed does not answer. The next message has this number.
     Lost(u64),
-    /// The feed has ended its session before this number.
+    /// The feed ended its session before this number.
     Ended(u64),
 }
 
@@ -44,7 +44,7 @@ impl Display for FeedLine {
     }
 }
 
-/// A line about a server, with its name where it is one of several.
+/// A line about a server, with its name if it is one of several.
 #[derive(Clone, Copy)]
 pub(crate) struct Named<'a, L> {
     pub line: L,
@@ -118,7 +118,7 @@ impl<L: Event> Event for Named<'_, L> {
     }
 }
 
-/// A server is lost, for a reason that only an entry has, as its name.
+/// A lost server. The cause and the name appear only in the fields of the event, not in the plain line.
 #[derive(Clone, Copy)]
 pub(crate) struct Loss<'a> {
     pub line: FeedLine,
@@ -151,29 +151,29 @@ impl Event for Loss<'_> {
     }
 }
 
-/// Why a server is asked again, where more is known than that it is lost.
+/// Why a connection is made again, if more is known than that the server is lost.
 #[derive(Clone, Copy, Debug, PartialEq, Eq)]
 pub(crate) enum Trouble {
-    /// No address is found for the name of the server of a snapshot.
+    /// The name of the snapshot server has no address.
     GlimpseUnknown,
-    /// The server of a snapshot rejected the login with this code.
+    /// The snapshot server rejected the login with this code.
     GlimpseRejected(u8),
-    /// No address is found for the feed's name.
+    /// The name of the feed has no address.
     Unknown,
     /// The feed rejected the login with this code.
     Rejected(u8),
-    /// The feed is in the first of these sessions, and not in the second, which was asked for.
+    /// The feed is in the first of these sessions, instead of the second, requested one.
     OtherSession(Alpha<10>, Alpha<10>),
     /// The feed begins with a later message than the next one.
     Gap { next: u64, begins: u64 },
-    /// Memory was refused for the message of this number.
+    /// Memory was refused for the message with this number.
     NoMemory(u64),
-    /// The connection ended, or was not made, for this cause, which entries of a log have.
+    /// The connection ended, or could not be made, for this cause. It appears only in the fields of events.
     Cut(Cause),
 }
 
 impl Trouble {
-    /// The same as a cause of the status.
+    /// Returns the cause for the status.
     pub(crate) fn cause(&self) -> Cause
         ensures { result ≡ trouble_cause self.now }
     {
@@ -187,12 +187,12 @@ impl Trouble {
         }
     }
 
-    /// Whether no more is known than how the connection ended.
+    /// Returns whether nothing is known except how the connection ended.
     pub(crate) fn is_a_cut(&self) -> bool {
         matches!(self, Trouble::Cut(_))
     }
 
-    /// Whether a line about it names the server, also where there is only one.
+    /// Returns whether a line about it names the server, even if there is only one.
     pub(crate) fn is_of_a_name(&self) -> bool {
         matches!(self, Trouble::GlimpseUnknown | Trouble::Unknown)
     }

@@ -1,4 +1,4 @@
-//! The connection to a feed, or to the server of a snapshot.
+//! The connection to a feed, or to the snapshot server.
 
 mod acting;
 mod health;
@@ -25,10 +25,10 @@ use std::io;
 use std::net::{Net, SocketAddr};
 use std::rt::{Clock, Files};
 
-/// What is read of the feed at a time, at most.
+/// The most bytes of the feed that are read at a time.
 pub(crate) const SHARE: usize = 1 << 18;
 
-// A connection, and what is still to be sent there.
+// A connection, and the packet that is still to be sent.
 #[derive(Drop)]
 struct Connection {
     socket: Socket,
@@ -36,7 +36,7 @@ struct Connection {
 }
 
 impl Connection {
-    // Sends what is pending, and a heartbeat where one is due.
+    // Sends the pending bytes, and a heartbeat if one is due.
     fn send(&mut self, heartbeat: bool) -> io::Result<()> {
         if heartbeat && self.packet.is_empty() {
             self.packet = PendingPacket::of(&ClientSession::heartbeat());
@@ -47,39 +47,43 @@ impl Connection {
     }
 }
 
-/// The connection of a follower, which is made again where it was lost.
+/// The connection of a follower, which is made again whenever it is lost.
 #[derive(Drop)]
 pub(crate) struct FeedSide<'a> {
     route: Route<'a>,
-    // Whom it logs in as.
+    // The login that it uses.
     account: Logins<'a>,
-    // The address that was connected to last.
+    // The address of the last connection.
     address: Option<SocketAddr>,
     token: usize,
-    // The session of the server of snapshots, where that is not the feed's.
+    // The session of the snapshot server, if it differs from the feed's.
     glimpse_session: Option<Alpha<10>>,
     connection: Option<Connection>,
     again_at: u64,
-    // Whether a login was accepted in this connection, when one was, and whether one was in any.
+    // Whether a login was accepted on this connection, and when, and whether one was accepted on any.
     is_accepted: bool,
     accepted_ms: u64,
     was_accepted: bool,
-    // Whether it was said that the server is lost, and what more was said since of each server.
+    // Whether the loss of the server was reported, and what else was reported about each server since.
     is_down: bool,
     troubles: [Option<Trouble>; MOST_FEEDS],
-    // Why it was lost last, since a login was accepted, and how often it was lost.
+    // The last cause of a loss since a login was accepted, and the number of losses.
     cause: Option<Cause>,
     losses: u64,
     glance: Glance,
     // The timestamp of the last message.
     market_ns: Option<u64>,
     piece: Piece,
-    // How much may still be read in this turn.
+    // How many more bytes may be read in this turn.
     share: usize,
 }
 
 impl<'a> FeedSide<'a> {
-    /// No connection yet. Its socket will be registered under this number.
+    /// Creates one without a connection. Its socket will be registered under this number.
+    ///
+    /// # Errors
+    ///
+    /// [`AllocError`] if memory is refused.
     pub(crate) fn new(
         alloc: Global,
         servers: Servers<'a>,
@@ -110,14 +114,14 @@ impl<'a> FeedSide<'a> {
         })
     }
 
-    /// Takes note of what is ready.
+    /// Records the readiness reported by an event.
     pub(crate) fn note(&mut self, event: &Event) {
         if let Some(connection) = &mut self.connection {
             connection.socket.note(event);
         }
     }
 
-    /// Whether there is something to do before anything else is ready.
+    /// Returns whether there may be something to do without waiting for another event.
     pub(crate) fn is_busy(&self) -> bool {
         match &self.connection {
             Some(connection) => !self.piece.is_empty() || connection.socket.is_readable(),
@@ -125,12 +129,12 @@ impl<'a> FeedSide<'a> {
         }
     }
 
-    /// Whether a connection is due at this moment.
+    /// Returns whether a connection is due at this time.
     pub(crate) fn is_due(&self, now_ms: u64) -> bool {
         self.connection.is_none() && now_ms >= self.again_at
     }
 
-    /// Begins a turn: connects where that is due. The login is read again before that.
+    /// Begins a turn: connects if a connection is due. The login is checked for changes before.
     pub(crate) fn begin_turn<
         R: Net + Clock + Files<File = File> + Eprint + AllocGlobal,
         B: OrderBook,
@@ -148,7 +152,7 @@ impl<'a> FeedSide<'a> {
         self.account.look(log, "feed", now_ms);
         let live = follower.next().is_some();
         self.address = self.route.next(log.runtime(), live);
-        // To look up a name may take long.
+        // Resolving a name may take long.
         let now_ms = turns.now().unwrap_or(now_ms);
         let Some(address) = self.address else {
             let why = if live {
@@ -164,7 +168,7 @@ impl<'a> FeedSide<'a> {
         }
     }
 
-    // Begins to connect to an address. Its login is sent once it is connected.
+    // Begins to connect to an address. The login is sent when the connection is made.
     fn connect<N: Net, B: OrderBook>(
         &mut self,
         net: &N,
@@ -176,7 +180,7 @@ impl<'a> FeedSide<'a> {
         let credentials = self.account.first().credentials(current_session());
         let login = follower.connect(credentials, now_ms);
         let stream = TcpStream::connect(net, address)?;
-        // A login or a heartbeat is not to wait for what follows it.
+        // A login or a heartbeat must not wait for later data.
         let _ = stream.set_nodelay(true);
         Ok(Connection {
             socket: Socket::register(registry, stream, self.token, false)?,
@@ -184,7 +188,7 @@ impl<'a> FeedSide<'a> {
         })
     }
 
-    /// Ends a turn: sends what is pending, and a heartbeat where one is due. A server that was silent for too long is lost.
+    /// Ends a turn: sends the pending bytes, and a heartbeat if one is due. A server that was silent for too long counts as lost.
     pub(crate) fn end_turn<R: Eprint, B: OrderBook>(
         &mut self,
         log: &mut Log<'_, R>,
@@ -205,7 +209,7 @@ impl<'a> FeedSide<'a> {
         }
     }
 
-    // Drops the connection for a cause that the status has, and an entry of the log.
+    // Drops the connection, for a cause that the status and the log show.
     fn break_off<R: Eprint, B: OrderBook>(
         &mut self,
         log: &mut Log<'_, R>,
@@ -222,8 +226,8 @@ impl<'a> FeedSide<'a> {
         self.lose(log, follower, why, now_ms);
     }
 
-    // Drops the connection, to make another one. It is said once that the server is lost, until it accepts a login; what more is known of a
-    // server is said where it changes.
+    // Drops the connection, to make another one. The loss of the server is reported once, until it accepts a login. Further details about a
+    // server are reported when they change.
     fn lose<R: Eprint, B: OrderBook>(
         &mut self,
         log: &mut Log<'_, R>,
@@ -257,7 +261,7 @@ impl<'a> FeedSide<'a> {
         }
     }
 
-    // What was said last of a server of the feed.
+    // Returns the last report about a server of the feed.
     fn trouble_of(&self, server: usize) -> Option<Trouble> {
         match self.troubles.as_slice().get(server) {
             Some(trouble) => *trouble,
@@ -265,7 +269,7 @@ impl<'a> FeedSide<'a> {
         }
     }
 
-    // What the server is called, where it is one of several, or a line is about its name.
+    // Returns the name of the server, if it is one of several, or if a line is about its name.
     fn name(&self, live: bool, is_of_a_name: bool) -> Option<&'a str> {
         if is_of_a_name || (live && !self.route.servers().feeds.is_one()) {
             return self.route.name(live);
@@ -281,9 +285,13 @@ impl<'a> FeedSide<'a> {
         self.again_at = again_at;
     }
 
-    /// The next step, or `None` if nothing more has come or this turn's share is read.
+    /// Returns the next step, or `None` if nothing more has arrived or this turn's share was read.
     ///
-    /// A message that is taken is written to `record`.
+    /// A message that is applied is also written to `record`.
+    ///
+    /// # Errors
+    ///
+    /// A [`LiveFault`] if the step ends the follower.
     pub(crate) fn step<R: Eprint, B: OrderBook, W: CountedWrite>(
         &mut self,
         log: &mut Log<'_, R>,
@@ -316,7 +324,7 @@ impl<'a> FeedSide<'a> {
         Ok(Some(step))
     }
 
-    /// Closes the connection, and makes another one at this moment.
+    /// Closes the connection. The next one is made at this time.
     pub(crate) fn pause(&mut self, until_ms: u64) {
         self.drop_connection(until_ms);
     }
@@ -332,52 +340,52 @@ impl<'a> FeedSide<'a> {
         self.market_ns = None;
     }
 
-    /// Has so many bytes read once more in this turn.
+    /// Allows another share of bytes to be read in this turn.
     pub(crate) fn renew(&mut self) {
         self.share = SHARE;
     }
 
-    /// Whom it logs in as.
+    /// Returns the login that it uses.
     pub(crate) fn login(&self) -> Login {
         self.account.first()
     }
 
-    /// The servers that it may connect to.
+    /// Returns the servers that it may connect to.
     pub(crate) fn servers(&self) -> Servers<'a> {
         self.route.servers()
     }
 
-    /// Has it connect to this address alone.
+    /// Restricts it to this address.
     pub(crate) fn keep_to(&mut self, address: SocketAddr) {
         self.route.keep_to(address);
     }
 
-    /// The address that was connected to last.
+    /// Returns the address of the last connection, if there is one.
     pub(crate) fn address(&self) -> Option<SocketAddr> {
         self.address
     }
 
-    /// The place of the server that is connected to, or is next, among those of the feed.
+    /// Returns the index of the current or next server among those of the feed.
     pub(crate) fn server(&self) -> usize {
         self.route.server()
     }
 
-    /// Whether a connection was lost, or was not made, since a login was accepted.
+    /// Returns whether a connection was lost, or could not be made, since a login was accepted.
     pub(crate) fn is_down(&self) -> bool {
         self.is_down
     }
 
-    /// Whether the server has accepted a login.
+    /// Returns whether the server has accepted a login.
     pub(crate) fn was_accepted(&self) -> bool {
         self.was_accepted
     }
 
-    /// Whether the feed has ended its session.
+    /// Returns whether the feed has ended its session.
     pub(crate) fn is_over(&self) -> bool {
         self.connection.is_none() && self.again_at == u64::MAX
     }
 
-    // Reads the next piece, as far as this turn's share goes.
+    // Reads the next piece, as far as this turn's share allows.
     fn fill(&mut self) -> io::Result<Got> {
         let Some(connection) = &mut self.connection else {
             return Ok(Got::Nothing);

@@ -1,4 +1,4 @@
-//! `follow`: the messages of a feed from a snapshot on.
+//! `follow`: writes the messages of a feed, starting from a snapshot.
 
 use crate::feed_side::{FeedSide, SHARE};
 use itch_book::{IndexedBook, OrderBook};
@@ -19,32 +19,32 @@ use std::io::Write;
 use std::net::Net;
 use std::rt::{Clock, Files};
 
-/// The number of the socket.
+/// The number of the feed's socket.
 const FEED: usize = 0;
 
 const EVENTS: usize = 16;
 
-/// The moment is looked at this often, where nothing comes.
+/// The time is checked at this interval in milliseconds if nothing arrives.
 const MOMENT_MS: u64 = 100;
 
-/// What is followed, and how it is written.
+/// The feed to follow, and the form of the output.
 #[derive(Clone, Copy)]
 pub struct Following {
-    /// The sessions that are named beforehand.
+    /// The sessions that are known in advance.
     pub sessions: Sessions,
     pub form: FollowForm,
 }
 
-/// Fetches a snapshot, joins the feed to it, and writes each message of the feed from there on: as blocks, to which those of the
-/// snapshot's messages may come first, or as lines of JSON. It says on standard error where it has joined, and what becomes of the
-/// feed. What is written is flushed whenever nothing more has come.
+/// Fetches a snapshot, joins the feed to it, and writes each later message of the feed: as blocks, which may follow those of the snapshot's
+/// messages, or as JSON, one object per line. Lines on standard error report where it has joined, and the state of the feed. The output is
+/// flushed whenever nothing more has arrived.
 ///
 /// It ends with the feed's session.
 ///
 /// # Faults
 ///
-/// A first login that is not authorised, or is accepted in another session than the one that is named or that the snapshot is of; a message
-/// that is refused; and a failed write.
+/// A first login that is not authorised, or is accepted under another session than the named one or that of the snapshot; a message that is
+/// refused; and a failed write.
 pub fn follow_feed<R, W: Write>(
     rt: &R,
     servers: Servers<'_>,
@@ -60,7 +60,7 @@ where
     tail.run(following.form, out)
 }
 
-// What follows the feed, and its connection.
+// The follower of the feed, and its connection.
 #[derive(Drop)]
 struct Tail<'r, 'a, R: Clock, B: OrderBook> {
     log: Log<'r, R>,
@@ -69,7 +69,7 @@ struct Tail<'r, 'a, R: Clock, B: OrderBook> {
     follower: Follower<B>,
     // Whether the feed's session is named.
     is_named: bool,
-    // The block of the message that is shown as a line.
+    // The block of the message that is written as a line.
     block: Vec<u8>,
 }
 
@@ -77,7 +77,7 @@ impl<'r, 'a, R, B: OrderBook<Alloc = Global>> Tail<'r, 'a, R, B>
 where
     R: Net + Clock + Files<File = File> + Eprint + AllocGlobal,
 {
-    // No connection yet.
+    // Creates one without a connection.
     fn new(
         rt: &'r R,
         servers: Servers<'a>,
@@ -111,7 +111,7 @@ where
         Ok(true)
     }
 
-    // Waits until something has come or is due, and writes it. True once the feed has ended its session.
+    // Waits until something has arrived or is due, and writes it. Returns whether the feed has ended its session.
     fn turn<W: Write>(
         &mut self,
         form: FollowForm,
@@ -130,14 +130,14 @@ where
         };
         self.feed
             .end_turn(&mut self.log, &mut self.follower, now_ms);
-        // What came before a fault is written too.
+        // Messages before a fault are written too.
         match (ended, out.flush()) {
             (Ok(_), Err(error)) => Err(LiveFault::Session(SessionFault::Write(error))),
             (ended, _) => ended,
         }
     }
 
-    // Writes what has come, up to a share of bytes, each packet of which is three bytes at least.
+    // Writes the messages that have arrived, up to a share of bytes. Each packet has at least three bytes.
     fn steps<W: Write>(
         &mut self,
         form: FollowForm,
@@ -165,7 +165,7 @@ where
         Ok(false)
     }
 
-    // The next step. The message that it takes, if it does, is written as a line.
+    // Returns the next step. If a message was applied, it is written as a line.
     fn show_step<W: CountedWrite>(
         &mut self,
         now_ms: u64,
@@ -189,7 +189,7 @@ where
     }
 }
 
-// Writes the line of the message in a block. One that was taken can be decoded.
+// Writes the line of the message in a block. An applied message can always be decoded.
 fn show<W: CountedWrite>(number: u64, block: &[u8], out: &mut W) -> Result<(), SessionFault> {
     let payload = match block {
         [_, _, payload @ ..] => payload,
@@ -201,7 +201,7 @@ fn show<W: CountedWrite>(number: u64, block: &[u8], out: &mut W) -> Result<(), S
     }
 }
 
-// Writes the blocks of the messages of a market's snapshot, without its End.
+// Writes the blocks of the messages of a market's snapshot, without its End of Snapshot.
 fn write_messages<B: OrderBook, W: CountedWrite>(
     market: &Market<B>,
     out: &mut W,

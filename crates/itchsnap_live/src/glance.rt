@@ -1,24 +1,24 @@
-//! The timestamp of each message of a feed, from the pieces that its packets come in.
+//! Finds the timestamp of each message of a feed in the pieces of its packets.
 
 use arrayvec::ArrayVec;
 use itch_codec::Stamp;
 
-/// The head of a packet with a message: its length, its type, and the message up to its timestamp.
+/// The length of the head of a packet with a message: its length, its type, and the message up to its timestamp.
 const HEAD: usize = 14;
 
-/// What comes before the message.
+/// The number of bytes before the message.
 const BEFORE: usize = 3;
 
-/// The head of the packet that was read last, as far as it has come.
+/// The head of the latest packet, as far as it has arrived.
 #[derive(Drop)]
 pub(crate) struct Glance {
     head: ArrayVec<u8, HEAD>,
-    // How many bytes of the packet have come.
+    // The number of bytes of the packet that have arrived.
     count: usize,
 }
 
 impl Glance {
-    /// Nothing was read yet.
+    /// Creates one before the first packet.
     pub(crate) fn new() -> Glance {
         Glance {
             head: ArrayVec::new(),
@@ -26,7 +26,7 @@ impl Glance {
         }
     }
 
-    /// Takes note of bytes of one packet: of the next one, once the last one is complete.
+    /// Reads bytes of one packet. If the last packet is complete, they belong to the next one.
     pub(crate) fn read(&mut self, bytes: &[u8]) {
         if self.is_complete() {
             self.clear();
@@ -43,7 +43,7 @@ impl Glance {
         }
     }
 
-    /// The timestamp of the message in the packet: in nanoseconds since midnight.
+    /// Returns the timestamp of the message in the packet, in nanoseconds since midnight, if it has one.
     pub(crate) fn stamp(&self) -> Option<u64> {
         let message = self.head.as_slice().get(BEFORE..)?;
         Some(Stamp::of_payload(message)?.value())

@@ -1,8 +1,8 @@
-//! A live server and a follower, in one thread over the readiness of their sockets.
+//! A live server and a follower, each in a single thread, driven by the readiness of their sockets.
 //!
-//! [`serve_live`] follows a feed and serves the snapshot of its present market to many clients, and [`follow_feed`] writes the messages of a feed from a
-//! snapshot on. What is said to whom is decided by `itch_live`, which has no socket and no clock. A turn waits until a socket is ready or something is
-//! due, notes which, and then hands on what has come and writes what is pending.
+//! [`serve_live`] follows a feed and serves snapshots of its current market to many clients. [`follow_feed`] writes the messages of a feed,
+//! starting from a snapshot. `itch_live` decides which bytes each peer receives; it has no sockets and no clock. A turn waits until a socket
+//! is ready or something is due, records which sockets are ready, passes on the bytes that have arrived, and writes the pending ones.
 #![tactic(auto)]
 
 mod cause;

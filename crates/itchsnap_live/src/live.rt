@@ -1,4 +1,4 @@
-//! `live`: a feed that is followed, and the snapshot of its present market for each client that asks.
+//! `live`: follows a feed, and sends a snapshot of its current market to each client that logs in.
 
 mod beginning;
 mod client_side;
@@ -32,53 +32,54 @@ use std::mem::swap;
 use std::net::{Net, SocketAddr};
 use std::rt::{Clock, Files};
 
-/// The numbers of the sockets: the port that is listened on, the feed, and from here on the places of clients, and after those the reception.
+/// The numbers of the sockets: the listening port, the feed, and the clients from here on, followed by the reception.
 const LISTENER: usize = 0;
 
 const FEED: usize = 1;
 
 const FIRST_CLIENT: usize = 2;
 
-/// That of the connection that looks for the session of the next day: the last number before those of the status port.
+/// The number of the connection that looks for the session of the next day. It is the last number before those of the status port.
 const SCOUT: usize = STATUS - 1;
 
-/// The moment is looked at this often, where no socket is ready.
+/// The time is checked at this interval in milliseconds if no socket is ready.
 const MOMENT_MS: u64 = 100;
 
-/// The same, where somebody waits for a snapshot that the time does not allow yet.
+/// The same, while a client waits for a snapshot that the budget does not allow yet.
 const SOON_MS: u64 = 10;
 
-/// The feed is read for so long in one turn, at most.
+/// The most milliseconds for which the feed is read in one turn.
 const READING_MS: u64 = 20;
 
-/// What a live server serves, to whom, and what it keeps.
+/// The options of a live server: what it serves, to whom, and which files it keeps.
 #[derive(Clone, Copy)]
 pub struct Serving<'a> {
     pub address: SocketAddr,
-    /// The feed's session, and that of the server of snapshots if it is another, where they are named.
+    /// The feed's session, and that of the snapshot server if it differs, if they are named.
     pub session: Option<Alpha<10>>,
     pub glimpse_session: Option<Alpha<10>>,
-    /// How many clients it has at a time, and how many of them from one address.
+    /// The most clients at a time, and the most from one address.
     pub clients: usize,
     pub clients_per_address: usize,
-    /// How many bytes the snapshots in use may have, if a limit is given.
+    /// The limit of the snapshots in use in bytes, if one is given.
     pub snapshot_memory: Option<u64>,
-    /// Whether it begins with a snapshot, and not with the feed's first message.
+    /// Whether it starts from a snapshot instead of the feed's first message.
     pub from_snapshot: bool,
     pub record: Option<RecordWords<'a>>,
-    /// Where snapshots are written: in the folder itself, or in one for each session there if the record has a file for each.
+    /// Where snapshots are written: in the folder itself, or in a folder for each session inside it, if the record has a file for each
+    /// session.
     pub snapshots: Option<SnapshotWords<'a>>,
-    /// Whether it serves on once the feed has ended.
+    /// Whether it continues to serve after the feed has ended.
     pub stay: bool,
-    /// From when on it sends snapshots.
+    /// When it starts to send snapshots.
     pub ready: Ready,
-    /// Where its status is asked for, if it is.
+    /// The address of its status port, if it has one.
     pub status: Option<Place<'a>>,
     pub log: LogForm,
 }
 
 impl<'a> Serving<'a> {
-    /// Where it records, if it does.
+    /// Returns where it records, if it does.
     pub(crate) fn place(&self) -> Option<RecordPlace<'a>> {
         match self.record {
             Some(words) => Some(words.place),
@@ -86,29 +87,29 @@ impl<'a> Serving<'a> {
         }
     }
 
-    /// Whether it has files for each session of its feed.
+    /// Returns whether it has files for each session of its feed.
     pub(crate) fn has_days(&self) -> bool {
         matches!(self.place(), Some(RecordPlace::Folder(_)))
     }
 }
 
-/// Who may log in to a live server, and whom it logs in as itself.
+/// The users who may log in to a live server, and the login that it uses itself.
 #[derive(Drop)]
 pub struct Accounts<'a> {
     pub users: Logins<'a>,
     pub own: Logins<'a>,
 }
 
-/// Follows a feed, and serves the snapshot of its present market, with a line on `out` for each client that is gone. It says on
-/// standard error which port it listens on, and what becomes of the feed.
+/// Follows a feed, and serves snapshots of its current market, with a line on `out` for each client that is gone. Lines on standard error
+/// report the address that it listens on, and the state of the feed.
 ///
-/// It ends once the feed has ended its session and the clients that are there are gone; with `stay` it never does.
+/// It ends when the feed has ended its session and all clients are gone. With `stay` it does not end.
 ///
 /// # Faults
 ///
-/// A first login to the feed that is not authorised, or is accepted in another session than the one that is named or recorded; a message that
-/// is refused; a record that is another day's, in use, changed by another process or cannot be written; a folder of snapshots that is in use or
-/// not there; `Socket` if the port cannot be listened on.
+/// A first login to the feed that is not authorised, or is accepted under another session than the named or recorded one; a message that is
+/// refused; a record that belongs to another day, is in use, was changed by another process, or cannot be written; a folder of snapshots that
+/// is in use or does not exist; `Socket` if the port cannot be bound.
 pub fn serve_live<'a, R, W: CountedWrite>(
     rt: &R,
     servers: Servers<'a>,
@@ -126,7 +127,7 @@ where
     }
 }
 
-// Serves until it is over, or until a fault, which is about the day of these paths.
+// Serves until the end, or until a fault, which concerns the day with these paths.
 fn served<'a, R, B: OrderBook<Alloc = Global>, W: CountedWrite>(
     rt: &R,
     servers: Servers<'a>,
@@ -142,7 +143,7 @@ where
         rt, servers, serving, accounts, paths,
     )?;
     let answer = server.run_from(out, paths);
-    // As a call, since code that drops so many fields takes long to prove.
+    // An explicit call, because a proof of code that drops this many fields takes long.
     drop(server);
     answer
 }
@@ -158,10 +159,10 @@ struct Server<'r, 'a, R: Clock, B: OrderBook> {
     feed: FeedSide<'a>,
     desk: Desk<B>,
     client_side: ClientSide<'a>,
-    // Where the record and the snapshots of the day are.
+    // The paths of the day's record and snapshots.
     paths: DayPaths,
     day: Day,
-    // What looks for the session of the next day.
+    // Looks for the session of the next day.
     scout: Option<Scout<'r, 'a, R, B>>,
 }
 
@@ -169,7 +170,7 @@ impl<'r, 'a, R, B: OrderBook<Alloc = Global>> Server<'r, 'a, R, B>
 where
     R: Net + Clock + Files<File = File> + Eprint + AllocGlobal,
 {
-    // Serves from the day of these paths on, and returns in them those of the last day.
+    // Serves, beginning with the day with these paths, and returns those of the last day in them.
     fn run_from<W: CountedWrite>(
         &mut self,
         out: &mut W,
@@ -181,7 +182,7 @@ where
         answer
     }
 
-    // Serves until it is over.
+    // Serves until the end.
     fn run<W: CountedWrite>(&mut self, out: &mut W) -> Result<bool, LiveFault> {
         self.begin()?;
         for _turn in 0..u64::MAX {
@@ -194,7 +195,8 @@ where
         Ok(true)
     }
 
-    // Those who called while the session was not known are accepted now. The record has the session, if the feed has confirmed it.
+    // Clients that connected before the session was known are accepted now. If the feed has confirmed the session, it is written to the
+    // record.
     fn begin(&mut self) -> Result<(), LiveFault> {
         self.client_side.callers.note();
         if self.feed.was_accepted() {
@@ -207,7 +209,7 @@ where
         self.is_closed() && self.client_side.is_empty()
     }
 
-    // Whether no client is accepted any more.
+    // Returns whether no more clients are accepted.
     fn is_closed(&self) -> bool {
         self.day.has_ended && !self.serving.stay
     }
@@ -234,7 +236,7 @@ where
         Ok(())
     }
 
-    // How long there is nothing to do unless something is ready.
+    // Returns how long to wait for a socket to become ready.
     fn patience_ms(&self) -> u64 {
         if self.day.replay.is_some()
             || self.is_scouting()
@@ -250,7 +252,7 @@ where
         MOMENT_MS
     }
 
-    // Takes note of what is ready.
+    // Records which sockets are ready.
     fn note(&mut self) {
         let first_room = FIRST_CLIENT.saturating_add(self.serving.clients);
         for event in self.turns.events().iter() {
@@ -273,7 +275,7 @@ where
         }
     }
 
-    // Does what the feed has sent. The record has it afterwards, also where that ends in a fault.
+    // Handles the bytes of the feed. Afterwards the messages are flushed to the record, even after a fault.
     fn follow(&mut self, now_ms: u64) -> Result<(), LiveFault> {
         if self.feed.is_due(now_ms) {
             self.spare.release();
@@ -291,7 +293,7 @@ where
         flushed
     }
 
-    // Takes note of whether all that the feed had has come.
+    // Records whether everything that the feed had has arrived.
     fn catch_up(&mut self, now_ms: u64) {
         let (state, _cause) = self.feed.state();
         let for_ms = self.feed.accepted_for_ms(now_ms);
@@ -299,7 +301,7 @@ where
         self.day.has_caught_up = self.day.has_caught_up || is_caught_up;
     }
 
-    // Does what the feed has sent until nothing more has come, but for no longer than its share of the time.
+    // Handles the bytes of the feed until nothing more has arrived, but no longer than its share of the time.
     fn read_feed(&mut self, now_ms: u64) -> Result<(), LiveFault> {
         let until_ms = now_ms.saturating_add(READING_MS);
         for _share in 0..u64::MAX {
@@ -312,8 +314,8 @@ where
         Ok(())
     }
 
-    // Does what the feed has sent, up to a share of bytes, each packet of which is three bytes at least, and says whether a snapshot was written
-    // meanwhile. That may take long: what comes after it belongs to the next turn, and its moment.
+    // Handles the bytes of the feed, up to a share of bytes, and returns whether a snapshot was written meanwhile. Each packet has at least
+    // three bytes. Writing a snapshot may take long, so later bytes are left to the next turn, with its own time.
     fn steps(&mut self, now_ms: u64) -> Result<bool, LiveFault> {
         for _packet in 0..SHARE {
             let Some(step) = self.step(now_ms)? else {
@@ -326,7 +328,7 @@ where
         Ok(false)
     }
 
-    // The feed's next step. A message that could not be recorded is taken where the record is optional.
+    // Returns the feed's next step. If the record is optional, a message that could not be recorded still counts as applied.
     fn step(&mut self, now_ms: u64) -> Result<Option<Step>, LiveFault> {
         let recording = &mut self.day.record.recording;
         match self
@@ -341,7 +343,7 @@ where
         }
     }
 
-    // Does what a step asks for, and says whether that may have taken long.
+    // Acts on a step, and returns whether this may have taken long.
     fn act(&mut self, step: &Step, now_ms: u64) -> Result<bool, LiveFault> {
         match *step {
             Step::Taken(next) => {
@@ -366,7 +368,7 @@ where
         Ok(false)
     }
 
-    // A feed that has not the session of the record is asked once which one it is in.
+    // Asks a feed that rejects the session of the record, once, which session it is in.
     fn question(&mut self, code: u8) -> Result<(), LiveFault> {
         let (Some(session), Some(address)) = (self.day.record.session(), self.feed.address()) else {
             return Ok(());
@@ -381,7 +383,7 @@ where
         agreed(session, asked)
     }
 
-    // Does what the clients have sent, and sends them what they are told. Once the feed has ended none is accepted, unless it stays.
+    // Handles the bytes of the clients, and sends them theirs. After the feed has ended, no new client is accepted, unless the server stays.
     fn serve(&mut self, now_ms: u64) -> Result<(), LiveFault> {
         if !self.is_closed() && self.day.tomorrow.is_none() {
             self.client_side.accept(
@@ -399,13 +401,13 @@ where
         Ok(())
     }
 
-    // Whether clients are sent snapshots yet.
+    // Returns whether clients may receive snapshots yet.
     fn is_ready(&self) -> bool {
         let may_be_early = matches!(self.serving.ready, Ready::First);
         (may_be_early || self.day.has_caught_up) && self.desk.follower().market().is_some()
     }
 
-    // Answers all who wait, as often as the time allows.
+    // Answers all waiting clients, as often as the budget allows.
     fn answer(&mut self, now_ms: u64) -> Result<(), LiveFault> {
         if !self.is_ready()
             || !self
@@ -422,7 +424,7 @@ where
         Ok(())
     }
 
-    // Writes what has become of the connections.
+    // Writes the events of the connections.
     fn write_lines<W: CountedWrite>(&mut self, now_ms: u64, out: &mut W) {
         for _ in 0..u64::MAX {
             let Some((who, happening)) = self.client_side.reception.next_happening() else {

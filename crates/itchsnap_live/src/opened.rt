@@ -1,4 +1,4 @@
-//! What a live server opens before it serves.
+//! The files and ports that a live server opens before it serves.
 
 use crate::live::Serving;
 use crate::start::Start;
@@ -19,16 +19,16 @@ use std::fs::File;
 use std::net::{Net, SocketAddr};
 use std::rt::{Clock, Files};
 
-/// What a live server has of a day in files.
+/// The files of a live server for one day.
 #[derive(Drop)]
 pub(crate) struct OwnFiles {
     pub record: Record,
-    /// What is still to be replayed of it.
+    /// The rest of the record, which is still to be replayed.
     pub replay: Option<Replay>,
     pub saver: Option<Saver>,
 }
 
-/// The same, with the market that it begins with, and the session of the day, where that is known.
+/// The same, with the market to begin with, and the session of the day, if it is known.
 #[derive(Drop)]
 pub(crate) struct Begun<B: OrderBook> {
     pub files: OwnFiles,
@@ -36,8 +36,12 @@ pub(crate) struct Begun<B: OrderBook> {
     pub session: Option<Alpha<10>>,
 }
 
-/// Opens the files of a day. The record is replayed from the newest snapshot on that fits it; the folder lists no later ones. The record has to be of
-/// this session, if one is named.
+/// Opens the files of a day. The record is replayed from the newest snapshot that fits it, and later ones are removed from the index of the
+/// folder. If a session is named, the record must belong to it.
+///
+/// # Errors
+///
+/// A [`LiveFault`] if a file cannot be opened, is in use or does not fit.
 pub(crate) fn open_files<R, B>(
     log: &mut Log<'_, R>,
     serving: &Serving<'_>,
@@ -108,7 +112,7 @@ fn open_record<R: Files<File = File> + AllocGlobal>(
     }
 }
 
-// The market of the newest snapshot that fits the record.
+// Returns the market of the newest snapshot that fits the record, if there is one.
 fn newest_of<R, B>(
     log: &mut Log<'_, R>,
     folder: &str,
@@ -130,7 +134,7 @@ where
     }
 }
 
-// A joiner with the market before the first message, or with none where a snapshot comes first.
+// Returns a joiner with the market before the first message, or without a market if a snapshot comes first.
 fn first_joiner<B: OrderBook<Alloc = Global>>(
     alloc: Global,
     serving: &Serving<'_>,
@@ -142,7 +146,7 @@ fn first_joiner<B: OrderBook<Alloc = Global>>(
     Ok(joiner)
 }
 
-/// What follows the feed, in the session that is named or recorded.
+/// Returns the follower of the feed, in the named or recorded session.
 pub(crate) fn follower_of<B: OrderBook<Alloc = Global>>(
     alloc: Global,
     serving: &Serving<'_>,
@@ -159,6 +163,10 @@ pub(crate) fn follower_of<B: OrderBook<Alloc = Global>>(
 }
 
 /// Listens on the port of a server. Its socket will have this number.
+///
+/// # Errors
+///
+/// A [`SessionFault`] if the port cannot be bound.
 pub(crate) fn listen<R: Net + Clock + Eprint>(
     rt: &R,
     start: &mut Start<'_, '_, R>,
@@ -170,7 +178,11 @@ pub(crate) fn listen<R: Net + Clock + Eprint>(
     Ok(callers)
 }
 
-/// Opens the status port, if there is to be one. Until the feed's session is known it shows no clients.
+/// Opens the status port, if there is one. It shows no clients until the feed's session is known.
+///
+/// # Errors
+///
+/// [`LiveFault::StatusPort`] if the port cannot be bound.
 pub(crate) fn open_status<R: Net + Clock + Eprint + AllocGlobal>(
     serving: &Serving<'_>,
     start: &mut Start<'_, '_, R>,

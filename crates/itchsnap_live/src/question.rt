@@ -1,4 +1,4 @@
-//! Which session a feed is in that rejects the session of a record.
+//! Finds the session of a feed that rejects the session of a record.
 ghost use Rattle.std.specs.Prelude.{◌≡◌};
 ghost use Rattle.itchsnap_live.specs.Questions.{asks_session};
 
@@ -19,21 +19,25 @@ use std::fs::File;
 use std::net::{Net, SocketAddr};
 use std::rt::{Clock, Files};
 
-/// The answer is waited for so long.
+/// How many milliseconds to wait for the answer.
 const MOST_MS: u64 = 2_000;
 
 /// The number of the socket.
 const FEED: usize = 0;
 
-/// Whether a feed that rejects the login for a record with this code is asked which session it is in: once, and only one that has accepted no
-/// login. Otherwise its server is one that lacks the session for now.
+/// Returns whether a feed that rejects the login for a record with this code is asked for its session: once, and only if it has accepted no
+/// login yet. Otherwise the server lacks the session only for the moment.
 pub fn asks_session(code: u8, was_accepted: bool, was_asked: bool) -> bool
     ensures { result ≡ asks_session code was_accepted was_asked }
 {
     code == b'S' && !was_accepted && !was_asked
 }
 
-/// The fault of a record of one session, where the feed says that it is in another.
+/// Checks that the feed is in the session of the record, if it has answered.
+///
+/// # Errors
+///
+/// [`RecordFault::OtherSession`] if the feed is in another one.
 pub(crate) fn agreed(session: Alpha<10>, asked: Option<Alpha<10>>) -> Result<(), LiveFault> {
     if let Some(named) = asked {
         if is_another(&session, &named) {
@@ -43,8 +47,8 @@ pub(crate) fn agreed(session: Alpha<10>, asked: Option<Alpha<10>>) -> Result<(),
     Ok(())
 }
 
-/// Asks a feed's server of this address which session it is in, by a login for whichever that is; none where it does not answer within two seconds, or cannot be
-/// asked.
+/// Asks the feed's server at this address for its session, by a login to the current one. Returns `None` if it does not answer within two
+/// seconds, or cannot be asked.
 pub(crate) fn ask_session<R, B>(
     log: &Log<'_, R>,
     feed: &FeedSide<'_>,
@@ -72,7 +76,7 @@ where
     start.ask(address, &mut follower, MOST_MS)
 }
 
-/// A follower that has no session yet.
+/// Returns a follower that knows no session yet.
 pub(crate) fn nameless_follower<B: OrderBook<Alloc = Global>>(
     alloc: Global,
     credentials: &Credentials,

@@ -1,4 +1,4 @@
-//! Which session a feed is in, while it is not in that of the present day.
+//! Finds the session of a feed that is not in the session of the current day.
 
 use crate::feed_side::{FeedSide, SHARE};
 use crate::question::nameless_follower;
@@ -17,10 +17,10 @@ use std::fs::File;
 use std::net::Net;
 use std::rt::{Clock, Files};
 
-/// A feed that is still in the session of the present day is asked again after so long.
+/// How many milliseconds to wait before asking again, if the feed is still in the session of the current day.
 const PAUSE_MS: u64 = 5_000;
 
-/// A connection of its own to the feed, for a login to whichever session that is in. Nothing is said of it.
+/// A separate connection to the feed, with a login to its current session. It writes no lines.
 #[derive(Drop)]
 pub(crate) struct Scout<'r, 'a, R, B: OrderBook> {
     log: Log<'r, R>,
@@ -32,7 +32,7 @@ impl<'r, 'a, R, B: OrderBook<Alloc = Global>> Scout<'r, 'a, R, B>
 where
     R: Net + Clock + Files<File = File> + Eprint + AllocGlobal,
 {
-    /// One that connects to the servers of a feed, with its login; none where memory is refused. Its socket will have this number.
+    /// Creates one for the servers of a feed, with its login. Returns `None` if memory is refused. Its socket will have this number.
     pub(crate) fn of(
         log: &Log<'r, R>,
         feed: &FeedSide<'a>,
@@ -55,23 +55,22 @@ where
         })
     }
 
-    /// Takes note of what is ready.
+    /// Records the readiness reported by an event.
     pub(crate) fn note(&mut self, event: &Event) {
         self.feed.note(event);
     }
 
-    /// Whether a connection is due at this moment.
+    /// Returns whether a connection is due at this time.
     pub(crate) fn is_due(&self, now_ms: u64) -> bool {
         self.feed.is_due(now_ms)
     }
 
-    /// Whether there is something to read before anything else is ready.
+    /// Returns whether there may be bytes to read without waiting for another event.
     pub(crate) fn is_busy(&self) -> bool {
         self.feed.is_busy()
     }
 
-    /// Does what is due, and returns the session that the feed names, once it does: then the connection is closed, and the feed asked again
-    /// some seconds later.
+    /// Does what is due, and returns the session if the feed names it. The connection is then closed, and made again some seconds later.
     pub(crate) fn turn(&mut self, turns: &Turns<'_, R>, now_ms: u64) -> Option<Alpha<10>> {
         self.feed
             .begin_turn(&mut self.log, turns, &mut self.follower, now_ms);
@@ -84,7 +83,7 @@ where
         Some(session)
     }
 
-    // Reads what has come, until a session is named.
+    // Reads bytes until a session is named.
     fn read(&mut self, now_ms: u64) {
         let mut nowhere: Recording<File> = Recording::Nowhere(Failures::none());
         for _packet in 0..SHARE {
@@ -103,7 +102,7 @@ where
     }
 }
 
-// A follower that knows no session.
+// Returns a follower that knows no session.
 fn nobody_of<B: OrderBook<Alloc = Global>>(
     alloc: Global,
     feed: &FeedSide<'_>,

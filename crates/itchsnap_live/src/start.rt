@@ -16,13 +16,13 @@ use std::fs::File;
 use std::net::{Net, SocketAddr};
 use std::rt::{Clock, Files};
 
-/// The moment is looked at this often, where no socket is ready.
+/// The time is checked at this interval in milliseconds if no socket is ready.
 const MOMENT_MS: u64 = 100;
 
-/// How many sockets are reported ready at once.
+/// The most sockets reported per wait.
 const EVENTS: usize = 1_024;
 
-/// What follows a feed until its session is known, under whose name clients are served.
+/// Follows a feed until its session is known. Clients are served under the name of this session.
 #[derive(Drop)]
 pub(crate) struct Start<'r, 'a, R: Clock> {
     pub log: Log<'r, R>,
@@ -30,7 +30,7 @@ pub(crate) struct Start<'r, 'a, R: Clock> {
     pub feed: FeedSide<'a>,
     /// The number of the feed's socket.
     pub token: usize,
-    /// Who asks for the status, and the figures besides those of the feed.
+    /// The status port with its descriptors, and the figures other than those of the feed.
     pub spare: Spare,
     pub status: Option<StatusPort>,
     pub figures: Figures,
@@ -40,7 +40,11 @@ impl<'r, 'a, R> Start<'r, 'a, R>
 where
     R: Net + Clock + Files<File = File> + Eprint + AllocGlobal,
 {
-    /// No connection yet. The feed's socket will have this number.
+    /// Creates one without a connection. The feed's socket will have this number.
+    ///
+    /// # Errors
+    ///
+    /// A [`LiveFault`] if memory is refused or the clock fails.
     pub(crate) fn new(
         rt: &'r R,
         log: Log<'r, R>,
@@ -62,12 +66,16 @@ where
         })
     }
 
-    /// Takes note of what is recorded already.
+    /// Records the figures of an existing record.
     pub(crate) fn note_record(&mut self, record: &Record) {
         self.figures.recorded = record.figures();
     }
 
     /// Follows the feed until its session is known.
+    ///
+    /// # Errors
+    ///
+    /// A [`LiveFault`] if the feed refuses to start.
     pub(crate) fn find_session<B: OrderBook<Alloc = Global>>(
         &mut self,
         follower: &mut Follower<B>,
@@ -81,8 +89,8 @@ where
         Ok(None)
     }
 
-    /// The session that the server of this address names in its answer to one login, if it does so within so many
-    /// milliseconds. Nothing is said of it.
+    /// Returns the session that the server at this address names in its answer to one login, if it does so within `most_ms` milliseconds. It
+    /// writes no lines.
     pub(crate) fn ask<B: OrderBook<Alloc = Global>>(
         &mut self,
         address: SocketAddr,
@@ -122,7 +130,7 @@ where
         done
     }
 
-    // Answers who asks for the status.
+    // Answers the requests at the status port.
     fn tell_status<B: OrderBook<Alloc = Global>>(&mut self, follower: &Follower<B>, now_ms: u64) {
         let Some(status) = &mut self.status else {
             return;
@@ -144,7 +152,7 @@ where
         status.tell(now_ms);
     }
 
-    // Whether something is to be done for the status port before anything else is ready.
+    // Returns whether there may be something to do for the status port without waiting for another event.
     fn is_asked(&self) -> bool {
         match &self.status {
             Some(status) => status.is_busy(),
@@ -152,7 +160,7 @@ where
         }
     }
 
-    // Takes note of what is ready.
+    // Records which sockets are ready.
     fn note(&mut self) {
         for event in self.turns.events().iter() {
             let Token(token) = event.token();
@@ -167,7 +175,7 @@ where
         }
     }
 
-    // Does what the feed has sent, up to a share of bytes, or until it has named its session.
+    // Handles the bytes of the feed, up to a share of bytes, or until it has named its session.
     fn steps<B: OrderBook<Alloc = Global>>(
         &mut self,
         follower: &mut Follower<B>,

@@ -1,4 +1,4 @@
-//! The status port: whoever asks for the figures of a live server there is answered, without delaying its feed and its clients.
+//! The status port: answers requests for the figures of a live server, without delaying its feed and its clients.
 
 mod connection;
 
@@ -17,16 +17,16 @@ use std::io::{self, ErrorKind};
 use std::net::{IpAddr, Net, SocketAddr, ToSocketAddrs};
 use std::rt::{Clock, Files};
 
-/// The number of the port's socket, and after it those of its connections: no client has such a number.
+/// The number of the port's socket, followed by those of its connections. No client has such a number.
 pub(crate) const STATUS: usize = 1 << 20;
 
 /// The most connections at a time.
 const MOST: usize = 16;
 
-/// So many connections are accepted, and so many requests answered, in one turn at most.
+/// The most connections accepted, and the most requests answered, per turn.
 const SHARE: usize = 4;
 
-/// A port that is listened on for requests, and its connections.
+/// A listening port for requests, and its connections.
 #[derive(Drop)]
 pub(crate) struct StatusPort {
     callers: Callers,
@@ -35,7 +35,11 @@ pub(crate) struct StatusPort {
 }
 
 impl StatusPort {
-    /// Listens on the first address of this name, and says on standard error which it is.
+    /// Listens on the first address of this name, and reports it on standard error.
+    ///
+    /// # Errors
+    ///
+    /// [`LiveFault::StatusPort`] if the port cannot be bound.
     pub(crate) fn open<R: Net + Clock + Eprint + AllocGlobal>(
         log: &mut Log<'_, R>,
         registry: &Registry,
@@ -64,7 +68,7 @@ impl StatusPort {
         })
     }
 
-    /// Takes note that the socket of this number is ready.
+    /// Records that the socket with this number is ready.
     pub(crate) fn note(&mut self, token: usize, event: &Event) {
         if token == STATUS {
             return self.callers.note();
@@ -75,7 +79,7 @@ impl StatusPort {
         }
     }
 
-    /// Whether there is something to do before anything else is ready.
+    /// Returns whether there may be something to do without waiting for another event.
     pub(crate) fn is_busy(&self) -> bool {
         self.connections.iter().any(|connection| match connection {
             Some(connection) => connection.is_busy(),
@@ -83,7 +87,7 @@ impl StatusPort {
         })
     }
 
-    /// Accepts who calls, as far as there is room and a descriptor that is not spared, and reads what was asked.
+    /// Accepts connections, while there are room and descriptors other than the spare ones, and reads the requests.
     pub(crate) fn hear<R: Files<File = File> + AllocGlobal>(
         &mut self,
         rt: &R,
@@ -116,7 +120,7 @@ impl StatusPort {
             .position(|connection| connection.is_none())
     }
 
-    // Where it cannot be registered, or memory is refused for it, it is closed.
+    // Adds a connection. It is closed if it cannot be registered, or memory is refused for it.
     fn admit(
         &mut self,
         alloc: Global,
@@ -139,7 +143,7 @@ impl StatusPort {
         }
     }
 
-    /// Whether somebody is to be answered.
+    /// Returns whether there are requests to be answered.
     pub(crate) fn is_asked(&self) -> bool {
         self.connections.iter().any(|connection| match connection {
             Some(connection) => connection.asked().is_some(),
@@ -147,7 +151,7 @@ impl StatusPort {
         })
     }
 
-    /// Answers who has asked, with these figures.
+    /// Answers requests with these figures.
     pub(crate) fn answer<R: Clock + AllocGlobal>(&mut self, rt: &R, figures: &Figures) {
         let mut left = SHARE;
         for connection in self.connections.iter_mut() {
@@ -161,7 +165,7 @@ impl StatusPort {
         }
     }
 
-    /// Writes the answers, and closes the connections that are over.
+    /// Writes the answers, and closes connections that have ended.
     pub(crate) fn tell(&mut self, now_ms: u64) {
         for connection in self.connections.iter_mut() {
             if let Some(some) = connection
@@ -173,7 +177,7 @@ impl StatusPort {
     }
 }
 
-// The response to a request; none where memory is refused for it.
+// Returns the response to a request, or `None` if memory is refused for it.
 fn response<R: Clock + AllocGlobal>(rt: &R, asked: Answer, figures: &Figures) -> Option<Vec<u8>> {
     let made = match asked {
         Answer::More => return None,

@@ -1,10 +1,10 @@
-//! Books by what their calls return. The helpers take any book.
+//! Books, by the results of their calls. The helpers take any book.
 use crate::equal::{Host, TestResult, same, same_in};
 use itch_book::{IndexedBook, ListBook, Order, OrderBook, Placed, Taken};
 use itch_codec::Side;
 use std::alloc::AllocError;
 
-// An order of locate 1.
+// Returns an order at locate 1.
 pub(super) fn order(reference: u64, side: Side, shares: u32, price: u32) -> Order {
     Order {
         reference,
@@ -26,7 +26,7 @@ pub(super) fn add<B: OrderBook>(
     book.add(order)
 }
 
-// The place of an order, or 0.
+// Returns the place of an order, or 0.
 fn place_of<B: OrderBook>(book: &B, reference: u64) -> usize {
     match book.find(reference) {
         Some(found) => found.place,
@@ -98,23 +98,23 @@ pub(super) fn replace<B: OrderBook>(
     replace_at(rt, book, original, place, reference, shares, price)
 }
 
-// The order of a reference.
+// Returns the order with this reference.
 pub(super) fn live<B: OrderBook>(book: &B, reference: u64) -> Option<Order> {
     book.get(reference).copied()
 }
 
-// The first order of a locate.
+// Returns the first order at a locate.
 pub(super) fn first<B: OrderBook>(book: &B, locate: u16) -> Option<Order> {
     unplaced(book.first(locate))
 }
 
-// The order alone.
+// Returns the order without its place.
 fn unplaced(placed: Option<Placed<'_>>) -> Option<Order> {
     let placed = placed?;
     Some(*placed.order)
 }
 
-// The next order of the same locate, from a place that the book may not have given.
+// Returns the next order at the same locate, from a place that may not come from the book.
 fn after_at<'a, B: OrderBook>(
     rt: &impl Host,
     book: &'a B,
@@ -125,12 +125,12 @@ fn after_at<'a, B: OrderBook>(
     book.after(reference, place)
 }
 
-// The next order of the same locate.
+// Returns the next order at the same locate.
 pub(super) fn after<B: OrderBook>(rt: &impl Host, book: &B, reference: u64) -> Option<Order> {
     unplaced(after_at(rt, book, reference, 0))
 }
 
-// Checks that these are the orders of a locate, each from the place of the one before.
+// Checks that these are the orders at a locate, each from the place of the one before.
 fn check_walk<B: OrderBook>(rt: &impl Host, book: &B, locate: u16, want: &[u64]) {
     let mut next = book.first(locate);
     for number in want {
@@ -141,7 +141,7 @@ fn check_walk<B: OrderBook>(rt: &impl Host, book: &B, locate: u16, want: &[u64])
     assert!(rt; next.is_none());
 }
 
-// Checks that the next order is the same from whichever place.
+// Checks that the next order is the same from any place.
 fn check_places<B: OrderBook>(rt: &impl Host, book: &B, number: u64, want: u64) {
     for place in [0, 1, 2, 3, 4, 5, 6, 7, usize::MAX] {
         let next = unplaced(after_at(rt, book, number, place));
@@ -149,27 +149,27 @@ fn check_places<B: OrderBook>(rt: &impl Host, book: &B, number: u64, want: u64) 
     }
 }
 
-// The reference of the next order of the same locate, or 0.
+// Returns the reference of the next order at the same locate, or 0.
 fn next<B: OrderBook>(rt: &impl Host, book: &B, number: u64) -> u64 {
     reference(after(rt, book, number).as_ref())
 }
 
-// The best price of a side of locate 1, or the best one worse than `last`.
+// Returns the best price of a side at locate 1, or the best one worse than `last`.
 pub(super) fn next_price<B: OrderBook>(book: &B, side: Side, last: Option<u32>) -> Option<u32> {
     book.next_price(1, side, last)
 }
 
-// The shares at a price, and the number of orders.
+// Returns the shares at a price, and the number of orders.
 pub(super) fn total<B: OrderBook>(book: &B, locate: u16, side: Side, price: u32) -> (u128, u64) {
     book.level_total(locate, side, price)
 }
 
-// The book has so many orders.
+// Checks the number of orders of the book.
 pub(super) fn has_len<B: OrderBook>(rt: &impl Host, book: &B, want: usize) {
     same(rt, book.len(), want);
 }
 
-// The reference of an order, or 0.
+// Returns the reference of an order, or 0.
 pub(super) fn reference(order: Option<&Order>) -> u64 {
     match order {
         Some(order) => order.reference,
@@ -177,7 +177,7 @@ pub(super) fn reference(order: Option<&Order>) -> u64 {
     }
 }
 
-// Adds two levels to buy, two to sell, and the greatest order of another locate.
+// Adds two levels to buy, two to sell, and the greatest order at another locate.
 fn fill<B: OrderBook>(rt: &impl Host, book: &mut B) -> Result<(), AllocError> {
     has_len(rt, book, 0);
     for (locate, number, side, shares, price) in [
@@ -196,7 +196,7 @@ fn fill<B: OrderBook>(rt: &impl Host, book: &mut B) -> Result<(), AllocError> {
     Ok(())
 }
 
-// Checks the order of the orders.
+// Checks the priority of the orders.
 fn check_order<B: OrderBook>(rt: &impl Host, book: &B) {
     same(rt, reference(first(book, 1).as_ref()), 2);
     for (number, want) in [
@@ -244,7 +244,7 @@ fn check_totals<B: OrderBook>(rt: &impl Host, book: &B) {
     }
 }
 
-// Takes shares of the orders 1 and 3.
+// Takes shares from orders 1 and 3.
 fn check_takes<B: OrderBook>(rt: &impl Host, book: &mut B) {
     same(rt, take(rt, book, 1, 40), Taken::Left(60));
     same(rt, total(book, 1, Side::Buy, 1500000), (360, 2));
@@ -259,7 +259,7 @@ fn check_delete<B: OrderBook>(rt: &impl Host, book: &mut B) {
     same(rt, next_price(book, Side::Sell, None), Some(1500300));
 }
 
-// Replaces order 2 by order 7, after order 3.
+// Replaces order 2 by order 7, which comes after order 3.
 fn check_replace<B: OrderBook>(rt: &impl Host, book: &mut B) -> Result<(), AllocError> {
     replace(rt, book, 2, 7, 50, 1500000)?;
     assert!(rt; live(book, 2).is_none());
@@ -271,7 +271,7 @@ fn check_replace<B: OrderBook>(rt: &impl Host, book: &mut B) -> Result<(), Alloc
     Ok(())
 }
 
-// Changes a filled book by a place that is given, or by that of each order, and checks what is left.
+// Changes a filled book by the given place, or by the place of each order, and checks the rest.
 fn check_changes<B: OrderBook>(
     rt: &impl Host,
     memory: B::Alloc,
@@ -292,7 +292,7 @@ fn check_changes<B: OrderBook>(
     Ok(())
 }
 
-// Checks that changes are the same by whichever place.
+// Checks that changes are the same by any place.
 fn check_given<B: OrderBook>(rt: &impl Host, memory: B::Alloc) -> Result<(), AllocError> {
     check_changes::<B>(rt, memory, None)?;
     for place in [0, 1, 2, 3, 4, 5, 6, 7, usize::MAX] {
@@ -301,7 +301,7 @@ fn check_given<B: OrderBook>(rt: &impl Host, memory: B::Alloc) -> Result<(), All
     Ok(())
 }
 
-// Checks each call of a book that is empty.
+// Checks each call of an empty book.
 fn check_each_call<B: OrderBook>(rt: &impl Host, book: &mut B) -> Result<(), AllocError> {
     fill(rt, book)?;
     check_order(rt, book);
@@ -312,7 +312,7 @@ fn check_each_call<B: OrderBook>(rt: &impl Host, book: &mut B) -> Result<(), All
     check_replace(rt, book)
 }
 
-// Checks each call of a new book over this memory.
+// Checks each call of a new book in this memory.
 fn check_calls<B: OrderBook>(rt: &impl Host, memory: B::Alloc) -> Result<(), AllocError> {
     let mut book = B::new(memory);
     check_each_call(rt, &mut book)?;
@@ -327,7 +327,7 @@ fn fill_level<B: OrderBook>(rt: &impl Host, book: &mut B) -> Result<(), AllocErr
     Ok(())
 }
 
-// Deletes an order in the middle of the level, takes the first whole, and replaces the last.
+// Deletes an order in the middle of the level, takes all shares of the first, and replaces the last.
 fn change_level<B: OrderBook>(rt: &impl Host, book: &mut B) -> Result<(), AllocError> {
     delete(rt, book, 500);
     same(rt, take(rt, book, 1, 10), Taken::Gone);
@@ -343,7 +343,7 @@ fn check_level<B: OrderBook>(rt: &impl Host, book: &B) {
     }
 }
 
-// Checks a level of a thousand orders of a new book over this memory, of which three change.
+// Checks a level of a thousand orders in a new book in this memory, after three changes.
 fn check_priority<B: OrderBook>(rt: &impl Host, memory: B::Alloc) -> Result<(), AllocError> {
     let mut book = B::new(memory);
     fill_level(rt, &mut book)?;

@@ -1,5 +1,5 @@
-//! Comparisons that end a test. They have no contract, so that a proof of a test does not carry how a value is shown. A library may
-//! not end the process, so each crate of tests has those that it uses.
+//! Comparisons that end a test. They have no contract, so that a proof of a test does not have to know how a value is shown. A library may
+//! not end the process, so each crate of tests has its own.
 use std::alloc::AllocError;
 use std::fmt::{Debug, Display};
 use std::process::Abort;
@@ -28,7 +28,7 @@ pub fn same_in<T: PartialEq + Debug + Copy>(
     assert_eq!(rt; value, expected, "case {case:?}");
 }
 
-/// Ends the test unless this is printed so.
+/// Ends the test unless this is the displayed text.
 pub fn same_words<T: Display>(rt: &impl Host, value: &T, expected: &str) -> Result<(), AllocError> {
     let words = format!(in rt.alloc(); "{value}")?;
     same(rt, words.as_str(), expected);

@@ -1,4 +1,4 @@
-//! A day file replayed.
+//! Replays of a day file in which a read fails.
 use crate::book::has_len;
 use crate::equal::{Host, TestResult, holds_in, same_in};
 use itch_book::{IndexedBook, ListBook, OrderBook};
@@ -7,15 +7,15 @@ use itch_market::{Market, Stop};
 use test_doubles::PieceReader;
 use test_doubles::days::{Blocks, REPLACED, blocks, replayed};
 
-// Where the four blocks of the day end.
+// The ends of the four blocks of the day.
 const ENDS: [usize; 4] = [41, 83, 121, 158];
 
-// How many blocks of the day end in its first `at` bytes.
+// Returns how many blocks of the day end in its first `at` bytes.
 fn whole_blocks(at: usize) -> u64 {
     ENDS.iter().filter(|end| **end <= at).count() as u64
 }
 
-// The read of the byte after the first `at` fails: the messages before are counted, and a second replay goes on.
+// Checks that, if the read of the byte after the first `at` fails, the messages before it are counted, and a second replay continues.
 fn goes_on<B: OrderBook>(
     rt: &impl Host,
     reader: &mut Blocks<'_>,
@@ -32,7 +32,7 @@ fn goes_on<B: OrderBook>(
     has_len(rt, market.book(), 2);
 }
 
-// The same of each byte of the day, and a market over this memory.
+// Checks this for each byte of the day, with a market in this memory.
 fn check_each<B: OrderBook>(rt: &impl Host, memory: B::Alloc) -> TestResult {
     let day = blocks(rt.alloc(), REPLACED)?;
     for at in 0..158usize {

@@ -1,10 +1,11 @@
-//! Tests of `itch_book` and `itch_market` over their public items alone.
+//! Tests of `itch_book` and `itch_market` through their public items only.
 //!
-//! They see what no clause says: calls that succeed with ample memory, failures of devices, and each allocation that is refused. Hostile use is in modules of
-//! its own: `refused_memory` has each allocation of a call refused in turn, and `failing_replays` each read failing in turn.
+//! They cover behaviour that no clause states: calls that succeed with ample memory, failures of devices, and each allocation refused in
+//! turn. Hostile use has its own modules: in `refused_memory` each allocation of a call is refused in turn, and in `failing_replays` each
+//! read fails in turn.
 //!
-//! The helpers take any book and most have no contract: what owns a market of a concrete book then has few exits, and the proof of a test does not carry
-//! what each call leaves.
+//! The helpers take any book and most have no contract: code that owns a market with a concrete book then has few exits, and the proof of a
+//! test does not have to know the effect of each call.
 #![tactic(auto)]
 
 #[cfg(test)]

@@ -1,4 +1,4 @@
-//! Markets by what their calls return. The helpers take a market over any book.
+//! Markets, by the results of their calls. The helpers take a market with any book.
 pub(super) mod content;
 mod locate_sets;
 mod plain;
@@ -19,7 +19,7 @@ fn apply<B: OrderBook>(market: &mut Market<B>, message: &Message<'_>) -> Result<
     market.apply(message)
 }
 
-// Applies messages. One that is refused ends the test, as one that cannot be made does.
+// Applies messages. A message that is refused, or cannot be built, ends the test.
 fn apply_all<B: OrderBook>(market: &mut Market<B>, messages: &[Made]) -> TestResult {
     for message in messages {
         apply(market, made(message)?)?;
@@ -27,19 +27,19 @@ fn apply_all<B: OrderBook>(market: &mut Market<B>, messages: &[Made]) -> TestRes
     Ok(())
 }
 
-// A market that took these messages.
+// Returns a market that has taken these messages.
 fn market_of<B: OrderBook>(alloc: B::Alloc, messages: &[Made]) -> Result<Market<B>, Fail> {
     let mut market = Market::new(alloc);
     apply_all(&mut market, messages)?;
     Ok(market)
 }
 
-// What is kept of the security at a locate.
+// Returns the data of the security at a locate.
 fn security<B: OrderBook>(market: &Market<B>, locate: u16) -> Option<&Security<B::Alloc>> {
     market.security(locate)
 }
 
-// The order of a locate and side that has priority over all others there.
+// Returns the order with the highest priority on this side at a locate.
 fn best<B: OrderBook>(market: &Market<B>, locate: u16, side: Side) -> Option<Order> {
     market.best(locate, side).copied()
 }
@@ -69,7 +69,7 @@ fn takes_the_largest_values(rt: HostRuntime) -> TestResult {
     check_largest::<ListBook>(&rt, rt.alloc())
 }
 
-// The orders have these references, in snapshot order.
+// Checks that the orders have these references, in snapshot order.
 fn check_references<B: OrderBook>(rt: &impl Host, market: &Market<B>, want: &[u64]) -> TestResult {
     same(rt, references(rt, market)?.as_slice(), want);
     Ok(())
@@ -88,7 +88,7 @@ fn check_levels<B: OrderBook>(rt: &impl Host, book: &B) {
     }
 }
 
-// Orders of two prices, in the order of their references.
+// Checks orders at two prices, which are added in the order of their references.
 fn check_priority<B: OrderBook>(rt: &impl Host, memory: B::Alloc) -> TestResult {
     let messages = [
         directory(1, "AAPL", 100),
@@ -108,7 +108,7 @@ fn keeps_price_and_time_priority(rt: HostRuntime) -> TestResult {
     check_priority::<ListBook>(&rt, rt.alloc())
 }
 
-// An attributed order is replaced by order 3, after order 2.
+// Checks that order 3 replaces an attributed order, and comes after order 2.
 fn check_replacement<B: OrderBook>(rt: &impl Host, memory: B::Alloc) -> TestResult {
     let messages = [
         directory(1, "AAPL", 100),
@@ -156,7 +156,7 @@ fn an_empty_market_has_no_phase(rt: HostRuntime) {
     check_empty::<ListBook>(&rt, rt.alloc());
 }
 
-// A market with the trading states of a security, and an order, whose directory message came twice.
+// Checks a market with the trading states of a security and an order, after two directory messages.
 fn check_states_and_orders<B: OrderBook>(rt: &impl Host, memory: B::Alloc) -> TestResult {
     let messages = [
         directory(2, "MSFT", 100),
@@ -176,7 +176,7 @@ fn check_states_and_orders<B: OrderBook>(rt: &impl Host, memory: B::Alloc) -> Te
     Ok(())
 }
 
-// A second directory message of a locate sets the entry alone.
+// A second directory message at a locate sets only the entry.
 #[test]
 fn keeps_states_and_orders(rt: HostRuntime) -> TestResult {
     check_states_and_orders::<ListBook>(&rt, rt.alloc())
@@ -199,7 +199,7 @@ fn check_positions<A: Allocator>(rt: &impl Host, security: &Security<A>) -> Test
     Ok(())
 }
 
-// A market of one security with halts and positions, whose directory message came twice.
+// Checks a market of one security with halts and positions, after two directory messages.
 fn check_halts_and_positions<B: OrderBook>(rt: &impl Host, memory: B::Alloc) -> TestResult {
     let messages = [
         directory(1, "AAPL", 100),
@@ -217,13 +217,13 @@ fn check_halts_and_positions<B: OrderBook>(rt: &impl Host, memory: B::Alloc) -> 
     check_positions(rt, security)
 }
 
-// An action that ends a halt stays, and a second directory message of a locate changes neither.
+// An action that ends a halt is kept, and a second directory message at a locate changes neither halts nor positions.
 #[test]
 fn keeps_halts_and_positions(rt: HostRuntime) -> TestResult {
     check_halts_and_positions::<ListBook>(&rt, rt.alloc())
 }
 
-// AAPL at locate 1 with a bid for 100 shares of reference 1, and MSFT at locate 2.
+// Returns a market with AAPL at locate 1, a bid for 100 shares with reference 1, and MSFT at locate 2.
 fn begun<B: OrderBook>(alloc: B::Alloc) -> Result<Market<B>, Fail> {
     let messages = [
         directory(1, "AAPL", 100),
@@ -233,7 +233,7 @@ fn begun<B: OrderBook>(alloc: B::Alloc) -> Result<Market<B>, Fail> {
     market_of(alloc, &messages)
 }
 
-// That market over any book refuses a message for this reason, and stays as it was.
+// Checks that this market refuses a message for this reason, and does not change.
 fn check_refusal<B: OrderBook>(
     rt: &impl Host,
     memory: B::Alloc,
@@ -258,7 +258,7 @@ fn check_refusals<B: OrderBook>(
     Ok(())
 }
 
-// The first check that fails gives the reason.
+// The first check that fails determines the reason.
 #[test]
 fn refuses_by_the_first_rule_of_securities(rt: HostRuntime) -> TestResult {
     let rows = [
@@ -299,7 +299,7 @@ fn want_of_memory_has_words(rt: HostRuntime) -> TestResult {
     Ok(())
 }
 
-// The market refuses a message for this reason.
+// Checks that the market refuses a message for this reason.
 fn refuses<B: OrderBook>(
     rt: &impl Host,
     market: &mut Market<B>,
@@ -310,7 +310,7 @@ fn refuses<B: OrderBook>(
     Ok(())
 }
 
-// An order keeps its price whatever it is executed at, and is gone with its last share.
+// Checks that an order keeps its price, at any execution price, and is gone with its last share.
 fn take_shares<B: OrderBook>(rt: &impl Host, market: &mut Market<B>) -> TestResult {
     apply_all(market, &[executed(1, 1, 0), cancel(1, 1, 40)])?;
     let most = Refusal::TooManyShares { remain: 60 };

@@ -44,7 +44,7 @@ pub(crate) fn columns(row: &str) -> Result<(&str, &str), Fail> {
 }
 
 // Command lines without the program's name, and their requests.
-const REQUESTS: [&str; 50] = [
+const REQUESTS: [&str; 51] = [
     "snap => One { file: None, command: Snap { limit: Limit { after: None, until: None }, selection: All } }",
     "snap day.itch => One { file: Some(\"day.itch\"), command: Snap { limit: Limit { after: None, until: None }, selection: All } }",
     "snap day.itch --after 0 => One { file: Some(\"day.itch\"), command: Snap { limit: Limit { after: Some(0), until: None }, selection: All } }",
@@ -77,6 +77,7 @@ const REQUESTS: [&str; 50] = [
     "compare - day.itch => Two { first: None, second: Some(\"day.itch\"), command: Compare { kind: Day(Limit { after: None, until: None }), form: Text } }",
     "join a.snap day.itch => Two { first: Some(\"a.snap\"), second: Some(\"day.itch\"), command: Join { part: FeedPart { before: 0, limit: Limit { after: None, until: None } }, selection: All } }",
     "join a.snap rest.itch --from 0003 --after 9 --until 7 => Two { first: Some(\"a.snap\"), second: Some(\"rest.itch\"), command: Join { part: FeedPart { before: 2, limit: Limit { after: Some(9), until: Some(7) } }, selection: All } }",
+    "join a.snap rest.itch --first-number 3 --after 9 --until 7 => Two { first: Some(\"a.snap\"), second: Some(\"rest.itch\"), command: Join { part: FeedPart { before: 2, limit: Limit { after: Some(9), until: Some(7) } }, selection: All } }",
     "at snapshots day.itch 007 => At { folder: \"snapshots\", feed: Some(\"day.itch\"), point: Limit { after: Some(7), until: None }, selection: All }",
     "at --stock AAPL . - 00:00:00.000000007 => At { folder: \".\", feed: None, point: Limit { after: None, until: Some(7) }, selection: Stocks(\"AAPL\") }",
     "join --only=40 a.snap - => Two { first: Some(\"a.snap\"), second: None, command: Join { part: FeedPart { before: 0, limit: Limit { after: None, until: None } }, selection: Locates(\"40\") } }",

@@ -1,5 +1,5 @@
-//! Broken input: packets and sessions, from each beginning of their bytes to each byte at each value. Each ends with the fault
-//! that the formats name, or with what its bytes spell.
+//! Broken input: packets and sessions, from each prefix of their bytes to each byte at each value. Each leads to the fault that the formats
+//! define, or to the result that its bytes encode.
 mod answers;
 mod logins;
 mod packets;

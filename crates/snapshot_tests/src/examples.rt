@@ -1,5 +1,5 @@
-//! The examples of the crates' pages and of the guide, run. Those that own a market are over any book, and call the helpers without
-//! contract of the other modules, so that their proofs do not carry what each call leaves.
+//! The examples of the crates' pages and of the guide. Those that own a market take any book, and call the helpers without contract of the
+//! other modules, so that their proofs do not have to know the effect of each call.
 mod best;
 
 use crate::equal::{Host, TestResult, same};
@@ -67,7 +67,7 @@ fn apply<B: OrderBook>(
     Ok(market.apply(&decode(payload)?))
 }
 
-// The shares of the best order to buy.
+// Returns the shares of the best order to buy.
 fn best_shares<B: OrderBook>(market: &Market<B>) -> Option<u32> {
     Some(market.best(1, Side::Buy)?.shares)
 }

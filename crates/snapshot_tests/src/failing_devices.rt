@@ -1,5 +1,5 @@
-//! Devices that fail: each read and each write failing in turn, in pieces that cut every block.
+//! Failing devices: each read and each write fails in turn, in pieces that cut every block.
 //!
-//! What was read before a failed read is kept, so that a call may go on; before a failed write exactly a beginning was written.
+//! Bytes read before a failed read are kept, so that a call may continue. Before a failed write exactly a prefix was written.
 mod sessions;
 mod snapshots;

@@ -1,4 +1,4 @@
-//! Day files, snapshots and markets that the tables use.
+//! The day files, snapshots and markets of the tables.
 use crate::equal::{Host, same};
 use itch_book::OrderBook;
 use itch_codec::Seq;
@@ -21,7 +21,7 @@ pub(crate) const ONE_ORDER_SNAPSHOT: &[&[u8]] = &[EVENT, AAPL, ADD_1, END_4];
 /// The snapshot of `REPLACED`.
 pub(crate) const REPLACED_SNAPSHOT: &[&[u8]] = &[AAPL, ADD_2, NAMED_3, END_5];
 
-/// What a day with these payloads leaves.
+/// Returns the market after a day with these payloads.
 pub(crate) fn market<B: OrderBook>(
     alloc: Global,
     memory: B::Alloc,
@@ -37,8 +37,8 @@ pub(crate) fn market<B: OrderBook>(
     Ok(market)
 }
 
-/// Replays what this reader gives. This helper and those below have no contract, so that a proof of a test need not carry what
-/// the call leaves.
+/// Replays the bytes of this reader. This helper and those below have no contract, so that a proof of a test does not have to know the effect
+/// of the call.
 pub(crate) fn replay_from<B: OrderBook>(
     alloc: Global,
     reader: PieceReader<'_>,
@@ -59,7 +59,7 @@ pub(crate) fn write<W: CountedWrite, B: OrderBook>(
     write_snapshot(market, next, writer)
 }
 
-/// What is read of a snapshot that this reader gives.
+/// Returns the result of reading a snapshot from this reader.
 pub(crate) fn read_from<B: OrderBook>(
     alloc: Global,
     memory: B::Alloc,
@@ -69,7 +69,7 @@ pub(crate) fn read_from<B: OrderBook>(
     Ok(read_snapshot(memory, &mut reader))
 }
 
-/// The market and the number of a snapshot.
+/// Returns the market and the number of a snapshot.
 pub(crate) fn read<B: OrderBook>(
     alloc: Global,
     memory: B::Alloc,
@@ -78,7 +78,7 @@ pub(crate) fn read<B: OrderBook>(
     Ok(read_from(alloc, memory, PieceReader::new(bytes, 5, None))??)
 }
 
-/// The market and the number of a snapshot whose end was read.
+/// Returns the market and the number of a snapshot whose end was read.
 pub(crate) fn finished<B: OrderBook>(
     rt: &impl Host,
     snapshot: SnapshotReader<B>,
@@ -89,7 +89,7 @@ pub(crate) fn finished<B: OrderBook>(
     }
 }
 
-/// Whether two small markets are the same.
+/// Returns whether two small markets are the same.
 pub(crate) fn are_same<A: OrderBook, B: OrderBook>(
     rt: &impl Host,
     one: &Market<A>,
@@ -103,7 +103,7 @@ pub(crate) fn seq(rt: &impl Host, number: u64) -> Seq {
     Seq::new(number).expect(rt, "a sequence number")
 }
 
-/// A reader has this block next.
+/// Checks that the next block of a reader is this one.
 pub(crate) fn gives<R: CountedRead, A: Allocator>(
     rt: &impl Host,
     reader: &mut BlockReader<R, A>,

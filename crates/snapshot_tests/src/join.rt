@@ -1,4 +1,4 @@
-//! Joins by what their calls return and the markets that they lead to. The helpers take a joiner over any book.
+//! Joins, by the results of their calls and the markets that they lead to. The helpers take a joiner with any book.
 use crate::equal::{Host, TestResult, same, same_in, same_words};
 use itch_book::{IndexedBook, ListBook, OrderBook};
 use itch_codec::{CodecFault, Message, encode};
@@ -15,8 +15,8 @@ mod sink;
 // The snapshot of the messages before the sixth, without its End of Snapshot.
 const BEFORE_6: &[&[u8]] = &[EVENT, AAPL, ADD_1, ADD_2, SELL_3];
 
-// A joiner for which `cap` messages may wait. This helper and those of one call and its result have no contract, so that a proof of
-// a test need not carry what each call leaves.
+// Returns a joiner for which `cap` messages may wait. This helper and those for one call and its result have no contract, so that a proof of
+// a test does not have to know the effect of each call.
 fn joiner<B: OrderBook>(memory: B::Alloc, cap: usize) -> Joiner<B> {
     Joiner::new(memory, cap)
 }
@@ -40,21 +40,21 @@ fn snapshot<B: OrderBook>(
     same(rt, joiner.snapshot(payload), want);
 }
 
-// The number that comes next, which there is once there is a market, and how many messages wait.
+// Checks the next number, which exists if there is a market, and how many messages wait.
 fn stands<B: OrderBook>(rt: &impl Host, joiner: &Joiner<B>, next: Option<u64>, waiting: usize) {
     same(rt, joiner.next(), next);
     same(rt, joiner.market().is_some(), next.is_some());
     same(rt, joiner.waiting(), waiting);
 }
 
-// Takes messages of a snapshot, which none of them ends.
+// Takes messages of a snapshot before its end.
 fn read<B: OrderBook>(rt: &impl Host, joiner: &mut Joiner<B>, payloads: &[&[u8]]) {
     for payload in payloads {
         snapshot(rt, joiner, payload, Ok(Snap::More));
     }
 }
 
-// The payloads of a market's snapshot, one after another.
+// Returns the payloads of a market's snapshot, one after another.
 fn spelled<B: OrderBook>(alloc: Global, market: &Market<B>) -> Result<Vec<u8>, AllocError> {
     let mut bytes = Vec::new(alloc);
     for message in SnapshotIter::new(market) {
@@ -67,7 +67,7 @@ fn push(bytes: &mut Vec<u8>, message: &Message<'_>) -> Result<(), AllocError> {
     bytes.extend_from_slice(encode(message).bytes())
 }
 
-// The snapshot of the joiner's market has these messages.
+// Checks that the snapshot of the joiner's market consists of these messages.
 fn check_market<B: OrderBook>(rt: &impl Host, joiner: &Joiner<B>, want: &[&[u8]]) -> TestResult {
     let market = joiner.market().ok_or("a market")?;
     let found = spelled(rt.alloc(), market)?;
@@ -79,19 +79,19 @@ fn check_market<B: OrderBook>(rt: &impl Host, joiner: &Joiner<B>, want: &[&[u8]]
     Ok(())
 }
 
-// A call of a joiner with its result, or what it holds by then.
+// A call of a joiner with its result, or the state expected at that point.
 #[derive(Clone, Copy)]
 enum Step<'a> {
     Live(u64, &'a [u8], Result<Live, JoinFault>),
     Snapshot(&'a [u8], Result<Snap, JoinFault>),
-    // Messages of a snapshot, none of which ends it.
+    // Messages of a snapshot before its end.
     Read(&'a [&'a [u8]]),
     Resume(Result<Option<u64>, JoinFault>),
     Restart,
-    // The number that comes next, if there is a market, and how many messages wait.
+    // The next number, if there is a market, and how many messages wait.
     Stands(Option<u64>, usize),
     Waiting(usize),
-    // The snapshot of the market has these messages.
+    // The snapshot of the market consists of these messages.
     Market(&'a [&'a [u8]]),
 }
 
@@ -120,7 +120,7 @@ fn take_steps<B: OrderBook>(
     Ok(())
 }
 
-// A joiner for which `cap` messages may wait takes these steps.
+// Takes a joiner for which `cap` messages may wait through these steps.
 fn check<B: OrderBook>(
     rt: &impl Host,
     memory: B::Alloc,
@@ -131,12 +131,12 @@ fn check<B: OrderBook>(
     take_steps(rt, &mut joiner, steps)
 }
 
-// The program's joiner takes these steps.
+// Takes the program's joiner through these steps.
 fn check_indexed(rt: &impl Host, cap: usize, steps: &[Step<'_>]) -> TestResult {
     check::<IndexedBook>(rt, rt.alloc(), cap, steps)
 }
 
-// Messages 7 and 8 come before the snapshot of the first five, and 9 when there is room for it.
+// Messages 7 and 8 arrive before the snapshot of the first five, and message 9 when there is room for it.
 const JOINS_LATE: &[Step<'static>] = &[
     Step::Live(8, DELETE_3, Ok(Live::Kept)),
     Step::Live(7, REPLACE_1_BY_4, Ok(Live::Kept)),
@@ -200,7 +200,7 @@ fn a_refused_message_halts_for_good(rt: HostRuntime) -> TestResult {
     check_indexed(&rt, 1, &steps)
 }
 
-// The message that is refused waits, and one before it is delivered.
+// The refused message waits, and is reached when the one before it is delivered.
 #[test]
 fn a_waiting_message_halts(rt: HostRuntime) -> TestResult {
     let halted = JoinFault::Halted {
@@ -247,7 +247,7 @@ fn a_broken_snapshot_is_restarted(rt: HostRuntime) -> TestResult {
     check_indexed(&rt, 1, &steps)
 }
 
-// A thousand messages wait for a joiner, the last one first.
+// Checks that a thousand messages wait for a joiner, delivered from the last to the first.
 fn check_thousand<B: OrderBook>(rt: &impl Host, memory: B::Alloc) {
     let mut joiner: Joiner<B> = joiner(memory, 1000);
     for back in 0..1000u64 {

@@ -1,4 +1,4 @@
-//! A served session that the tables use: its login, its answers, and both of its ends over memory.
+//! The served session of the tables: its login, its answers, and both of its ends in memory.
 use crate::equal::{Host, TestResult, same};
 use crate::files::{are_same, market, seq};
 use itch_book::{ListBook, OrderBook};
@@ -15,7 +15,7 @@ use test_doubles::days::Blocks;
 use test_doubles::payloads::*;
 use test_doubles::{FuseWriter, PieceReader};
 
-/// Logins for all messages and for those from the third on.
+/// Logins for all messages, and for those from the third on.
 pub(crate) const LOGIN_1: &[u8] = b"\0\x2fLuser  secret                                 1";
 
 pub(crate) const LOGIN_3: &[u8] = b"\0\x2fLuser  secret                                 3";
@@ -39,7 +39,7 @@ pub(crate) const REST_3: &[u8] =
     \0\x24A\0\x01\0\0\0\0\0\0\0\0\0\0\0\0\0\0\0\x02B\0\0\0\xc8AAPL    \0\x16\xe3\x60\
     \0\x15G                   5";
 
-/// What is served: four messages, and then End of Snapshot with number 5.
+/// The served messages: four, and then End of Snapshot with number 5.
 pub(crate) const SERVED: &[&[u8]] = &[EVENT, AAPL, ADD_1, ADD_2];
 
 pub(crate) fn alpha<const N: usize>(rt: &impl Host, text: &str) -> Alpha<N> {
@@ -62,13 +62,13 @@ pub(crate) fn credentials(rt: &impl Host) -> Credentials {
     }
 }
 
-/// The market that is served.
+/// Returns the served market.
 pub(crate) fn served_market(alloc: Global) -> Result<Market<ListBook>, Fail> {
     market(alloc, alloc, SERVED)
 }
 
-/// Serves one session of a market, with 5 in its End of Snapshot. This helper and those below have no contract, so that a proof of
-/// a test need not carry what the call leaves.
+/// Serves one session of a market, with 5 in its End of Snapshot. This helper and those below have no contract, so that a proof of a test
+/// does not have to know the effect of the call.
 pub(crate) fn serve<R: CountedRead, A: Allocator, W: CountedWrite, B: OrderBook>(
     rt: &impl Host,
     reader: &mut BlockReader<R, A>,
@@ -79,7 +79,7 @@ pub(crate) fn serve<R: CountedRead, A: Allocator, W: CountedWrite, B: OrderBook>
     serve_one(reader, writer, market, seq(rt, 5), &config(rt))
 }
 
-/// Serves one session of what this reader gives.
+/// Serves one session with the bytes of this reader.
 pub(crate) fn serve_from<B: OrderBook>(
     rt: &impl Host,
     reader: PieceReader<'_>,
@@ -90,7 +90,7 @@ pub(crate) fn serve_from<B: OrderBook>(
     Ok(serve(rt, &mut reader, writer, market))
 }
 
-/// Fetches over a reader and a writer, and logs in for all messages.
+/// Fetches through a reader and a writer, with a login for all messages.
 pub(crate) fn fetch<B: OrderBook>(
     rt: &impl Host,
     memory: B::Alloc,
@@ -100,10 +100,10 @@ pub(crate) fn fetch<B: OrderBook>(
     fetch_one(memory, reader, writer, &credentials(rt))
 }
 
-/// What a fetch gives.
+/// The result of a fetch.
 pub(crate) type Fetched<B> = Result<(Market<B>, Seq), SoupFault>;
 
-/// A fetch of what this reader gives, which logs in for all messages.
+/// Fetches from this reader, with a login for all messages.
 pub(crate) fn fetched<B: OrderBook>(
     rt: &impl Host,
     memory: B::Alloc,
@@ -116,7 +116,7 @@ pub(crate) fn fetched<B: OrderBook>(
     Ok(result)
 }
 
-/// The fault of a fetch, if it has one.
+/// Returns the fault of a fetch, if it has one.
 pub(crate) fn fetch_fault(
     rt: &impl Host,
     reader: PieceReader<'_>,
@@ -124,7 +124,7 @@ pub(crate) fn fetch_fault(
     Ok(fetched::<ListBook>(rt, rt.alloc(), reader)?.err())
 }
 
-/// Fetches the messages from the third on over a reader and a writer.
+/// Fetches the messages from the third on through a reader and a writer.
 pub(crate) fn fetch_third<M: Allocator>(
     rt: &impl Host,
     memory: M,
@@ -134,7 +134,7 @@ pub(crate) fn fetch_third<M: Allocator>(
     fetch_rest(memory, reader, writer, &credentials(rt), seq(rt, 3))
 }
 
-/// What this reader gives from the third message on, after a login for it.
+/// Fetches the messages from the third on from this reader, and checks the login.
 pub(crate) fn third_fetched<M: Allocator>(
     rt: &impl Host,
     memory: M,
@@ -147,7 +147,7 @@ pub(crate) fn third_fetched<M: Allocator>(
     Ok(result)
 }
 
-/// This market is the one that is served, and this the number of its End of Snapshot.
+/// Checks that this market is the served one, and the number of its End of Snapshot.
 pub(crate) fn is_served_market<B: OrderBook>(
     rt: &impl Host,
     market: &Market<B>,

@@ -1,4 +1,4 @@
-//! Worked days and snapshots: what is written of each, what is read, and how each is refused.
+//! Worked days and snapshots: how each is written, read and refused.
 use crate::equal::{Host, TestResult, same, same_words};
 use crate::files::{REPLACED_SNAPSHOT, are_same, finished, market, read_from, seq, write};
 use itch_book::{ListBook, OrderBook};
@@ -29,7 +29,7 @@ fn the_laws_of_snapshots() {
     laws::headline();
 }
 
-// The snapshot of a market, closed with the number `next` and written to an empty writer, has these payloads.
+// Checks that the snapshot of a market, closed with the number `next` and written to an empty writer, has these payloads.
 fn check_snapshot<B: OrderBook>(
     rt: &impl Host,
     market: &Market<B>,
@@ -45,7 +45,7 @@ fn check_snapshot<B: OrderBook>(
     Ok(())
 }
 
-// `remaining` counts down with each message of a market's snapshot, to none.
+// Checks that `remaining` counts down to zero with the messages of a market's snapshot.
 fn check_counts<B: OrderBook>(rt: &impl Host, market: &Market<B>, wants: &[u64]) {
     assert!(rt; snapshot_len(market) < 9);
     let mut messages = SnapshotIter::new(market);
@@ -57,7 +57,7 @@ fn check_counts<B: OrderBook>(rt: &impl Host, market: &Market<B>, wants: &[u64])
     assert!(rt; messages.next().is_none());
 }
 
-// Those of what a day leaves.
+// Checks this for the market after a day.
 fn counts_down<B: OrderBook>(
     rt: &impl Host,
     memory: B::Alloc,
@@ -75,7 +75,7 @@ fn counts_what_is_still_to_come(rt: HostRuntime) -> TestResult {
     counts_down::<ListBook>(&rt, rt.alloc(), REPLACED, &[3, 2, 1])
 }
 
-// The snapshots of what two days leave part there.
+// Checks the place at which the snapshots after two days begin to differ.
 fn check_days<B: OrderBook>(
     rt: &impl Host,
     memory: B::Alloc,
@@ -116,7 +116,7 @@ fn says_where_snapshots_part(rt: HostRuntime) -> TestResult {
     Ok(())
 }
 
-// What is read from these bytes: the number of messages of the market's snapshot and the number in End of Snapshot, or a fault.
+// Returns the result of reading these bytes: the number of messages in the market's snapshot and the number in End of Snapshot, or a fault.
 fn outcome<B: OrderBook>(
     alloc: Global,
     memory: B::Alloc,
@@ -128,7 +128,7 @@ fn outcome<B: OrderBook>(
     }
 }
 
-// The bytes of these payloads' blocks and of what stands after them.
+// Returns the blocks of these payloads, followed by the bytes in `rest`.
 fn file_of(alloc: Global, payloads: &[&[u8]], rest: &[u8]) -> Result<Vec<u8>, Fail> {
     let front = blocks(alloc, payloads)?;
     let mut file = Vec::from_slice(alloc, front.written())?;
@@ -136,7 +136,7 @@ fn file_of(alloc: Global, payloads: &[&[u8]], rest: &[u8]) -> Result<Vec<u8>, Fa
     Ok(file)
 }
 
-// This is read, or a fault that is shown so.
+// Checks that this was read, or that a fault has this debug output.
 fn check_outcome(
     rt: &impl Host,
     found: Result<(u128, u64), SnapFault>,
@@ -177,14 +177,14 @@ fn reads_snapshots(rt: HostRuntime) -> TestResult {
     Ok(())
 }
 
-// Reads payloads of a snapshot, of which none ends it.
+// Reads payloads of a snapshot before its end.
 fn check_more<B: OrderBook>(rt: &impl Host, snapshot: &mut SnapshotReader<B>, payloads: &[&[u8]]) {
     for payload in payloads {
         assert!(rt; matches!(snapshot.message(payload), Ok(None)));
     }
 }
 
-// A snapshot whose end was not read is handed back.
+// Checks that a snapshot whose end was not read is returned.
 fn unfinished<B: OrderBook>(rt: &impl Host, snapshot: SnapshotReader<B>) -> SnapshotReader<B> {
     match snapshot.finish() {
         Ok(_) => panic!(rt; "handed out before its end"),
@@ -192,7 +192,7 @@ fn unfinished<B: OrderBook>(rt: &impl Host, snapshot: SnapshotReader<B>) -> Snap
     }
 }
 
-// A market that is the same as another is handed out after its End of Snapshot, and not before.
+// Checks that the market is returned after its End of Snapshot and not before, and that it is the expected one.
 fn check_finish<B: OrderBook>(rt: &impl Host, memory: B::Alloc) -> TestResult {
     let want: Market<B> = market(rt.alloc(), memory, REPLACED)?;
     let mut snapshot: SnapshotReader<B> = SnapshotReader::new(memory);

@@ -17,7 +17,7 @@ const LOGIN: &[u8; 47] = b"Luser  secret                                 3";
 
 const ACCEPTED: &[u8; 31] = b"A  ITCHSNAP                   3";
 
-// A login of the user whom the servers below let in.
+// Returns a login of the user that the servers below accept.
 fn login(rt: &impl Host, session: &str, number: u64) -> LoginRequest {
     LoginRequest {
         username: alpha(rt, "user"),
@@ -34,17 +34,17 @@ fn accepted<'a>(rt: &impl Host, next: u64) -> Packet<'a> {
     })
 }
 
-// A server of five messages that begins at 0.
+// Returns a server of five messages that begins at time 0.
 fn server(rt: &impl Host) -> ServerSession {
     ServerSession::new(config(rt), 5, 0)
 }
 
-// A client that begins at 0, and asks for the messages from 3 on.
+// Returns a client that begins at time 0, and asks for the messages from 3 on.
 fn client(rt: &impl Host) -> ClientSession {
     ClientSession::new(credentials(rt), 3, 0)
 }
 
-// A server answers these packets so.
+// Checks the answers of a server to these packets.
 fn server_answers(rt: &impl Host, rows: &[(Packet<'_>, ServerAct)]) -> TestResult {
     let mut session = server(rt);
     for (packet, act) in rows {
@@ -53,7 +53,7 @@ fn server_answers(rt: &impl Host, rows: &[(Packet<'_>, ServerAct)]) -> TestResul
     Ok(())
 }
 
-// A client answers these packets so.
+// Checks the answers of a client to these packets.
 fn client_answers(rt: &impl Host, rows: &[(Packet<'_>, ClientAct<'_>)]) -> TestResult {
     let mut session = client(rt);
     for (packet, act) in rows {

@@ -1,4 +1,4 @@
--- `admits` at a call: what it is handed, and what a caller has of it. Assumes `Logic`.
+-- `admits` at a call: its argument, and the result for the caller. Assumes `Logic`.
 use Rattle.std.proofs.Common.{◌≡◌, ℕ, List, [], ◌∷◌, Bool, refl, ap}
 use seplogic.Ra.Ura.{Ura}
 use mir.Val.{Val, vbool, vptr}

@@ -1,4 +1,4 @@
--- One allocation is refused, and no other.
+-- Exactly one allocation is refused.
 use Rattle.std.proofs.Common.{◌≡◌, ◌≢◌, ℕ, zero, suc, true, false, Some, None, refl, ap}
 use Rattle.std.specs.Fn.{iterate}
 use Rattle.test_doubles.specs.Countdown.{goes_through, after_one}

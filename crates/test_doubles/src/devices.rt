@@ -1,4 +1,4 @@
-//! A reader and a writer over memory, each of which fails once, at the call that a test names.
+//! A reader and a writer in memory, each of which fails once, at a given call.
 ghost use Rattle.std.specs.Prelude.{◌≡◌, ◌≢◌, ◌+◌, ◌-◌, ◌^◌, ◌≤◌, ◌⊎◌, min, [], length, Option, Some, MatchResult};
 ghost use Rattle.std.specs.IoError.{error_kind};
 ghost use Rattle.std.specs.declared.io.ErrorKind.TheVariants.{Other, OutOfMemory};
@@ -11,7 +11,7 @@ use itch_frame::{CountedRead, CountedWrite};
 use std::alloc::{Allocator, Global};
 use std::io::{self, Read};
 
-/// Gives at most `piece` bytes at each read. Read number `fail_at`, counted from 1, fails and consumes nothing.
+/// Returns at most `piece` bytes per read. Read number `fail_at`, counted from 1, fails and consumes nothing.
 #[derive(Drop)]
 pub struct PieceReader<'a> {
     bytes: &'a [u8],
@@ -23,7 +23,7 @@ pub struct PieceReader<'a> {
 }
 
 impl<'a> PieceReader<'a> {
-    /// A reader of these bytes. `piece` is at least 1.
+    /// Creates a reader of these bytes. `piece` must be at least 1.
     pub fn new(bytes: &'a [u8], piece: usize, fail_at: Option<u64>) -> PieceReader<'a>
         requires { 1 ≤ piece }
         ensures bytes { result.bytes.now ≡ bytes.entry.now }
@@ -49,7 +49,7 @@ impl CountedRead for PieceReader<'_> {
         ensures bound { ReadsAtMost result buf.new }
         ensures bytes { ReadConsumes (Some self.old.bytes.now) (Some self.new.bytes.now) result buf.new }
         ensures count { CountsErr result self.old.failures self.new.failures }
-        // The read that is to fail fails, and no other. The others give as much as the piece, the buffer and the rest allow.
+        // Only the given read fails. The others return as many bytes as the piece, the buffer and the rest allow.
         ensures answer { MatchResult result
             (λ count. (self.old.fail_at ≢ Some self.new.reads) × (count ≡ min (min self.old.piece (length buf.new)) (length self.old.bytes.now)))
             (λ error. (self.old.fail_at ≡ Some self.new.reads) × (error_kind error ≡ Other)) }
@@ -68,7 +68,7 @@ impl CountedRead for PieceReader<'_> {
     }
 }
 
-/// The same for code that takes a standard reader, such as a buffer.
+/// The same for code that expects a standard reader, such as a buffer.
 impl Read for PieceReader<'_> {
     ghost remaining = { λ r. Some r.bytes.now };
 
@@ -85,8 +85,8 @@ impl Read for PieceReader<'_> {
     }
 }
 
-/// Takes at most `piece` bytes at each write. Write number `fail_at`, counted from 1, fails and takes nothing, and so does
-/// one that runs out of memory.
+/// Accepts at most `piece` bytes per write. Write number `fail_at`, counted from 1, fails and accepts nothing, and so does a write that runs
+/// out of memory.
 #[derive(Drop)]
 pub struct FuseWriter<A: Allocator = Global> {
     written: Vec<u8, A>,
@@ -98,7 +98,7 @@ pub struct FuseWriter<A: Allocator = Global> {
 }
 
 impl<A: Allocator> FuseWriter<A> {
-    /// A writer to which nothing was written yet. `piece` is at least 1.
+    /// Creates an empty writer. `piece` must be at least 1.
     pub fn new(alloc: A, piece: usize, fail_at: Option<u64>) -> FuseWriter<A>
         requires { 1 ≤ piece }
         ensures written { result.written.items ≡ [] }
@@ -114,7 +114,7 @@ impl<A: Allocator> FuseWriter<A> {
         }
     }
 
-    /// The bytes that were written so far.
+    /// Returns the bytes written so far.
     pub fn written(&self) -> &[u8]
         ensures { result.now ≡ self.now.written.items }
     {
@@ -131,7 +131,7 @@ impl<A: Allocator> CountedWrite for FuseWriter<A> {
         ensures bound { WritesAtMost result buf.now }
         ensures bytes { Takes (Some self.old.written.items) (Some self.new.written.items) result buf.now }
         ensures count { CountsErr result self.old.failures self.new.failures }
-        // The write that is to fail fails, and no other unless memory runs out. The others take as much as the piece and the buffer allow.
+        // Only the given write fails, unless memory runs out. The others accept as many bytes as the piece and the buffer allow.
         ensures answer { MatchResult result
             (λ count. (self.old.fail_at ≢ Some self.new.writes) × (count ≡ min self.old.piece (length buf.now)))
             (λ error. (self.new.written.items ≡ self.old.written.items)

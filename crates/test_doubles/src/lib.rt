@@ -1,4 +1,4 @@
-//! Test doubles: a reader and a writer over memory, each of which fails once, and an allocator that refuses one allocation.
+//! Test doubles: a reader and a writer in memory, each of which fails once, and an allocator that refuses one allocation.
 //!
 //! A `&Refusing<B>` is an allocator too:
 //!
@@ -9,8 +9,8 @@
 //! assert!(list.push(1).is_ok());
 //! ```
 //!
-//! `payloads` and `messages` have the messages of the tests' tables, as bytes and as values, and `days` what is made of those. A library may not end the
-//! process, so what compares is in the crates of tests.
+//! `payloads` and `messages` contain the messages of the tests' tables, as bytes and as values, and `days` is built from them. A library may
+//! not end the process, so the comparisons are in the test crates.
 #![tactic(auto)]
 
 pub mod days;

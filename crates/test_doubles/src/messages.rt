@@ -1,4 +1,4 @@
-//! Messages of one line each, with tracking number and timestamp 0, or `None` where a field does not fit.
+//! Functions that build a message in one line, with tracking number and timestamp 0. They return `None` if a field does not fit.
 use itch_codec::{
     AddOrder, Alpha, AttributedAddOrder, BrokenTrade, CrossTrade, Directory, Header, Message,
     OperationalHalt, OrderCancel, OrderDelete, OrderExecuted, OrderExecutedWithPrice, OrderReplace,
@@ -9,7 +9,7 @@ use itch_codec::{
 /// A message, unless a field does not fit.
 pub type Made = Option<Message<'static>>;
 
-/// A message that was made, or else an error.
+/// Returns the message, or an error if a field does not fit.
 pub fn made(message: &Made) -> Result<&Message<'static>, &'static str> {
     message.as_ref().ok_or("a message that can be made")
 }
@@ -115,7 +115,7 @@ pub fn add(locate: u16, reference: u64, side: Side, shares: u32, text: &str, pri
     Some(Message::AddOrder(add_order(locate, reference, side, shares, text, price)?))
 }
 
-/// An order of AAPL at locate 1 to buy, attributed to ABCD.
+/// Returns an order attributed to ABCD, to buy AAPL at locate 1.
 pub fn attributed(reference: u64, shares: u32, price: u32) -> Made {
     Some(Message::AttributedAddOrder(AttributedAddOrder {
         order: add_order(1, reference, Side::Buy, shares, "AAPL", price)?,
@@ -169,7 +169,7 @@ pub fn replace(locate: u16, original: u64, reference: u64, shares: u32, price: u
     }))
 }
 
-/// Order 1 of AAPL at locate 1, to buy 100 at 150.0000, is executed unseen.
+/// Returns the execution of a hidden order: order 1, to buy 100 of AAPL at locate 1 at 150.0000.
 pub fn trade() -> Made {
     Some(Message::Trade(Trade {
         header: header(1)?,
@@ -182,7 +182,7 @@ pub fn trade() -> Made {
     }))
 }
 
-/// A cross of 200 of AAPL at locate 1 at 150.0000.
+/// Returns a cross of 200 of AAPL at locate 1 at 150.0000.
 pub fn cross_trade() -> Made {
     Some(Message::CrossTrade(CrossTrade {
         header: header(1)?,

@@ -1,4 +1,5 @@
-//! The messages that the tables of days, snapshots and joins use, as bytes. Fields that a name does not give are 0, or as in the others.
+//! The messages in the tables of days, snapshots and joins, as bytes. Fields that the name does not mention are 0, or as in the other
+//! messages.
 
 /// System Event: start of messages; end of messages.
 pub const EVENT: &[u8] = b"S\0\0\0\0\0\0\0\0\0\0O";
@@ -16,7 +17,7 @@ pub const MSFT: &[u8] = b"R\0\x02\0\0\0\0\0\0\0\0MSFT    QN\0\0\0dNCZ PNN1N\0\0\
 pub const MSFT_AT_1: &[u8] = b"R\0\x01\0\0\0\0\0\0\0\0MSFT    QN\0\0\0dNCZ PNN1N\0\0\0\0N";
 
 pub const MAX: &[u8] = b"R\xff\xff\0\0\0\0\0\0\0\0MAX     QN\0\0\0dNCZ PNN1N\0\0\0\0N";
-/// AAPL trades, also with other reserved bytes; Reg SHO 0 for it.
+/// AAPL is trading, also with other reserved bytes; Reg SHO 0 for it.
 pub const TRADES: &[u8] = b"H\0\x01\0\0\0\0\0\0\0\0AAPL    T     ";
 
 pub const TRADES_0: &[u8] = b"H\0\x01\0\0\0\0\0\0\0\0AAPL    T\0    ";
@@ -24,7 +25,7 @@ pub const TRADES_0: &[u8] = b"H\0\x01\0\0\0\0\0\0\0\0AAPL    T\0    ";
 pub const TRADES_X: &[u8] = b"H\0\x01\0\0\0\0\0\0\0\0AAPL    TX    ";
 
 pub const RESTRICTS: &[u8] = b"Y\0\x01\0\0\0\0\0\0\0\0AAPL    0";
-/// Orders to buy AAPL at 150.0000, or higher at 150.0100: 100 times their number, or as the name says.
+/// Orders to buy AAPL at 150.0000, or for `HIGHER` at 150.0100, of 100 times their number, or as the name says.
 pub const ADD_1: &[u8] = b"A\0\x01\0\0\0\0\0\0\0\0\0\0\0\0\0\0\0\x01B\0\0\0dAAPL    \0\x16\xe3`";
 
 pub const ADD_0: &[u8] = b"A\0\x01\0\0\0\0\0\0\0\0\0\0\0\0\0\0\0\x01B\0\0\0\0AAPL    \0\x16\xe3`";
@@ -52,7 +53,7 @@ pub const ADD_7: &[u8] =
 
 pub const ADD_7_OF_150: &[u8] =
     b"A\0\x01\0\0\0\0\0\0\0\0\0\0\0\0\0\0\0\x07B\0\0\0\x96AAPL    \0\x16\xe3`";
-/// Orders at locates that are not in the directory, of MSFT, and of another side.
+/// Orders at locates that are not in the directory, of MSFT, and on the other side.
 pub const ADD_1_AT_9: &[u8] =
     b"A\0\x09\0\0\0\0\0\0\0\0\0\0\0\0\0\0\0\x01B\0\0\0\x01AAPL    \0\x16\xe3`";
 
@@ -67,7 +68,7 @@ pub const SELL_3: &[u8] =
 
 pub const SELL_MAX: &[u8] =
     b"A\xff\xff\0\0\0\0\0\0\0\0\xff\xff\xff\xff\xff\xff\xff\xffS\xff\xff\xff\xffMAX     \xff\xff\xff\xff";
-/// Orders attributed to ABCD. A snapshot has order 3 in place of order 1 so, since it keeps the attribution.
+/// Orders attributed to ABCD. If order 3 replaces order 1, a snapshot contains `NAMED_3`, because the attribution is kept.
 pub const NAMED_1: &[u8] =
     b"F\0\x01\0\0\0\0\0\0\0\0\0\0\0\0\0\0\0\x01B\0\0\0dAAPL    \0\x16\xe3`ABCD";
 
@@ -76,7 +77,7 @@ pub const NAMED_3: &[u8] =
 
 pub const NAMED_5: &[u8] =
     b"F\0\x01\0\0\0\0\0\0\0\0\0\0\0\0\0\0\0\x05S\0\0\0\x0aAAPL    \0\x16\xe4(ABCD";
-/// Order 1 replaced: by order 3 of 100 shares, by order 4 of 70, by itself, and by one of no shares.
+/// Replacements of order 1: by order 3 of 100 shares, by order 4 of 70, by itself, and by an order of no shares.
 pub const REPLACE_1: &[u8] =
     b"U\0\x01\0\0\0\0\0\0\0\0\0\0\0\0\0\0\0\x01\0\0\0\0\0\0\0\x03\0\0\0d\0\x16\xe3`";
 

@@ -7,17 +7,17 @@ ghost use Rattle.test_doubles.specs.Countdown.{goes_through, after_one};
 use std::alloc::{AllocError, Allocator};
 use std::cell::Cell;
 
-/// Passes each call on to another allocator, and refuses one allocation.
+/// Passes each call on to another allocator, except for one allocation, which it refuses.
 ///
-/// A `&Refusing<B>` is an allocator too, and `Copy`: a test keeps the allocator and lends it to what it tests.
+/// A `&Refusing<B>` is an allocator too, and `Copy`: a test keeps the allocator, and lends it to the code under test.
 pub struct Refusing<B: Allocator> {
     inner: B,
-    // How many allocations go through before the one that is refused, while it is not refused.
+    // The number of allocations before the one that is refused, or `None` after the refusal.
     before: Cell<Option<u64>>,
 }
 
 impl<B: Allocator> Refusing<B> {
-    /// Lets `nth` allocations through, refuses the next one, and lets all later ones through.
+    /// Creates one that lets `nth` allocations through, refuses the next one, and lets all later ones through.
     pub fn new(inner: B, nth: u64) -> Refusing<B> {
         Refusing {
             inner,
@@ -25,12 +25,12 @@ impl<B: Allocator> Refusing<B> {
         }
     }
 
-    /// Starts again: from here on `nth` allocations go through, and the next one is refused.
+    /// Starts again: `nth` more allocations go through, and the next one is refused.
     pub fn arm(&self, nth: u64) {
         self.before.set(Some(nth));
     }
 
-    /// Whether the allocation was refused. After `arm(0)`: whether there was any allocation.
+    /// Returns whether the allocation was refused. After `arm(0)`: whether there was any allocation.
     pub fn has_refused(&self) -> bool {
         self.before.get().is_none()
     }
@@ -45,30 +45,30 @@ impl<B: Allocator> Drop for Refusing<B> {
     }
 }
 
-/// Of allocations counted from 0, the `nth` is refused and every other one goes through.
+/// Of allocations counted from 0, only the `nth` is refused.
 ///
-/// This function does nothing: its clauses are the law.
+/// This function does nothing; its clauses are the law.
 #[tactic(auto, using(crate::proofs::OneRefusal::refused_there, crate::proofs::OneRefusal::granted_elsewhere))]
 pub fn one_refusal()
     ensures refused { (nth : ℕ) → goes_through (iterate after_one nth (Some nth)) ≡ false }
     ensures others { (nth place : ℕ) → place ≢ nth → goes_through (iterate after_one place (Some nth)) ≡ true }
 {}
 
-// Whether the next allocation goes through, by how many do before the one that is refused.
+// Returns whether the next allocation goes through, from the number of allocations before the refusal.
 fn goes_through(before: Option<u64>) -> bool
     ensures { result ≡ goes_through before }
 {
     before != Some(0)
 }
 
-// How many go through before the refusal after one more allocation, or none where nothing is refused any more.
+// Returns the number before the refusal after one more allocation, or `None` if there is no refusal to come.
 fn after_one(before: Option<u64>) -> Option<u64>
     ensures { result ≡ after_one before }
 {
     before?.checked_sub(1)
 }
 
-// Whether an allocation goes through, which is counted.
+// Counts an allocation, and returns whether it goes through.
 fn admits(before: &Cell<Option<u64>>) -> bool {
     let now = before.get();
     before.set(after_one(now));
@@ -95,7 +95,7 @@ mod tests {
     use super::*;
     use std::test::Fail;
 
-    // Which of eight allocations are refused.
+    // Returns which of eight allocations are refused.
     fn refusals<A: Allocator>(alloc: A) -> [bool; 8] {
         let mut refused = [false; 8];
         for at in 0..8 {
@@ -105,7 +105,7 @@ mod tests {
         refused
     }
 
-    // The allocation at a place of eight alone is refused, or none where the place is beyond them.
+    // Returns whether only the allocation at this place is refused, or none of the eight if the place is beyond them.
     fn is_at(refused: [bool; 8], nth: u64) -> bool {
         let mut place = 0u64;
         for one in refused {
@@ -128,13 +128,13 @@ mod tests {
             assert!(rt; is_at(refusals(&alloc), nth));
             assert!(rt; alloc.has_refused() == (nth < 8));
         }
-        // Eight of the eleven before the last refusal have gone through.
+        // Eight of the eleven allocations before the last refusal have gone through.
         assert!(rt; is_at(refusals(&alloc), 3));
         assert!(rt; is_at(refusals(alloc), 8));
         Ok(())
     }
 
-    // A refusal below is passed on and not counted; what is refused is not asked for below.
+    // A refusal by the inner allocator is passed on and not counted; a refused allocation does not reach the inner allocator.
     #[test]
     fn passes_a_refusal_on(rt: HostRuntime) -> Result<(), Fail> {
         let inner = Refusing::new(rt.alloc(), 1);

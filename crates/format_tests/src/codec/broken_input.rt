@@ -1,9 +1,9 @@
-//! Each byte of each vector at each value.
+//! Each byte of each vector, set to each value.
 use super::vectors::VECTORS;
 use crate::equal::{Host, holds_in, same};
 use itch_codec::{CodecFault, Message, decode, encode};
 
-// Whether the fault is about this byte at this place.
+// Returns whether the fault concerns this byte at this offset.
 fn is_fault_at(fault: CodecFault, at: usize, byte: u8) -> bool {
     match fault {
         CodecFault::BadText { offset } => offset == at && !(0x20..=0x7e).contains(&byte),
@@ -37,8 +37,8 @@ fn faults_of_bytes(rt: &impl Host, vector: &[u8]) -> u32 {
     faults
 }
 
-// 161 values are not printable, and 254 are no side. End of Snapshot takes a space before its last two bytes,
-// a space or a digit in front of its last byte, and a digit from 1 on as its last.
+// 161 values are not printable, and 254 are not a side. End of Snapshot accepts a space before its last two bytes, a space or a digit before
+// its last byte, and a digit from 1 to 9 as its last byte.
 #[test]
 fn each_byte_at_each_value(rt: HostRuntime) {
     let rows = [
@@ -67,7 +67,7 @@ fn each_byte_at_each_value(rt: HostRuntime) {
     }
 }
 
-// A payload of another type is a message of that type, or has a fault.
+// A payload of each other type is a message of that type, or has a fault.
 #[test]
 fn each_type(rt: HostRuntime) {
     for byte in 0..=255u8 {

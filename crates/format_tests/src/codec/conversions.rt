@@ -1,4 +1,4 @@
-//! Conversions from and to plain values, and what `{}` writes.
+//! Conversions from and to plain values, and the output of `{}`.
 use crate::equal::{Host, TestResult, same, same_words};
 use itch_codec::{Alpha, AlphaFault, OutOfRange, Seq, Side, Stamp, UnknownSide};
 

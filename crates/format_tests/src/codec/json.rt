@@ -1,9 +1,9 @@
-//! Lines of JSON and lines with names, written out by hand.
+//! JSON objects and lines with names, written out by hand.
 use super::vectors::*;
 use crate::equal::{Host, TestResult, holds_in, same};
 use itch_codec::{decode, json, show_named};
 
-// The message that these bytes spell is shown so, with this number, as a line of JSON.
+// Checks the JSON object of the message in these bytes, with this number.
 fn has_object(rt: &impl Host, number: u64, payload: &[u8], want: &str) {
     match decode(payload) {
         Ok(message) => same(rt, json(number, &message).as_str(), want),
@@ -11,7 +11,7 @@ fn has_object(rt: &impl Host, number: u64, payload: &[u8], want: &str) {
     }
 }
 
-// The same as a line with names.
+// Checks its line with names in the same way.
 fn has_names(rt: &impl Host, number: u64, payload: &[u8], want: &str) {
     match decode(payload) {
         Ok(message) => same(rt, show_named(number, &message).as_str(), want),
@@ -69,7 +69,7 @@ fn greatest_values_and_quotation_marks(rt: HostRuntime) {
     }
 }
 
-// A System Event with this code, at this time in nanoseconds.
+// Returns a System Event with this code, at this time in nanoseconds.
 fn event(time: [u8; 6], code: u8) -> [u8; 12] {
     let mut payload = *b"S\x00\x00\x00\x00\x00\x00\x00\x00\x00\x00O";
     payload[5..11].copy_from_slice(&time);
@@ -77,7 +77,7 @@ fn event(time: [u8; 6], code: u8) -> [u8; 12] {
     payload
 }
 
-// An event with this time and code is shown so, with the number 7.
+// Checks the JSON object and the line with names of an event, with the number 7.
 fn is_shown(rt: &impl Host, event: &[u8], object: &str, words: &str) -> TestResult {
     let start = "{\"number\":7,\"type\":\"S\",\"stock_locate\":0,\"tracking_number\":0,\"time\":";
     let object = format!(in rt.alloc(); "{start}{object}\"}}\n")?;
@@ -144,7 +144,7 @@ fn times(rt: HostRuntime) -> TestResult {
     Ok(())
 }
 
-// The message that these bytes spell has the type that is its first byte, these nanoseconds if it has a header, and this reference.
+// Checks that the message in these bytes has its first byte as its type, this time in nanoseconds if it has a header, and this reference.
 fn has(rt: &impl Host, payload: &[u8], time: Option<u64>, reference: Option<u64>) {
     match decode(payload) {
         Ok(message) => {

@@ -1,4 +1,4 @@
-//! Lines that show messages, written out by hand.
+//! Lines of messages, written out by hand.
 use crate::equal::{Host, TestResult, same};
 use itch_codec::{Message, Side, decode, line, show};
 use std::alloc::{AllocError, Allocator, Global};
@@ -45,7 +45,7 @@ const LEAST: [&str; 16] = [
     "0 B 0 0 0 0\n",
 ];
 
-// The same with the greatest number, and each byte the greatest that it may be.
+// The same with the greatest number, and each byte at its greatest value.
 const GREATEST: [&str; 16] = [
     "18446744073709551615 S 65535 65535 281474976710655 ff\n",
     "18446744073709551615 R 65535 65535 281474976710655 [~~~~~~~~] ff ff 4294967295 ff ff ffff ff ff ff ff ff 4294967295 ff\n",
@@ -65,7 +65,7 @@ const GREATEST: [&str; 16] = [
     "18446744073709551615 B 65535 65535 281474976710655 18446744073709551615\n",
 ];
 
-// A payload of this layout.
+// Returns a payload of this layout.
 fn filled(
     alloc: Global,
     layout: &str,
@@ -85,13 +85,13 @@ fn filled(
     Ok(payload)
 }
 
-// A message is shown so, as a string in this memory.
+// Checks the line of a message, as a string in this memory.
 fn has_line(rt: &impl Host, alloc: impl Allocator, number: u64, message: &Message<'_>, want: &str) {
     let text = line(alloc, number, message).expect(rt, "memory");
     same(rt, text.as_str(), want);
 }
 
-// A message is shown so, as a line in place and as a string.
+// Checks the line of a message, both in a fixed buffer and as a string.
 fn shown(rt: &impl Host, number: u64, message: &Message<'_>, want: &str) {
     same(rt, show(number, message).as_str(), want);
     has_line(rt, rt.alloc(), number, message, want);
@@ -142,7 +142,7 @@ fn prices_and_texts(rt: HostRuntime) -> TestResult {
     Ok(())
 }
 
-// Whether there is memory for the line of a message.
+// Returns whether there is memory for the line of a message.
 fn can_be_shown(alloc: impl Allocator, number: u64, message: &Message<'_>) -> bool {
     line(alloc, number, message).is_ok()
 }

@@ -1,4 +1,4 @@
-//! The public standard's layouts, a message of each type and the greatest order, written out by hand: as bytes, as lines of JSON and as
+//! The public standard's layouts, with a message of each type and the greatest order, written out by hand: as bytes, as JSON objects and as
 //! lines with names. The rows of each table are in the same order, and each shows its type.
 pub(super) const VECTORS: [&[u8]; 19] = [
     b"S\x00\x00\x00\x00\x00\x00\x00\x00\x00\x00O",
@@ -22,7 +22,7 @@ pub(super) const VECTORS: [&[u8]; 19] = [
     b"N\x00\x01\x00\x00\x00\x00\x00\x00\x00\x00AAPL    \x00",
 ];
 
-/// With the message number 1.
+/// The objects of the vectors, with the message number 1.
 pub(super) const OBJECTS: [&str; 19] = [
     "{\"number\":1,\"type\":\"S\",\"stock_locate\":0,\"tracking_number\":0,\"time\":\"00:00:00.000000000\",\"ns\":0,\"event_code\":\"O\"}\n",
     "{\"number\":1,\"type\":\"R\",\"stock_locate\":1,\"tracking_number\":0,\"time\":\"00:00:00.000000000\",\"ns\":0,\"stock\":\"AAPL\",\"market_category\":\"Q\",\"financial_status_indicator\":\"N\",\"round_lot_size\":100,\"round_lots_only\":\"N\",\"issue_classification\":\"C\",\"issue_sub_type\":\"Z \",\"authenticity\":\"P\",\"short_sale_threshold_indicator\":\"N\",\"ipo_flag\":\"N\",\"luld_reference_price_tier\":\"1\",\"etp_flag\":\"N\",\"etp_leverage_factor\":0,\"inverse_indicator\":\"N\"}\n",

@@ -1,4 +1,4 @@
-//! Blocks that lie at hand in a buffer.
+//! Blocks that are in a buffer already.
 use super::{STREAM, copies_through};
 use crate::equal::{Host, TestResult, same};
 use itch_frame::{BlockReader, Buffered, Consumer, Counted, CountedRead, split_first_block};
@@ -7,7 +7,7 @@ use std::io::BufReader;
 use std::test::Fail;
 use test_doubles::PieceReader;
 
-// Takes this block of those at hand, or none.
+// Takes a block from the buffer, and checks that it is this one, or that there is none.
 fn takes<R: CountedRead>(rt: &impl Host, reader: &mut R, room: usize, want: Option<&[u8]>) {
     let mut buf = [0; 8];
     let size = reader.take_block(&mut buf[..room.min(8)]);
@@ -18,7 +18,7 @@ fn takes<R: CountedRead>(rt: &impl Host, reader: &mut R, room: usize, want: Opti
     }
 }
 
-// Uses so many bytes of those that it is offered, and notes how many these are.
+// A consumer that uses a given number of the offered bytes, and records how many were offered.
 #[derive(Drop)]
 struct Eater {
     wanted: usize,
@@ -42,7 +42,7 @@ impl Eater {
     }
 }
 
-// A reader whose buffer has these bytes and no more after its first byte is read, and whose second read would fail.
+// Returns a reader that has read its first byte and holds all others in its buffer. Its second read would fail.
 fn ahead(alloc: Global, bytes: &[u8]) -> Result<Buffered<PieceReader<'_>>, Fail> {
     let source = PieceReader::new(bytes, 16, Some(2));
     let mut reader = Buffered::new(BufReader::with_capacity(alloc, 16, source)?);
@@ -142,7 +142,7 @@ fn nothing_lies_at_hand_without_a_buffer(rt: HostRuntime) -> TestResult {
     Ok(())
 }
 
-// Pieces of all sizes, so that blocks lie at hand whole, in part and not at all.
+// Pieces of all sizes, so that blocks are in the buffer completely, in part or not at all.
 #[test]
 fn blocks_are_the_same_whatever_lies_at_hand(rt: HostRuntime) -> TestResult {
     for piece in 1..=STREAM.len() {

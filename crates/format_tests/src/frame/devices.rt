@@ -9,7 +9,7 @@ use std::alloc::Allocator;
 use std::io::{self, BufReader, ErrorKind, Read, Write};
 use test_doubles::PieceReader;
 
-// What no clause can say: a standard reader's or writer's failure is not tried again, and its own error is passed on.
+// Checks behaviour that no clause can state: the failure of a standard reader or writer is not retried, and its own error is passed on.
 fn fails_once<R: CountedRead>(rt: &impl Host, reader: &mut R) -> TestResult {
     let mut byte = [0];
     let error = reader.read_some(&mut byte).err().ok_or("an error")?;
@@ -31,7 +31,7 @@ fn a_failed_read_is_returned_at_once(rt: HostRuntime) -> TestResult {
     Ok(())
 }
 
-// Fails each call, and counts them.
+// A device that fails each call, and counts them.
 #[derive(Drop)]
 struct Broken {
     calls: u64,
@@ -70,7 +70,7 @@ fn is_reset(error: Option<io::Error>) -> bool {
     error.is_some_and(|error| error.kind() == ErrorKind::ConnectionReset)
 }
 
-// A reader that failed once with the error of its device.
+// Returns a reader that failed once with the error of its device.
 fn broken_reader(rt: &impl Host) -> Counted<Broken> {
     let mut reader = Counted::new(Broken { calls: 0 });
     assert!(rt; is_reset(reader.read_some(&mut [0]).err()));
@@ -79,7 +79,7 @@ fn broken_reader(rt: &impl Host) -> Counted<Broken> {
     reader
 }
 
-// A writer that failed once with the error of its device.
+// Returns a writer that failed once with the error of its device.
 fn broken_writer(rt: &impl Host) -> Counted<Broken> {
     let mut writer = Counted::new(Broken { calls: 0 });
     assert!(rt; is_reset(writer.write_some(b"z").err()));

@@ -5,7 +5,7 @@ use itch_frame::{BlockReader, FrameFault};
 use test_doubles::PieceReader;
 use test_doubles::days::Blocks;
 
-// The next block is this one, however often it is looked at; then it is passed.
+// Checks that the next block is this one, in repeated looks too, and passes it.
 fn passes(rt: &impl Host, reader: &mut Blocks<'_>, payload: &[u8]) -> Result<(), FrameFault> {
     for _ in 0..2 {
         if !reader.load()? {
@@ -20,7 +20,7 @@ fn passes(rt: &impl Host, reader: &mut Blocks<'_>, payload: &[u8]) -> Result<(),
     Ok(())
 }
 
-// The blocks of the stream are passed; then none is left, and the end is not passed.
+// Checks that the blocks of the stream are passed, that none is left then, and that the end is not passed.
 fn passes_all(rt: &impl Host, reader: &mut Blocks<'_>) -> Result<(), FrameFault> {
     for payload in [b"S".as_slice(), b"RR", b"", b"AAAAA", b"D"] {
         passes(rt, reader, payload)?;
@@ -42,7 +42,7 @@ fn a_block_stays_the_next_one_until_it_is_passed(rt: HostRuntime) -> TestResult 
     Ok(())
 }
 
-// The block that is next is the one that was looked at.
+// Checks that a block that was looked at is the next one.
 fn is_next(rt: &impl Host, reader: &mut Blocks<'_>) -> Result<(), FrameFault> {
     same(rt, reader.load_at_hand(), false);
     same(rt, reader.load()?, true);

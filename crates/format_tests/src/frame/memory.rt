@@ -1,4 +1,4 @@
-//! Memory that is refused, and the calls that take none.
+//! Refused memory, and calls that allocate none.
 use super::{STREAM, copy_blocks, has_no_room, takes, write};
 use crate::equal::{Host, TestResult, same};
 use itch_frame::{BlockReader, Counted, CountedRead, FrameFault, Splitter};
@@ -6,17 +6,17 @@ use linked_list_allocator::LocalHeap;
 use std::alloc::Allocator;
 use test_doubles::{FuseWriter, PieceReader, Refusing};
 
-// Whether a splitter can be made.
+// Returns whether a splitter can be created.
 fn has_splitter<A: Allocator>(alloc: A) -> bool {
     Splitter::new(alloc).is_ok()
 }
 
-// Whether a reader can be made.
+// Returns whether a reader can be created.
 fn has_reader<A: Allocator>(alloc: A) -> bool {
     BlockReader::new(alloc, Counted::new(STREAM)).is_ok()
 }
 
-// A splitter and a reader each make one allocation.
+// Checks that a splitter and a reader each make one allocation.
 fn takes_one_allocation<A: Allocator + Copy>(rt: &impl Host, alloc: &Refusing<A>, nth: u64) {
     alloc.arm(nth);
     same(rt, has_splitter(alloc), nth == 1);
@@ -34,7 +34,7 @@ fn each_allocation_may_be_refused(rt: HostRuntime) {
     }
 }
 
-// A writer over memory that is refused once writes the next block whole.
+// Checks that a writer in memory that is refused once writes the next block completely.
 fn goes_on<A: Allocator + Copy>(rt: &impl Host, alloc: &Refusing<A>) -> Result<(), FrameFault> {
     let mut writer = FuseWriter::new(alloc, 64, None);
     has_no_room(rt, &mut writer, 0);
@@ -51,7 +51,7 @@ fn a_writer_goes_on_after_want_of_memory(rt: HostRuntime) -> TestResult {
     Ok(())
 }
 
-// There is room for one splitter and not for a second one.
+// Checks that there is room for one splitter and not for a second one.
 fn has_room_for_one<A: Allocator + Copy>(rt: &impl Host, memory: A) -> TestResult {
     let splitter = Splitter::new(memory)?;
     same(rt, splitter.held(), 0);
@@ -59,21 +59,21 @@ fn has_room_for_one<A: Allocator + Copy>(rt: &impl Host, memory: A) -> TestResul
     Ok(())
 }
 
-// A splitter takes its 65,537 bytes and no more, beyond what a heap of its own needs for itself.
+// A splitter allocates its 65,537 bytes and no more, apart from the heap's own use.
 #[test]
 fn a_splitter_takes_room_for_the_longest_block_alone(rt: HostRuntime) -> TestResult {
     let heap = LocalHeap::new(rt.alloc(), 66_000)?;
     has_room_for_one(&rt, &heap)
 }
 
-// Takes a block, and lets it go.
+// Takes a block, and drops it.
 fn takes_block<A: Allocator>(rt: &impl Host, splitter: &mut Splitter<A>) {
     takes(rt, splitter, STREAM, (3, 3), Some(b"S"));
     splitter.clear();
     same(rt, splitter.held(), 0);
 }
 
-// A reader and a splitter go through the stream, with memory for the writer alone.
+// Reads the stream with a reader and a splitter, where only the writer allocates memory.
 fn goes_through<R: CountedRead, A: Allocator>(
     rt: &impl Host,
     reader: &mut BlockReader<R, A>,

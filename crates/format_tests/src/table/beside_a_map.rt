@@ -1,4 +1,4 @@
-//! A hundred thousand calls, each beside the same one of a hash map.
+//! A hundred thousand calls, each compared with the same call of a hash map.
 use super::calls::{has, put, set, take};
 use crate::equal::{Host, TestResult};
 use itch_book::table::Table;
@@ -8,14 +8,14 @@ use std::hash::{BuildHasherDefault, FoldHasher};
 
 type Map = HashMap<u64, u32, BuildHasherDefault<FoldHasher>, Global>;
 
-// Numbers in no apparent order.
+// Returns the next number, in no apparent order.
 fn next(number: u64) -> u64 {
     let number = number ^ (number << 13);
     let number = number ^ (number >> 7);
     number ^ (number << 17)
 }
 
-// A key among few that are dense, among many that are, among some that have a page each, or far from all others.
+// Returns one of a few dense keys, of many dense keys, of some keys with a page each, or of keys far from all others.
 fn key_of(number: u64) -> u64 {
     let choice = number >> 8;
     match number % 4 {
@@ -26,7 +26,7 @@ fn key_of(number: u64) -> u64 {
     }
 }
 
-// One call on both: a new key is put in, and a known one gets another link or is taken out.
+// Makes one call on both: a new key is inserted, and a known one gets another link or is removed.
 fn call_both(
     rt: &impl Host,
     table: &mut Table,
@@ -50,7 +50,7 @@ fn call_both(
     Ok(())
 }
 
-// Each key of the map has its link.
+// Checks that each key of the map has its link.
 fn agree(rt: &impl Host, table: &Table, map: &Map) {
     for (key, link) in map.iter() {
         has(rt, table, *key, Some(*link));

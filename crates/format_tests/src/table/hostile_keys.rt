@@ -1,16 +1,16 @@
-//! Keys chosen to take as much memory as they can, and the memory that they take.
+//! Keys chosen to use as much memory as possible, and the memory that they use.
 use super::calls::{has, put, take};
 use crate::equal::{Host, TestResult};
 use itch_book::table::Table;
 use linked_list_allocator::LocalHeap;
 use std::alloc::AllocError;
 
-// Twice what the pages of any keys may take at first, and what a heap needs for itself: vectors double as they grow.
+// Twice the initial memory of the pages of any keys, and of the heap itself. Vectors double as they grow, hence the factor.
 const START: usize = 8_500_000;
-// Twice what a key may take.
+// Twice the memory per key.
 const FOR_KEY: usize = 128;
 
-// Puts in so many keys, so far apart, and checks the memory that they take.
+// Inserts `count` keys, `step` apart, and checks the memory that they use.
 fn fill(
     rt: &impl Host,
     heap: &LocalHeap,
@@ -30,7 +30,7 @@ fn fill(
     Ok(())
 }
 
-// Takes out all of them.
+// Removes all of them.
 fn empty(rt: &impl Host, table: &mut Table<&LocalHeap>, step: u64, count: u32) {
     for number in 0..count {
         let key = u64::from(number).wrapping_mul(step);
@@ -39,7 +39,7 @@ fn empty(rt: &impl Host, table: &mut Table<&LocalHeap>, step: u64, count: u32) {
     }
 }
 
-// A page for eight keys, or for each; so far apart that hardly any gets a page; and spread over all numbers.
+// Keys with a page for eight keys or for each; keys so far apart that hardly any gets a page; and keys spread over all numbers.
 #[test]
 fn sparse_keys_take_bounded_memory(rt: HostRuntime) -> TestResult {
     for step in [
@@ -64,7 +64,7 @@ fn sparse_keys_take_bounded_memory(rt: HostRuntime) -> TestResult {
     Ok(())
 }
 
-// So many that the pages of the first ones are few: one key of a page each, or up to sixteen.
+// So many keys that the pages of the first ones hardly count, with one key per page, or up to sixteen.
 #[test]
 fn many_sparse_keys_take_little_more_than_a_map(rt: HostRuntime) -> TestResult {
     for step in [
@@ -85,7 +85,7 @@ fn many_sparse_keys_take_little_more_than_a_map(rt: HostRuntime) -> TestResult {
     Ok(())
 }
 
-// Keys that stand side by side take a few bytes each, also after so many keys with a page each that no more of them get one.
+// Adjacent keys use a few bytes each, even after so many keys with a page each that no more of those get one.
 #[test]
 fn dense_keys_after_sparse_ones_get_pages(rt: HostRuntime) -> TestResult {
     let heap = LocalHeap::new(rt.alloc(), 64 << 20)?;
@@ -127,7 +127,7 @@ fn keys_at_the_ends(rt: HostRuntime) -> TestResult {
     Ok(())
 }
 
-// A key that comes and goes a million times takes memory once.
+// A key that is inserted and removed a million times allocates memory once.
 #[test]
 fn a_key_used_again(rt: HostRuntime) -> TestResult {
     let heap = LocalHeap::new(rt.alloc(), 1 << 20)?;
@@ -144,7 +144,7 @@ fn a_key_used_again(rt: HostRuntime) -> TestResult {
     Ok(())
 }
 
-// Of a million rising keys a hundred are known at a time: a few pages serve them, and the directory has a word for each page.
+// Of a million ascending keys a hundred are present at a time: a few pages suffice, and the directory has a word per page.
 #[test]
 fn rising_keys_use_pages_again(rt: HostRuntime) -> TestResult {
     let heap = LocalHeap::new(rt.alloc(), 4 << 20)?;

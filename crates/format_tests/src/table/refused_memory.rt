@@ -1,11 +1,11 @@
-//! Keys put in with each allocation refused in turn: the directory's, the pages' and the hash map's.
+//! Keys inserted with each allocation refused in turn: those of the directory, the pages and the hash map.
 use super::calls::{has, put, take};
 use crate::equal::{Host, TestResult};
 use itch_book::table::Table;
 use std::alloc::{Allocator, Global};
 use test_doubles::Refusing;
 
-// The keys below `count`, so far apart, have their own numbers as links, and no others have any.
+// Checks that the keys of the first `count` numbers, `step` apart, have their own numbers as links, and that no others have any.
 fn has_first<A: Allocator>(rt: &impl Host, table: &Table<A>, step: u64, count: u32) {
     for number in 0..count {
         let key = u64::from(number).wrapping_mul(step);
@@ -17,7 +17,7 @@ fn has_first<A: Allocator>(rt: &impl Host, table: &Table<A>, step: u64, count: u
     }
 }
 
-// Puts a key in with each of its allocations refused in turn, and then with memory. Returns how many were refused.
+// Inserts a key with each of its allocations refused in turn, and then with memory. Returns how many were refused.
 fn refuse_each(
     rt: &impl Host,
     refusing: &Refusing<Global>,
@@ -39,7 +39,7 @@ fn refuse_each(
     panic!(rt; "more than 16 allocations")
 }
 
-// Dense keys, keys of a page each, and keys that are beyond the pages.
+// Dense keys, keys with a page each, and keys beyond the pages.
 #[test]
 fn a_table_stays_as_it_was(rt: HostRuntime) -> TestResult {
     for (step, count, least) in [
@@ -60,7 +60,7 @@ fn a_table_stays_as_it_was(rt: HostRuntime) -> TestResult {
     Ok(())
 }
 
-// A key is taken out, and put in again where it was, with no allocation.
+// A key is removed, and inserted again at its place, without an allocation.
 #[test]
 fn a_key_goes_and_comes_without_memory(rt: HostRuntime) -> TestResult {
     let refusing = Refusing::new(rt.alloc(), 0);

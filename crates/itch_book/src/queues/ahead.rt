@@ -1,4 +1,4 @@
-//! Orders that are read before they are asked for.
+//! Reads orders before they are needed.
 
 use super::Queues;
 use crate::ahead::{AHEAD, MANY};
@@ -6,13 +6,13 @@ use crate::link::Link;
 use crate::near::Level;
 use std::alloc::Allocator;
 
-// How many queues a walk reads at once.
+// The number of queues that a walk reads at once.
 const QUEUES: usize = 16;
 
-// How many orders of each it reads. Few queues are longer.
+// The number of orders that it reads of each queue. Few queues are longer.
 const ORDERS: usize = 4;
 
-// What changes beside an order: its neighbours, and the totals of its queue.
+// The data that changes together with an order: its neighbours, and the totals of its queue.
 #[derive(Clone, Copy)]
 struct Beside {
     before: Link,
@@ -21,7 +21,8 @@ struct Beside {
 }
 
 impl<A: Allocator> Queues<A> {
-    /// Has the orders of these nodes read into the processor's cache, with what changes beside them. Returns something of each.
+    /// Reads the orders of these nodes into the processor's cache, with the data that changes together with them. The result depends on all
+    /// data read.
     pub(crate) fn read_around(&self, nodes: &[u32; AHEAD]) -> u64 {
         let mut seen = 0;
         for beside in &self.beside(nodes) {
@@ -30,7 +31,7 @@ impl<A: Allocator> Queues<A> {
         seen
     }
 
-    // What changes beside the orders of these nodes.
+    // Returns the positions of the data that changes together with the orders of these nodes.
     fn beside(&self, nodes: &[u32; AHEAD]) -> [Beside; AHEAD] {
         let nothing = Beside {
             before: Link::none(),
@@ -65,8 +66,8 @@ impl<A: Allocator> Queues<A> {
         }
     }
 
-    /// Has the first orders of the levels' queues read into the processor's cache, where there are more than fit there anyway. Returns
-    /// something of each.
+    /// Reads the first orders of the levels' queues into the processor's cache, if there are more orders than fit there anyway. The result
+    /// depends on all data read.
     pub(crate) fn read_ahead(&self, levels: &[Level]) -> u64 {
         if self.nodes.len() < MANY {
             return 0;
@@ -87,7 +88,7 @@ impl<A: Allocator> Queues<A> {
         seen
     }
 
-    // The links to the first nodes of the levels' queues.
+    // Returns the links to the first nodes of the levels' queues.
     fn first_links(&self, levels: &[Level]) -> [Link; QUEUES] {
         let mut links = [Link::none(); QUEUES];
         for (link, level) in links.iter_mut().zip(levels) {
@@ -98,7 +99,7 @@ impl<A: Allocator> Queues<A> {
         links
     }
 
-    // Reads the nodes at these links, and puts the links to the next ones in their place.
+    // Reads the nodes at these links, and replaces the links by those to the next nodes.
     fn read_next(&self, links: &mut [Link; QUEUES]) -> u64 {
         let mut seen = 0;
         for link in links.iter_mut() {

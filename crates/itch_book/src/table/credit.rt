@@ -1,39 +1,40 @@
-//! Which new keys get a page: where keys are far apart, a page takes several times what the hash map takes, so it has to be earned.
+//! Decides which new keys get a page. If keys are far apart, a page takes several times the memory of the hash map, so it has to be earned.
 ghost use Rattle.std.specs.Prelude.{◌≡◌, ◌+◌, ◌*◌, ◌≤◌};
 ghost use Rattle.itch_book.specs.Credit.{is_paid, spent};
 
-// The credit of a table with no keys. No credit is more than this, and `MOST_FOR_KEY` for each key that has a link.
+// The credit of an empty table. The maximum credit is this and `MOST_FOR_KEY` for each key that has a link.
 const FIRST: u64 = 1 << 22;
 
 const MOST_FOR_KEY: u64 = 64;
 
-// What a key earns in a page that stands: there it takes no memory, and in the hash map it would take about as much.
+// The credit that a key earns in an existing page: there it takes no memory, and in the hash map it would take about this much.
 const SAVED: u64 = 64;
 
-// What a key in the hash map earns if it has the page of the key before: so keys that rise get pages, whatever came before them.
+// The credit that a key in the hash map earns if it is in the page of the key before. So ascending keys get pages, no matter which keys came
+// before them.
 const RISING: u64 = 16;
 
-/// What a page for a key costs.
+/// The cost of a page for a key.
 #[derive(Clone, Copy)]
 pub(crate) enum Cost {
-    /// Nothing: the page stands.
+    /// Nothing: the page exists.
     Nothing,
-    /// What the page and its rows of the directory take.
+    /// The bytes of the page and its rows of the directory.
     Bytes(u64),
-    /// There is none to be had: the directory may not reach as far.
+    /// A page is not possible: the directory may not grow that far.
     Beyond,
 }
 
-/// How many bytes new pages may take, and the directory for them.
+/// The number of bytes that new pages and their part of the directory may take.
 #[derive(Clone, Copy)]
 pub(crate) struct Credit {
     bytes: u64,
-    // The page of the key before.
+    // The page of the previous key.
     page: u64,
 }
 
 impl Credit {
-    /// The credit of a table with no keys.
+    /// Returns the credit of an empty table.
     pub(crate) fn new() -> Credit
         ensures { result.bytes ≡ 4194304 }
     {
@@ -43,7 +44,7 @@ impl Credit {
         }
     }
 
-    /// Whether a key gets a page that costs so much.
+    /// Returns whether a key gets a page with this cost.
     pub(crate) fn pays(self, cost: Cost) -> bool
         ensures { result ≡ is_paid self.bytes cost }
     {
@@ -54,7 +55,7 @@ impl Credit {
         }
     }
 
-    /// The credit once a key of this page is in the table, which now has so many keys. A key earns 64 bytes at most.
+    /// Returns the credit after a key of this page was inserted into the table, which now has `keys` keys. A key earns at most 64 bytes.
     pub(crate) fn after(self, page: u64, cost: Cost, keys: usize) -> Credit
         ensures earned { result.bytes + spent self.bytes cost ≤ self.bytes + 64 }
         ensures most { result.bytes ≤ 4194304 + 64 * keys }

@@ -1,4 +1,4 @@
-//! Links under keys, by pages of neighbouring keys. A look-up reads an entry of the directory and one link.
+//! Links by key, in pages of neighbouring keys. A look-up reads one entry of the directory and one link.
 ghost use Rattle.std.specs.Prelude.{◌≡◌, ℕ, ◌+◌, ◌*◌, max, ◌/◌, ◌%◌, ◌<◌, ◌≤◌, ◌^◌, ◌++◌, ◌-◌, [], ◌∷◌, Some, None, Option, OnOk, OnErr, IfOk, IsSome, false, is_some, is_ok, count_by, length, eqb, cond, replicate, slice_index_or, slice_set, if◌then◌else◌};
 ghost use Rattle.std.specs.Map.{update};
 ghost use Rattle.itch_book.specs.Credit.{is_nothing, OnBytes};
@@ -9,17 +9,17 @@ use crate::link::Link;
 use std::alloc::{AllocError, Allocator, Global};
 use std::marker::Model;
 
-/// The keys of a page.
+/// The number of keys of a page.
 pub(crate) const KEYS: u64 = 128;
 
-// The bytes of a page, and of its row of the directory.
+// The number of bytes of a page and of its row of the directory.
 const PAGE: u64 = 528;
 
 const ROW: u64 = 4;
 
 const _: () = prove!(size_of::<Page>() == 528);
 
-// The directory may grow to this many rows, and to so many more for each key.
+// The directory may grow to this many rows, and by `ROWS_FOR_KEY` more for each key.
 const ROWS: u64 = 1 << 18;
 
 const ROWS_FOR_KEY: u64 = 16;
@@ -27,20 +27,20 @@ const ROWS_FOR_KEY: u64 = 16;
 // The links of neighbouring keys.
 #[derive(Drop)]
 struct Page {
-    // How many keys have a link.
+    // The number of keys that have a link.
     live: usize,
-    // The page's number, or where no key has a link, the next page of which that is so.
+    // The number of the page, or if no key has a link, the next page without links.
     number: usize,
     links: [Link; KEYS as usize],
 }
 
-/// Links under keys that are nearly dense.
+/// Links by key, for nearly dense keys.
 #[derive(Drop)]
 pub(crate) struct Pages<A: Allocator = Global> {
-    // The place of the page of each number.
+    // The place of the page with each number.
     directory: Vec<Link, A>,
     pages: Vec<Page, A>,
-    // The first page where no key has a link, if there is one: it is used before a new one.
+    // The first page without links, if there is one: it is reused before a new page is added.
     free: usize,
 }
 
@@ -55,7 +55,7 @@ impl<A: Allocator> Model for Pages<A> {
 }
 
 impl<A: Allocator> Pages<A> {
-    /// No links.
+    /// Creates an empty collection.
     pub(crate) fn new(alloc: A) -> Self
     where
         A: Copy,
@@ -68,7 +68,7 @@ impl<A: Allocator> Pages<A> {
         }
     }
 
-    /// Whether the page of a key stands.
+    /// Returns whether the page of a key exists.
     #[inline(always)]
     pub(crate) fn has_page(&self, key: u64) -> bool
         ensures { result ≡ is_some (place_at self.now.directory (key / 128)) }
@@ -76,7 +76,7 @@ impl<A: Allocator> Pages<A> {
         place_at(&self.directory, (key / KEYS) as usize).is_some()
     }
 
-    /// What a page for a key costs, where so many keys have a link.
+    /// Returns the cost of a page for a key, if `keys` keys have a link.
     #[inline(always)]
     pub(crate) fn cost(&self, key: u64, keys: usize) -> Cost
         ensures nothing { is_nothing result ≡ is_some (place_at self.now.directory (key / 128)) }
@@ -89,7 +89,7 @@ impl<A: Allocator> Pages<A> {
         }
     }
 
-    // What a page with this number costs that does not stand. Few keys need one, so this is kept out of the way of the others.
+    // Returns the cost of a page with this number that does not exist. Few keys need a new page, so this is kept out of line.
     #[cold]
     #[inline(never)]
     fn cost_of_new(&self, number: u64, keys: usize) -> Cost
@@ -112,7 +112,7 @@ impl<A: Allocator> Pages<A> {
         Cost::Bytes(page + (number + 1 - rows) * ROW)
     }
 
-    /// The link of a key.
+    /// Returns the link of a key.
     #[inline(always)]
     pub(crate) fn get(&self, key: u64) -> Option<u32>
         ensures { result ≡ link_at self.now key }
@@ -123,7 +123,7 @@ impl<A: Allocator> Pages<A> {
         }
     }
 
-    /// Writes another link in place of that of a key.
+    /// Replaces the link of a key.
     #[inline(always)]
     pub(crate) fn set(&mut self, key: u64, link: u32)
         requires link { link < 4294967295 }
@@ -135,7 +135,7 @@ impl<A: Allocator> Pages<A> {
         page.links[(key % KEYS) as usize] = Link::to(link);
     }
 
-    /// Puts a link under a key. If an allocation fails, or if there are 2^32 - 1 pages, no link changes.
+    /// Inserts a link for a key. If an allocation fails, or if there are 2^32 - 1 pages, no link changes.
     #[inline(always)]
     pub(crate) fn insert(&mut self, key: u64, link: u32) -> Result<(), AllocError>
         requires { link < 4294967295 }
@@ -156,7 +156,7 @@ impl<A: Allocator> Pages<A> {
         Ok(())
     }
 
-    /// Takes out the link of a key. A page whose last link it was is used again.
+    /// Removes the link of a key. A page without links is reused.
     #[inline(always)]
     pub(crate) fn remove(&mut self, key: u64) -> Option<u32>
         ensures link { result ≡ link_at self.old key }
@@ -177,7 +177,7 @@ impl<A: Allocator> Pages<A> {
     }
 }
 
-// The place of the page of a number.
+// Returns the place of the page with a number.
 #[inline(always)]
 fn place_at(directory: &[Link], number: usize) -> Option<u32>
     ensures { result ≡ place_at directory.now number }
@@ -188,7 +188,7 @@ fn place_at(directory: &[Link], number: usize) -> Option<u32>
     }
 }
 
-// Makes the directory reach a number. If the allocation fails, it stays as it was.
+// Extends the directory to a number. If the allocation fails, it does not change.
 fn reach<A: Allocator>(directory: &mut Vec<Link, A>, number: usize) -> Result<(), AllocError>
     requires { number < 2 ^ 59 }
     ensures places { (n : ℕ) → place_at directory.new.items n ≡ place_at directory.old.items n }
@@ -200,7 +200,7 @@ fn reach<A: Allocator>(directory: &mut Vec<Link, A>, number: usize) -> Result<()
     directory.resize(number + 1, Link::none())
 }
 
-// A link of a page.
+// Returns a link of a page.
 #[inline(always)]
 fn link_of(page: &Page, offset: usize) -> Option<u32>
     requires { offset < length page.now.links }
@@ -209,14 +209,14 @@ fn link_of(page: &Page, offset: usize) -> Option<u32>
     page.links[offset].place()
 }
 
-// Links that are all alike.
+// Returns links that are all equal.
 fn all_of(link: Link) -> [Link; KEYS as usize]
     ensures { result ≡ replicate 128 link }
 {
     [link; KEYS as usize]
 }
 
-// A page with one link.
+// Returns a page with one link.
 fn page_of(number: usize, offset: usize, link: u32) -> Page
     requires offset { offset < 128 }
     requires link { link < 4294967295 }
@@ -233,7 +233,7 @@ fn page_of(number: usize, offset: usize, link: u32) -> Page
     }
 }
 
-// Writes a link of a page: what it was, and how many keys have one now.
+// Writes a link of a page, and returns the old link and the number of keys that now have one.
 #[inline(always)]
 fn write(page: &mut Page, offset: usize, link: Link) -> (Option<u32>, usize)
     requires offset { offset < length page.old.links }
@@ -253,7 +253,7 @@ fn write(page: &mut Page, offset: usize, link: Link) -> (Option<u32>, usize)
     (was, page.live)
 }
 
-// Puts a page in place of one where no key has a link, or last, and returns its place.
+// Stores a page in place of one without links, or last, and returns its place.
 fn open<A: Allocator>(
     pages: &mut Vec<Page, A>,
     free: &mut usize,

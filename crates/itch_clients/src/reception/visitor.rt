@@ -1,4 +1,4 @@
-//! One connection that holds no place: what it says up to its login, and how it ends.
+//! One connection without a place: its packets up to the login, and its end.
 
 use crate::opening::{Opening, opening_of};
 use arrayvec::ArrayVec;
@@ -9,26 +9,26 @@ use itch_sessions::{Departure, Link, User, Verdict, Who, departure_of, verdict_o
 use itch_soup::{Origin, Packet, ServerConfig, ServerSession, parse_packet};
 use std::net::IpAddr;
 
-/// How long a connection has to log in, or to close once it is told no more.
+/// How long a connection has to log in, or to close after it receives nothing more.
 const PATIENCE_MS: u64 = 15_000;
 
-/// What is kept of what a connection says: a login after its length, and some more.
+/// The number of bytes kept from a connection: a login with its length, and some more.
 pub(super) const KEPT: usize = 64;
 
-// What a connection waits for.
+// The state of a connection.
 #[derive(Clone, Copy)]
 pub(super) enum Stage {
-    // It has not sent a whole login.
+    // It has not sent a complete login.
     Opening,
-    // Its login is right by this configuration, and it waits for a place.
+    // Its login is valid for this configuration, and it waits for a place.
     Ready(ServerConfig),
-    // Its login was rejected: it is told so, once the moment has come.
+    // Its login was rejected, and the rejection is sent at this time.
     Rejected { code: u8, at_ms: u64 },
-    // It is told no more, and its connection has ended so.
+    // It receives nothing more, and has ended in this way.
     Over(Departure),
 }
 
-// What logins are judged by.
+// The data that logins are judged by.
 #[derive(Clone, Copy)]
 pub(super) struct Served<'a> {
     pub users: &'a [Login],
@@ -36,7 +36,7 @@ pub(super) struct Served<'a> {
     pub end_number: Seq,
 }
 
-/// A connection that holds no place.
+/// A connection without a place.
 #[derive(Drop)]
 pub(super) struct Visitor {
     pub link: Link,
@@ -44,12 +44,12 @@ pub(super) struct Visitor {
     pub since_ms: u64,
     pub stage: Stage,
     pub words: ArrayVec<u8, KEPT>,
-    // How many bytes of an uninteresting packet are still to come.
+    // The number of bytes of a skipped packet that have not arrived yet.
     skipped: usize,
 }
 
 impl Visitor {
-    /// Whether there is something to read before anything else is ready.
+    /// Returns whether there may be bytes to read without waiting for another event.
     pub(super) fn is_busy(&self) -> bool {
         match self.stage {
             Stage::Opening | Stage::Over(_) => self.link.is_busy(false),
@@ -73,7 +73,7 @@ impl Visitor {
         }
     }
 
-    /// Reads what it has said, as far as that is kept, and does what it means at this server.
+    /// Reads bytes of the connection, as far as they are kept, and acts on them.
     pub(super) fn turn(&mut self, served: &Served<'_>, now_ms: u64, buffer: &mut [u8]) {
         match self.stage {
             Stage::Opening => {
@@ -94,7 +94,7 @@ impl Visitor {
         }
     }
 
-    // Reads what there is room for, but for what is passed over.
+    // Reads as many bytes as there is room for, or bytes that are skipped.
     fn read(&mut self, buffer: &mut [u8]) {
         if self.skipped > 0 {
             let most = self.skipped.min(buffer.len());
@@ -110,7 +110,7 @@ impl Visitor {
         let _ = self.words.try_extend_from_slice(&buffer[..count.min(most)]);
     }
 
-    // Hears its packets up to its login. What comes after that is kept.
+    // Handles its packets up to its login. Bytes after the login are kept.
     fn hear(&mut self, served: &Served<'_>, now_ms: u64) {
         for _ in 0..KEPT {
             match opening_of(self.words.as_slice()) {
@@ -133,7 +133,7 @@ impl Visitor {
         }
     }
 
-    // Does what a packet means, and says whether it was the last one that is heard here.
+    // Acts on a packet, and returns whether it was the last one to handle here.
     fn hear_packet(&mut self, length: usize, served: &Served<'_>, now_ms: u64) -> bool {
         let end = length.saturating_add(2).min(self.words.len());
         let payload = &self.words[end.min(2)..end];
@@ -158,14 +158,14 @@ impl Visitor {
         true
     }
 
-    // Passes over bytes, of which some may still have to come.
+    // Skips bytes, some of which may not have arrived yet.
     fn pass(&mut self, count: usize) {
         let here = count.min(self.words.len());
         self.skipped = count.saturating_sub(here);
         self.words.drain(..here);
     }
 
-    /// By which configuration its login is right, if it is.
+    /// Returns the configuration that accepts its login, if it is valid.
     pub(super) fn accepted_by(&self) -> Option<ServerConfig> {
         match &self.stage {
             Stage::Ready(config) => Some(*config),
@@ -173,7 +173,8 @@ impl Visitor {
         }
     }
 
-    /// How its connection ended, once it is to be closed. One whose login was heard is told what that comes to, also where it sends no more.
+    /// Returns how its connection ended, if it is to be closed. A connection whose login has arrived receives the answer, even if it has
+    /// closed its sending half.
     pub(super) fn departure(&self, now_ms: u64) -> Option<Departure> {
         let waits = matches!(self.stage, Stage::Ready(_) | Stage::Rejected { .. });
         let gone = self.link.ending(None, waits);

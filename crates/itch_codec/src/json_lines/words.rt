@@ -13,7 +13,7 @@ use crate::orders::Side;
 use crate::pieces::{push_ascii, push_clock, push_hex, push_number, push_price};
 use arrayvec::ArrayString;
 
-/// The text of a line of JSON as it is built. The longest line, of a stock directory message, has 553 bytes.
+/// The text of a line of JSON under construction. The longest line, for a Stock Directory message, has 553 bytes.
 pub(crate) type JsonWords = ArrayString<648>;
 
 /// Appends a comma and a key.
@@ -27,7 +27,7 @@ pub(super) fn put_key(line: &mut JsonWords, key: Key)
     line.push_str("\":");
 }
 
-/// Appends the time of the day as a string, and a second member with the nanoseconds since midnight.
+/// Appends the time of day as a string, and a second member with the nanoseconds since midnight.
 #[tactic(auto, using(crate::proofs::Joining::joining))]
 pub(super) fn push_times(line: &mut JsonWords, nanoseconds: u64)
     requires { array_string_len line.old ≤ 602 }

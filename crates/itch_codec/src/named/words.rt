@@ -1,4 +1,4 @@
-//! Words of a line with names: those that are not as in other lines.
+//! Writes the words of a line with names that differ from those of other lines.
 ghost use Rattle.std.specs.Prelude.{◌≡◌, ◌+◌, ◌*◌, ◌≤◌, [], ◌∷◌, ◌++◌, length};
 ghost use Rattle.std.specs.List.{flat_map};
 ghost use Rattle.arrayvec.specs.ArrayString.{array_string_len};
@@ -11,7 +11,7 @@ use crate::pieces::{push_ascii, push_clock, push_hex};
 use crate::words::Words;
 use itoa::Buffer;
 
-/// Appends a space and a number of at most five digits, which leaves room for the characters of a directory entry.
+/// Appends a space and a number of at most five digits. The limit leaves room for the characters of a directory entry.
 #[tactic(auto, unfolding(crate::specs::Lines::word))]
 pub(super) fn show_short(line: &mut Words, number: u16)
     requires { array_string_len line.old ≤ 186 }
@@ -22,7 +22,7 @@ pub(super) fn show_short(line: &mut Words, number: u16)
     line.push_str(Buffer::new().format(number));
 }
 
-/// Appends a space and a time of the day.
+/// Appends a space and a time of day.
 #[tactic(auto, unfolding(crate::specs::Named::clock_word))]
 pub(super) fn show_clock(line: &mut Words, nanoseconds: u64)
     requires { array_string_len line.old ≤ 173 }

@@ -59,7 +59,8 @@ pub fn write_books<B: OrderBook, W: CountedWrite>(
     Ok(())
 }
 
-fn is_wanted<A: Allocator>(only: Option<&LocateSet<A>>, locate: u16) -> bool
+/// Returns whether a locate is requested: it is in the set, or there is no set.
+pub fn is_wanted<A: Allocator>(only: Option<&LocateSet<A>>, locate: u16) -> bool
     ensures { result ≡ wanted_by (option_copied only.entry) locate }
 {
     match only {

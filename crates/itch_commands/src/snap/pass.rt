@@ -31,7 +31,7 @@ impl<R: CountedRead, A: Allocator, B: OrderBook> Pass<R, A, B> {
     ghost use Rattle.itch_day.specs.declared.stop.Stop.TheVariants.{Full};
     ghost use Rattle.itch_market.specs.declared.refused.Refused.{Refused as AnyRefused};
     ghost use Rattle.itch_commands.specs.Commands.{Snaps};
-    ghost use Rattle.itch_commands.specs.Points.{IsRead, ReadsMore, ReadsOn, Stands};
+    ghost use Rattle.itch_commands.specs.Points.{IsRead, ReadsMore, ReadsOn, ReadsUntil, Stands, up_to};
     ghost use Rattle.itch_commands.specs.Readings.{FromBlocks};
 
     /// Creates a pass that begins at this reader's position.
@@ -54,6 +54,13 @@ impl<R: CountedRead, A: Allocator, B: OrderBook> Pass<R, A, B> {
         self.marked.mark
     }
 
+    /// Returns the market after the messages read so far.
+    pub fn market(&self) -> &Market<B>
+        ensures { result.now ≡ self.now.marked.sink }
+    {
+        &self.marked.sink
+    }
+
     /// Reads on to the end of the requested part of the file, and returns the number of messages in the part.
     ///
     /// The result is the same as that of one reading of that part, from the beginning of the pass. No part may be smaller than the one
@@ -71,6 +78,34 @@ impl<R: CountedRead, A: Allocator, B: OrderBook> Pass<R, A, B> {
         match reason_of(stop) {
             None => Ok(count),
             Some(stop) => stopped(stop, limit.after, Source::Only, count),
+        }
+    }
+
+    /// Reads on up to the first message at this time or later, and returns true; or to the end of the file if there is none, and returns
+    /// false.
+    ///
+    /// The result is the same as that of one reading of that part, from the beginning of the pass. No time may be earlier than the one
+    /// before.
+    pub fn read_until(&mut self, time: u64) -> Result<bool, ToolFault>
+        ensures { (first : Reading R) → (before : AnyLimit) → (stop : AnyStop AnyRefused)
+            → Stands R.remaining R.failures before first self.old.reader self.old.marked stop
+            → GoesOnTo before stop self.old.marked.mark.count (up_to time)
+            → ReadsUntil R.remaining R.failures time first self.new.reader result self.new.marked }
+    {
+        self.marked.sink.recall_invariant();
+        let limit = Limit {
+            after: None,
+            until: Some(time),
+        };
+        let mut count = self.marked.mark.count;
+        let stop = read_further(&mut self.reader, &mut count, &mut self.marked, limit);
+        self.marked.sink.settle();
+        match reason_of(stop) {
+            None => Ok(true),
+            Some(stop) => match stopped(stop, None, Source::Only, count) {
+                Ok(_count) => Ok(false),
+                Err(fault) => Err(fault),
+            },
         }
     }
 

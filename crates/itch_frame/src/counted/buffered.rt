@@ -1,4 +1,4 @@
-//! Counted reads through a standard buffer, cheap if there are many short ones.
+//! Counted reads through a standard buffer, which makes many short reads cheap.
 ghost use Rattle.std.specs.Prelude.{◌≡◌, None, length, take, min};
 ghost use Rattle.std.specs.Io.Buffered.{reader_remaining};
 
@@ -9,16 +9,16 @@ use crate::tally::Failures;
 use std::alloc::{Allocator, Global};
 use std::io::{self, BufRead, BufReader, Read};
 
-/// Counts the failures of a buffered reader, as [`Counted`] does, and gives the same bytes.
+/// Counts the failures of a buffered reader, as [`Counted`] does, and reads the same bytes.
 ///
-/// A read copies what is in the buffer, and reads from below only if the buffer is empty.
+/// A read copies bytes from the buffer, and reads from the inner reader only if the buffer is empty.
 #[derive(Drop)]
 pub struct Buffered<T, A: Allocator = Global> {
     counted: Counted<BufReader<T, A>>,
 }
 
 impl<T: Read, A: Allocator> Buffered<T, A> {
-    /// Counts from 0.
+    /// Wraps a buffered reader, with no failures counted yet.
     pub fn new(reader: BufReader<T, A>) -> Buffered<T, A>
         ensures inner { result.counted.inner ≡ reader }
         ensures count { result.counted.failures.count ≡ 0 }
@@ -29,7 +29,7 @@ impl<T: Read, A: Allocator> Buffered<T, A> {
         }
     }
 
-    /// The failures so far.
+    /// Returns the failures so far.
     pub fn failures(&self) -> Failures
         ensures { result ≡ self.now.counted.failures }
     {
@@ -77,7 +77,7 @@ impl<T: Read, A: Allocator> CountedRead for Buffered<T, A> {
     }
 }
 
-// Copies as many bytes as there are and as fit, and returns how many.
+// Copies as many bytes as are available and fit, and returns their number.
 #[inline(always)]
 fn copy_front(from: &[u8], to: &mut [u8]) -> usize
     ensures count { result ≡ min (length from.now) (length to.new) }

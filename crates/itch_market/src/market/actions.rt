@@ -1,4 +1,4 @@
-//! What messages that are not refused do.
+//! The effects of messages that are not refused.
 ghost use Rattle.std.specs.Prelude.{◌≡◌, ◌<◌, ◌≤◌, Some, None, IsTrue, IsErr, OnOk, OnErr, IsSome, IsSomeAnd};
 ghost use Rattle.std.specs.FinMap as map;
 ghost use Rattle.itch_book.specs.Orders as book;
@@ -17,7 +17,7 @@ use itch_codec::{
 };
 use std::alloc::AllocError;
 
-/// The entry of a directory message.
+/// Returns the entry of a directory message.
 fn entry_of(x: StockDirectory) -> Directory
     ensures entry { result ≡ x.entry }
     ensures fits { IsDirectory result }
@@ -26,7 +26,7 @@ fn entry_of(x: StockDirectory) -> Directory
     x.entry
 }
 
-/// The position of a market participant: primary market maker, mode and state.
+/// Returns the position of a market participant: primary market maker, mode and state.
 fn position_of(x: ParticipantPosition) -> [u8; 3]
     ensures position { result ≡ position_of x }
     ensures fits { IsPosition x.mpid result }
@@ -35,7 +35,7 @@ fn position_of(x: ParticipantPosition) -> [u8; 3]
     [x.primary_market_maker, x.mode, x.state]
 }
 
-/// The live order that a message makes.
+/// Returns the live order that a message adds.
 #[inline(always)]
 fn order_of(x: AddOrder, mpid: Option<Alpha<4>>) -> Order
     ensures order { result ≡ order_of x mpid }
@@ -55,7 +55,7 @@ fn order_of(x: AddOrder, mpid: Option<Alpha<4>>) -> Order
 }
 
 impl<B: OrderBook> Market<B> {
-    /// Changes the market by a message that is not refused. The order that it changes is likely to have this place in the book.
+    /// Changes the market by a message that is not refused. The order that it changes is probably at this place in the book.
     #[inline(always)]
     pub(super) fn act(&mut self, message: &Message<'_>, place: usize) -> Result<(), AllocError>
         requires { reason self.old message.now ≡ None }

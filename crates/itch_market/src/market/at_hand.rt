@@ -1,4 +1,4 @@
-//! Messages about orders that are applied straight from their payloads, where nothing stands against it.
+//! Applies messages about orders directly from their payloads, if nothing prevents it.
 ghost use Rattle.std.specs.Prelude.{◌≡◌};
 ghost use Rattle.itch_codec.specs.declared.message.Message.TheVariants as is;
 ghost use Rattle.itch_market.specs.AtHand.{IsTried, IsTaken, IsApplied};
@@ -11,11 +11,10 @@ use itch_codec::{
 };
 
 impl<B: OrderBook> Market<B> {
-    /// Applies the message of a payload and returns true, if it is about an order, no rule refuses it, and it is likely to need no
-    /// allocation.
+    /// Applies the message of a payload and returns true, if it is about an order, no rule refuses it, and it probably needs no allocation.
     ///
-    /// Otherwise it returns false, and nothing changes: [`decode`](itch_codec::decode) and [`Market::apply`] say why, or apply it.
-    /// Without a [`Message`](itch_codec::Message) this is quicker than those two.
+    /// Otherwise it returns false, and nothing changes: then [`decode`](itch_codec::decode) and [`Market::apply`] apply it or return the
+    /// reason. Without a [`Message`](itch_codec::Message) this is faster than those two.
     #[inline(always)]
     pub(crate) fn apply_at_hand(&mut self, payload: &[u8]) -> bool
         ensures { IsApplied self.old payload.now result self.new }

@@ -16,12 +16,12 @@ use itch_codec::{
 };
 
 impl<B: OrderBook> Market<B> {
-    /// The plainest message that changes the market as this one does, if no rule refuses it.
+    /// Returns the plainest message that changes the market as this one does, if no rule refuses it.
     ///
-    /// Tracking number and timestamp are 0. A message that changes nothing is one and the same Broken Trade, and an execution or
-    /// a cancel is a delete if it takes all shares, and else a cancel. `laws::plain_acts_alike` says that it acts alike: so two
-    /// messages with one plainest message change two markets that are the same in the same way. It looks up at most one order or
-    /// security.
+    /// Its tracking number and timestamp are 0. All messages that change nothing have the same Broken Trade, and an execution or a cancel
+    /// becomes a delete if it takes all shares, and otherwise a cancel. `laws::plain_acts_alike` states that it has the same effect: so if
+    /// two messages have the same plainest message, they change two markets that are the same in the same way. It looks up at most one order
+    /// or security.
     pub fn plain(&self, message: &Message<'_>) -> Message<'static>
         ensures { result ≡ plain self.now message.now }
     {
@@ -124,7 +124,7 @@ impl<B: OrderBook> Market<B> {
         })
     }
 
-    // Whether the security of the locate has this directory entry already.
+    // Returns whether the security of the locate already has this directory entry.
     fn has_entry(&self, x: &StockDirectory) -> bool
         ensures { result ≡ has_entry (map.get self.now.securities x.now.header.locate) x.now.entry }
     {
@@ -170,7 +170,7 @@ impl<B: OrderBook> Market<B> {
         }
     }
 
-    // Shares taken from an order: none, all or some of them.
+    // Returns the message that takes shares from an order: none, all or some of them.
     fn plain_take(&self, locate: u16, reference: u64, shares: u32) -> Message<'static>
         ensures { result ≡ plain_take (book.get self.now.orders reference) locate reference shares }
     {
@@ -188,7 +188,7 @@ impl<B: OrderBook> Market<B> {
     }
 }
 
-/// The header with nothing but a locate.
+/// Returns a header that has only a locate.
 fn plain_header(locate: u16) -> Header
     ensures { result ≡ plain_header locate }
 {
@@ -199,7 +199,7 @@ fn plain_header(locate: u16) -> Header
     }
 }
 
-/// The plainest message that changes nothing.
+/// Returns the plainest message that changes nothing.
 fn nothing() -> Message<'static>
     ensures { result ≡ nothing }
 {

@@ -1,4 +1,4 @@
-//! The order rules: why a message is refused.
+//! The order rules: the reasons why a message is refused.
 ghost use Rattle.std.specs.Prelude.{◌≡◌};
 ghost use Rattle.std.specs.Result.{result_err};
 ghost use Rattle.std.specs.FinMap as map;
@@ -11,14 +11,14 @@ use itch_book::OrderBook;
 use itch_codec::{AddOrder, Alpha, Message, OrderDelete, OrderReplace};
 use std::alloc::Allocator;
 
-/// Whether the directory has another stock, by its eight bytes.
+/// Returns whether the directory has another stock, by its eight bytes.
 fn is_other_stock<A: Allocator>(security: &Security<A>, stock: Alpha<8>) -> bool
     ensures { result ≡ is_other_stock security.now stock }
 {
     security.entry.stock.bytes() != stock.bytes()
 }
 
-/// The verdict on a message that changes no order, so that any place will do.
+/// Returns the result for a message that changes no order, with an arbitrary place.
 fn no_order(refusal: Option<Refusal>) -> Result<usize, Refusal>
     ensures { result_err result ≡ refusal }
 {
@@ -29,7 +29,8 @@ fn no_order(refusal: Option<Refusal>) -> Result<usize, Refusal>
 }
 
 impl<B: OrderBook> Market<B> {
-    /// The place of the order that a message changes, or why the message is refused: the first check of its rules that fails.
+    /// Returns the place of the order that a message changes, or the reason why the message is refused: the first check of its rules that
+    /// fails.
     #[inline(always)]
     pub(super) fn check(&self, message: &Message<'_>) -> Result<usize, Refusal>
         ensures { result_err result ≡ reason self.now message.now }

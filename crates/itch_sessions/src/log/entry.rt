@@ -1,11 +1,11 @@
-//! What a line of the log says, as an event with fields.
+//! The lines of the log as events with fields.
 
 use crate::log::form::LogForm;
 use itch_status::UTC;
 use std::fmt::{self, Display, Formatter};
 use std::str;
 
-/// How much a line matters.
+/// The severity of a line.
 #[derive(Clone, Copy, Debug, PartialEq, Eq)]
 pub enum Level {
     Info,
@@ -25,10 +25,10 @@ impl Level {
 
 /// A line of the log, which is also an event with fields.
 pub trait Event: Display {
-    /// How much it matters.
+    /// Returns its severity.
     fn level(&self) -> Level;
 
-    /// What has happened.
+    /// Returns its name.
     fn name(&self) -> &'static str;
 
     /// Writes its fields.
@@ -46,7 +46,7 @@ pub fn write_number<W: fmt::Write>(
     write!(f, "{number}")
 }
 
-/// Writes a field with milliseconds, which are shown as seconds.
+/// Writes a field with milliseconds as seconds with three decimals.
 pub fn write_seconds<W: fmt::Write>(
     f: &mut Formatter<W>,
     form: LogForm,
@@ -58,7 +58,7 @@ pub fn write_seconds<W: fmt::Write>(
     write!(f, "{seconds}.{rest:03}")
 }
 
-/// Writes a field with a text of any kind.
+/// Writes a field with a text, which may contain any characters.
 pub fn write_text<W: fmt::Write>(
     f: &mut Formatter<W>,
     form: LogForm,
@@ -71,7 +71,7 @@ pub fn write_text<W: fmt::Write>(
     f.write_str("\"")
 }
 
-/// Writes a field with what is shown without quotation marks and reverse solidi.
+/// Writes a field whose displayed text contains no quotation marks or backslashes.
 pub fn write_shown<W: fmt::Write, D: Display>(
     f: &mut Formatter<W>,
     form: LogForm,
@@ -109,7 +109,7 @@ fn write_escaped<W: fmt::Write>(f: &mut Formatter<W>, text: &str) -> fmt::Result
     Ok(())
 }
 
-// Writes a character, with a reverse solidus before a quotation mark and a reverse solidus; a control character by its number.
+// Writes a character, with a backslash before a quotation mark or a backslash, and a control character as its code.
 fn write_escaped_character<W: fmt::Write>(f: &mut Formatter<W>, character: char) -> fmt::Result {
     match character {
         '"' => f.write_str("\\\""),
@@ -122,7 +122,7 @@ fn write_escaped_character<W: fmt::Write>(f: &mut Formatter<W>, character: char)
     }
 }
 
-/// An event at a moment, in a form.
+/// An event with its time, in a form.
 #[derive(Drop)]
 pub struct Line<'a, E> {
     pub time: Option<[u8; UTC]>,

@@ -1,12 +1,12 @@
 //! The form of the log.
 
-/// How the lines of a live server are written.
+/// The form of the log of a live server.
 #[derive(Clone, Copy, Debug, PartialEq, Eq)]
 pub enum LogForm {
-    /// As plain lines: those of connections on standard output, and the others on standard error.
+    /// Plain lines: those of connections on standard output, all others on standard error.
     Plain,
-    /// All on standard error, with the time, the level, the event and its fields.
+    /// Lines with the time, the level, the event and its fields, all on standard error.
     Text,
-    /// The same as objects of JSON.
+    /// The same as JSON objects.
     Json,
 }

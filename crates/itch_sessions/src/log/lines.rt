@@ -1,4 +1,4 @@
-//! The lines of a server besides those of its feed and its clients.
+//! The lines of a server other than those of its feed and its clients.
 
 use crate::log::entry::{Event, Level, write_number, write_shown};
 use crate::log::form::LogForm;
@@ -20,7 +20,7 @@ impl Event for Listening {
     }
 }
 
-/// The status port listens here.
+/// The status port listens on this address.
 #[derive(Drop)]
 pub struct StatusOn(pub SocketAddr);
 
@@ -45,7 +45,7 @@ impl Event for StatusOn {
     }
 }
 
-/// So many lines of the log were lost.
+/// The number of lines of the log that were lost.
 #[derive(Drop)]
 pub struct LinesLost(pub u64);
 
@@ -70,7 +70,7 @@ impl Event for LinesLost {
     }
 }
 
-/// What followed the last complete message of a record was dropped.
+/// The number of bytes after the last complete message of a record, which were dropped, and the number of its messages.
 #[derive(Drop)]
 pub struct Dropped {
     pub bytes: u64,

@@ -1,4 +1,4 @@
-//! One connection, served over its socket.
+//! Serves one connection over its socket.
 ghost use Rattle.std.specs.Prelude.{◌≡◌, ◌<◌, ◌-◌, ◌^◌, length, IfOk};
 ghost use Rattle.itch_snapshot.specs.Snapshot.{snap};
 ghost use Rattle.itch_sessions.specs.Sessions.{ServesPeer, ServesFlushed, EndsOver};
@@ -18,11 +18,14 @@ use std::io::{BufReader, BufWriter, Read, Write};
 use std::net::OpenStream;
 use std::rt::Clock;
 
-/// Files, streams and sockets are read and written in pieces of this many bytes.
+/// The size in bytes of the pieces in which files, streams and sockets are read and written.
 pub const PIECE: usize = 1 << 16;
 
-/// Serves the connection of a socket, which it reads by one handle, `stream`, and writes to by another, `answering`. The only
-/// error is out of memory.
+/// Serves the connection of a socket. `stream` is the handle for reading, `answering` the one for writing.
+///
+/// # Errors
+///
+/// [`SessionFault::OutOfMemory`] is the only one.
 pub fn serve_stream<R: Clock + Alloc, S: Read + Write + OpenStream + Drop, B: OrderBook>(
     rt: &R,
     stream: S,
@@ -42,7 +45,7 @@ pub fn serve_stream<R: Clock + Alloc, S: Read + Write + OpenStream + Drop, B: Or
     Ok(ending)
 }
 
-// Reads the blocks of a socket.
+// Returns a reader of the blocks of a socket.
 fn reader_of<R: Clock + Alloc, S: Read + OpenStream + Drop>(
     rt: &R,
     stream: S,
@@ -56,7 +59,7 @@ fn reader_of<R: Clock + Alloc, S: Read + OpenStream + Drop>(
     BlockReader::new(rt.alloc(), Buffered::new(buffered))
 }
 
-// Writes to a socket.
+// Returns a writer to a socket.
 fn writer_of<R: Clock + Alloc, S: Write + OpenStream + Drop>(
     rt: &R,
     stream: S,
@@ -83,7 +86,7 @@ fn serve_sides<R: CountedRead, A: Allocator, W: Write, B: OrderBook>(
     serve_peer(reader, writer, market, next, config)
 }
 
-/// Serves one peer over any reader and writer, and flushes what was written to it. `None` if either had a fault.
+/// Serves one peer over any reader and writer, and flushes the writer. Returns `None` if either had a fault.
 pub fn serve_peer<R: CountedRead, A: Allocator, W: Write, B: OrderBook>(
     reader: &mut BlockReader<R, A>,
     writer: &mut Sending<W>,

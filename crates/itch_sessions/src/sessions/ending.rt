@@ -1,4 +1,4 @@
-//! How a served connection ended, and its line.
+//! The end of a served connection, and its line.
 ghost use Rattle.std.specs.Prelude.{◌≡◌};
 ghost use Rattle.itch_sessions.specs.Outputs.{WritesText};
 ghost use Rattle.itch_sessions.specs.Sessions.{connection_line, departure_after};
@@ -12,6 +12,10 @@ use itch_soup::Served;
 pub type Ending = Option<Served>;
 
 /// Writes the line of a connection.
+///
+/// # Errors
+///
+/// [`SessionFault::Write`] if the output fails.
 pub fn write_ending<W: CountedWrite>(
     out: &mut W,
     number: u64,
@@ -22,7 +26,7 @@ pub fn write_ending<W: CountedWrite>(
     write_departure(out, number, departure_after(ending))
 }
 
-// The same as the end of any client's connection.
+// Returns the same as the end of any client's connection.
 fn departure_after(ending: &Ending) -> Departure
     ensures { result ≡ departure_after ending.now }
 {

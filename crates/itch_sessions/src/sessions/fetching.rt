@@ -1,4 +1,4 @@
-//! `fetch`: the snapshot that a server sends.
+//! `fetch`: fetches the snapshot of a server.
 ghost use Rattle.std.specs.Prelude.{true};
 ghost use Rattle.itch_sessions.specs.Outputs.{Outputs, closed_bytes};
 ghost use Rattle.itch_sessions.specs.Sessions.{FetchesMarket};
@@ -12,10 +12,14 @@ use itch_market::Market;
 use itch_soup::{Credentials, SoupFault, fetch_one};
 use std::alloc::Allocator;
 
-/// Logs in for all messages of the snapshot that a server has, and writes it in canonical form, closed with its number.
+/// Logs in for all messages of a server's snapshot, and writes it in canonical form, closed with its number.
 ///
-/// The login goes to `writer`; the answer is read from `reader`, up to the End of Snapshot and no further. The snapshot is
-/// written after it was received whole: if the session has a fault, `Soup`, nothing is written to the output.
+/// The login is written to `writer`. The answer is read from `reader`, up to the End of Snapshot and no further. The snapshot is written
+/// after it was received completely.
+///
+/// # Errors
+///
+/// [`SessionFault::Soup`] if the session has a fault; nothing is written to the output then. [`SessionFault::Write`] if the output fails.
 pub fn fetch<R: CountedRead, B: Allocator, A: Allocator + Copy, V: CountedWrite, W: CountedWrite>(
     alloc: A,
     reader: &mut BlockReader<R, B>,
@@ -30,7 +34,7 @@ pub fn fetch<R: CountedRead, B: Allocator, A: Allocator + Copy, V: CountedWrite,
     fetch_over::<R, B, SettledBook<A>, V, W>(alloc, reader, writer, credentials, out)
 }
 
-// The same with any book of orders.
+// The same with any type of order book.
 fn fetch_over<R: CountedRead, A: Allocator, B: OrderBook, V: CountedWrite, W: CountedWrite>(
     alloc: B::Alloc,
     reader: &mut BlockReader<R, A>,

@@ -1,4 +1,4 @@
-//! The user name and the password of the command line.
+//! The user name and the password of a login.
 ghost use Rattle.std.specs.Prelude.{◌≡◌, ◌==◌, ◌↔◌, IsSome, IfSome, [], codes};
 ghost use Rattle.std.specs.List.{before_first};
 ghost use Rattle.itch_codec.specs.Text.{padded_to};
@@ -9,9 +9,9 @@ use itch_codec::Alpha;
 use itch_soup::{Credentials, ServerConfig};
 use std::fmt::{self, Debug, Formatter};
 
-/// A user name and a password, as a login has them.
+/// A user name and a password, padded as in a login.
 ///
-/// `{:?}` leaves the password out.
+/// `{:?}` omits the password.
 #[derive(Clone, Copy, PartialEq, Eq)]
 pub struct Login {
     pub username: Alpha<6>,
@@ -27,7 +27,11 @@ impl Debug for Login {
 }
 
 impl Login {
-    /// Takes a user name of 1 to 6 and a password of 1 to 10 printable characters; the user name is checked first.
+    /// Checks a user name of 1 to 6 and a password of 1 to 10 printable characters, the user name first.
+    ///
+    /// # Errors
+    ///
+    /// [`SessionFault::BadUser`] or [`SessionFault::BadPassword`].
     pub fn new(user: &str, password: &str) -> Result<Login, SessionFault>
         ensures { ReadsLogin user.now password.now result }
     {
@@ -40,7 +44,7 @@ impl Login {
         }
     }
 
-    /// The login that a server of this session accepts.
+    /// Returns the configuration of a server with this session that accepts this login.
     pub fn config(&self, served: Alpha<10>) -> ServerConfig
         ensures username { result.username ≡ self.now.username }
         ensures password { result.password ≡ self.now.password }
@@ -53,7 +57,7 @@ impl Login {
         }
     }
 
-    /// What a client logs in with, for this session, or for whichever is served if it is blank.
+    /// Returns the credentials of a client for this session. A blank session means the current one.
     pub fn credentials(&self, asked: Alpha<10>) -> Credentials
         ensures username { result.username ≡ self.now.username }
         ensures password { result.password ≡ self.now.password }
@@ -67,21 +71,21 @@ impl Login {
     }
 }
 
-/// The session of a server that is told no other: `ITCHSNAP`.
+/// Returns the default session of a server: `ITCHSNAP`.
 pub fn default_session() -> Alpha<10>
     ensures { result ≡ padded_to 10 (codes "ITCHSNAP") }
 {
     Alpha::from_text("ITCHSNAP").unwrap()
 }
 
-/// The name by which a login asks for the current session.
+/// Returns the blank name by which a login asks for the current session.
 pub fn current_session() -> Alpha<10>
     ensures { result ≡ padded_to 10 [] }
 {
     Alpha::from_text("").unwrap()
 }
 
-/// The first line of a text, without its line ending.
+/// Returns the first line of a text, without its line ending.
 pub fn first_line(text: &str) -> &str
     ensures { result.now ≡ without_return (before_first (λ byte. byte == 10) text.now) }
 {
@@ -91,7 +95,7 @@ pub fn first_line(text: &str) -> &str
     }
 }
 
-/// A line without the carriage return at its end, if it has one.
+/// Returns a line without the carriage return at its end, if it has one.
 pub fn without_return(line: &str) -> &str
     ensures { result.now ≡ without_return line.now }
 {
@@ -101,7 +105,7 @@ pub fn without_return(line: &str) -> &str
     }
 }
 
-// A text of at least one character that fits its field.
+// Returns a text padded to its field, if it has at least one character and fits.
 fn word<const N: usize>(text: &str) -> Option<Alpha<N>>
     ensures taken { IsSome result ↔ IsWord N text.now }
     ensures padded { IfSome result (λ word. word ≡ padded_to N text.now) }

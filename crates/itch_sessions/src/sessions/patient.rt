@@ -1,4 +1,4 @@
-//! Sockets with a deadline: a peer that is silent, or takes little, cannot block the server for long.
+//! Sockets with a deadline: a peer that is silent, or accepts little, cannot block the server for long.
 ghost use Rattle.std.specs.Prelude.{◌≡◌, ◌+◌, ◌≤◌, ◌<◌, MatchOption};
 ghost use Rattle.std.specs.Duration.{as_nanos};
 ghost use Rattle.itch_sessions.specs.Patience.{patience};
@@ -8,13 +8,13 @@ use std::net::{OpenStream, Shutdown};
 use std::rt::Clock;
 use std::time::{Duration, Instant};
 
-// After so long SoupBinTCP holds a silent peer for lost.
+// SoupBinTCP considers a peer lost after this many seconds of silence.
 const FIRST_SECONDS: u64 = 15;
 
-// A peer that takes less than this of a long answer in a second is cut off.
+// A peer that accepts fewer bytes of a long answer per second is disconnected.
 const BYTES_A_SECOND: u64 = 1 << 16;
 
-/// How much longer a peer may take that took this many bytes of its answer in this time, or `None` if its time is over.
+/// Returns how much more time a peer has that has accepted this many bytes of its answer in this time, or `None` if its time is over.
 ///
 /// It has 15 seconds, and one more for each 64 KiB.
 pub fn time_left(taken: u64, spent: Duration) -> Option<Duration>
@@ -28,7 +28,7 @@ pub fn time_left(taken: u64, spent: Duration) -> Option<Duration>
 
 /// Reads or writes a socket while its peer has time left. A call that would wait longer fails.
 ///
-/// The time begins with the first call. All reads together have 15 seconds; writes have more the more bytes the system took.
+/// The time begins with the first call. All reads together have 15 seconds. Writes have more time, the more bytes the system has accepted.
 #[derive(Drop)]
 pub struct Patient<'a, S, C> {
     stream: S,
@@ -38,7 +38,7 @@ pub struct Patient<'a, S, C> {
 }
 
 impl<'a, S, C: Clock> Patient<'a, S, C> {
-    /// Nothing was read or written yet.
+    /// Creates one before the first call.
     pub fn new(stream: S, clock: &'a C) -> Patient<'a, S, C>
         ensures { result.stream ≡ stream }
     {
@@ -50,7 +50,7 @@ impl<'a, S, C: Clock> Patient<'a, S, C> {
         }
     }
 
-    // How long the next call may wait.
+    // Returns how long the next call may wait.
     fn left(&mut self) -> io::Result<Duration>
         ensures { self.new.stream ≡ self.old.stream }
     {
@@ -63,7 +63,7 @@ impl<'a, S, C: Clock> Patient<'a, S, C> {
 impl<S: Read + OpenStream, C: Clock> Read for Patient<'_, S, C> {
     ghost remaining = { λ p. S.remaining p.stream };
 
-    // A read with a time limit ends with `Interrupted` when the process is stopped and continued. It is tried again for the time that is left.
+    // A read with a time limit ends with `Interrupted` if the process is stopped and continued. It is repeated with the remaining time.
     fn read(&mut self, buf: &mut [u8]) -> io::Result<usize> {
         for _ in 0..u64::MAX {
             let left = self.left()?;
@@ -94,11 +94,11 @@ impl<S: Write + OpenStream, C: Clock> Write for Patient<'_, S, C> {
 }
 
 impl<S: Read + OpenStream, C: Clock> Patient<'_, S, C> {
-    /// Ends the sending side, and ignores what the peer sends until the peer has ended too, or its time is over. It does not wait
-    /// for a peer that took nothing.
+    /// Shuts down the sending half, and ignores further bytes from the peer until the peer has closed its half too, or its time is over. It
+    /// does not wait for a peer that has accepted nothing.
     ///
-    /// If a socket is closed with bytes unread, or if bytes arrive later, its connection is reset, and the peer may lose the end
-    /// of its answer.
+    /// If a socket is closed with unread bytes, or if bytes arrive later, its connection is reset, and the peer may lose the end of its
+    /// answer.
     pub fn hang_up(&mut self) {
         let _ = self.stream.shutdown(Shutdown::Write);
         if self.taken == 0 {

@@ -1,4 +1,4 @@
-//! `fetch --from`: the messages of a server's snapshot from a number on.
+//! `fetch --from`: fetches the messages of a server's snapshot from a number on.
 ghost use Rattle.std.specs.Prelude.{true};
 ghost use Rattle.itch_sessions.specs.Outputs.{Outputs, WritesText};
 ghost use Rattle.itch_sessions.specs.Sessions.{FetchesBytes};
@@ -9,11 +9,14 @@ use itch_frame::{BlockReader, CountedRead, CountedWrite};
 use itch_soup::Credentials;
 use std::alloc::Allocator;
 
-/// Logs in for the messages from number `from` on of the snapshot that a server has, and writes their blocks as they came, up to
-/// the End of Snapshot.
+/// Logs in for the messages of a server's snapshot from number `from` on, and writes their blocks as received, up to the End of Snapshot.
 ///
-/// The login goes to `writer`; the answer is read from `reader`, up to the End of Snapshot and no further. The blocks are written
-/// after all were received: if the session has a fault, `Soup`, nothing is written to the output.
+/// The login is written to `writer`. The answer is read from `reader`, up to the End of Snapshot and no further. The blocks are written after
+/// all were received.
+///
+/// # Errors
+///
+/// [`SessionFault::Soup`] if the session has a fault; nothing is written to the output then. [`SessionFault::Write`] if the output fails.
 pub fn fetch_rest<R, B, A, V, W>(
     alloc: A,
     reader: &mut BlockReader<R, B>,
@@ -41,7 +44,7 @@ where
     }
 }
 
-// Writes bytes as they are, however many.
+// Writes any number of bytes.
 fn write_bytes<W: CountedWrite>(bytes: &[u8], out: &mut W) -> Result<(), SessionFault>
     ensures { WritesText W.contents W.failures bytes.now out.old result out.new }
 {

@@ -7,7 +7,7 @@ use itch_frame::CountedWrite;
 use itch_frame::tally::Failures;
 use std::io::{self, ErrorKind, Write};
 
-/// Counts the failures of a standard writer, as `Counted` does, and those of its flush too.
+/// Counts the failures of a standard writer, as `Counted` does, and also those of its flush.
 #[derive(Drop)]
 pub struct Sending<W> {
     inner: W,
@@ -15,7 +15,7 @@ pub struct Sending<W> {
 }
 
 impl<W: Write> Sending<W> {
-    /// Counts from 0.
+    /// Creates one with a count of 0.
     pub fn new(inner: W) -> Sending<W>
         ensures inner { result.inner ≡ inner }
         ensures count { result.failures.count ≡ 0 }
@@ -27,7 +27,11 @@ impl<W: Write> Sending<W> {
         }
     }
 
-    /// Flushes what the writer inside still holds. An `Err` is counted.
+    /// Flushes the inner writer. An error is counted.
+    ///
+    /// # Errors
+    ///
+    /// The error of the inner writer.
     pub fn flush(&mut self) -> io::Result<()>
         ensures bytes { Keeps (W.contents self.old.inner) (W.contents self.new.inner) }
         ensures count { CountsErr result self.old.failures self.new.failures }
@@ -38,14 +42,14 @@ impl<W: Write> Sending<W> {
         }
     }
 
-    /// The failures so far.
+    /// Returns the failures so far.
     pub fn failures(&self) -> Failures
         ensures { result ≡ self.now.failures }
     {
         self.failures
     }
 
-    /// The writer inside.
+    /// Returns the inner writer.
     pub fn into_inner(self) -> W
         ensures { result ≡ self.inner }
     {

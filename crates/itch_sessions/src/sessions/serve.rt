@@ -1,4 +1,4 @@
-//! `serve`: a market served to one connection after another.
+//! `serve`: serves a market to one connection after another.
 ghost use Rattle.std.specs.Prelude.{◌<◌, ◌-◌, ◌+◌, ◌^◌, length, IfErr};
 ghost use Rattle.itch_snapshot.specs.Snapshot.{snap};
 ghost use Rattle.itch_sessions.specs.Sessions.{IsUnserved, ServesMarket, ServesNext, ServesOn};
@@ -18,10 +18,13 @@ use std::io;
 use std::net::{Net, OpenListener, OpenStream, SocketAddr, TcpListener};
 use std::rt::Clock;
 
-/// Serves a market on a port of this machine, as [`serve_on`] does, with this number. The port 0 is a free one. A line on standard error
-/// says when the port is listened on, and which it is.
+/// Serves a market with this number on a port of this machine, as [`serve_on`] does. Port 0 is replaced by a free one. A line on standard
+/// error reports the address when the port is ready.
 ///
-/// If its snapshot has too many messages (`TooMany`), nothing is served. `Socket` if the port cannot be listened on.
+/// # Faults
+///
+/// `TooMany` if the snapshot has too many messages: nothing is served then. `Socket` if the port cannot be bound. Otherwise those of
+/// [`serve_on`].
 pub fn serve_market<R, B: OrderBook, W: CountedWrite>(
     rt: &R,
     market: &Market<B>,
@@ -42,7 +45,7 @@ where
     serve_on(rt, &listener, market, next, config, count, out)
 }
 
-// Listens on a port, and says so.
+// Listens on a port, and prints its address.
 fn listen<N: Net + Eprint>(net: &N, address: SocketAddr) -> Result<N::Listener, SessionFault>
     ensures { IfErr result IsUnserved }
 {
@@ -55,14 +58,14 @@ fn listen<N: Net + Eprint>(net: &N, address: SocketAddr) -> Result<N::Listener, 
     }
 }
 
-// Binds a port. Returns its address too, since the port 0 becomes another one.
+// Binds a port. Returns its address too, because port 0 is replaced by another one.
 fn bind<N: Net>(net: &N, address: SocketAddr) -> io::Result<(N::Listener, SocketAddr)> {
     let listener = TcpListener::bind(net, address)?;
     let address = listener.local_addr()?;
     Ok((listener, address))
 }
 
-/// The line that reports that the server listens on a port, without its line feed.
+/// The line that reports the address of a listening server, without its line feed.
 #[derive(Clone, Copy, Debug)]
 pub struct Listening(pub SocketAddr);
 
@@ -73,16 +76,15 @@ impl Display for Listening {
     }
 }
 
-/// Serves a market to `count` connections, one after another, and writes a line for each: how it was answered, or that it had a
-/// fault. A fault ends that connection alone. A peer has 15 seconds for its login, and as long for its answer and one more for
-/// each 64 KiB of it.
+/// Serves a market to `count` connections, one after another, and writes a line for each: how it was answered, or that it had a fault. A
+/// fault ends only that connection. A peer has 15 seconds for its login, and 15 seconds for its answer plus one more second per 64 KiB.
 ///
-/// The caller keeps the snapshot below 10^19 - 1 messages: `snapshot_len` counts them.
+/// The caller keeps the snapshot below 10^19 - 1 messages, as counted by `snapshot_len`.
 ///
 /// # Faults
 ///
-/// `Socket` if a connection cannot be accepted, `OutOfMemory` if there is no memory for one, and `Write` if its line cannot be
-/// written: the lines of the connections before were written.
+/// `Socket` if a connection cannot be accepted, `OutOfMemory` if there is no memory for one, and `Write` if its line cannot be written. The
+/// lines of the connections before it were written.
 pub fn serve_on<R: Clock + Alloc + Net, B: OrderBook, W: CountedWrite>(
     rt: &R,
     listener: &R::Listener,
@@ -122,7 +124,7 @@ fn serve_next<R: Clock + Alloc + Net, B: OrderBook, W: CountedWrite>(
     write_ending(out, number, &ending)
 }
 
-// Accepts the next connection, and gives two handles of its socket.
+// Accepts the next connection, and returns two handles of its socket.
 fn accept<N: Net>(listener: &N::Listener) -> io::Result<(N::Stream, N::Stream)> {
     let (stream, _) = listener.accept()?;
     let answering = stream.try_clone()?;

@@ -12,6 +12,10 @@ use itch_market::Market;
 use itch_snapshot::write_snapshot_of;
 
 /// Writes the snapshot of a market, closed with this number.
+///
+/// # Errors
+///
+/// [`SessionFault::Write`] if the output fails.
 pub fn write_closed<B: OrderBook, W: CountedWrite>(
     market: &Market<B>,
     next: Seq,
@@ -28,6 +32,10 @@ pub fn write_closed<B: OrderBook, W: CountedWrite>(
 }
 
 /// Writes a text as it is.
+///
+/// # Errors
+///
+/// [`SessionFault::Write`] if the output fails.
 pub fn write_text<W: CountedWrite>(text: &[u8], out: &mut W) -> Result<(), SessionFault>
     requires { length text.now < 65538 }
     ensures { WritesText W.contents W.failures text.now out.old result out.new }

@@ -1,4 +1,4 @@
-//! The rest of a snapshot, fetched from a number on.
+//! Fetches the rest of a snapshot from a number on.
 ghost use Rattle.std.specs.Prelude.{◌≡◌, ℕ, List, [], OnOk};
 ghost use Rattle.itch_frame.specs.Blocks.{IsPayload};
 ghost use Rattle.itch_frame.specs.Reading.{bytes_left};
@@ -43,14 +43,14 @@ impl<A: Allocator> Rest<A> {
         }
     }
 
-    /// The bytes of the blocks, one after another.
+    /// Returns the bytes of the blocks, one after another.
     pub fn bytes(&self) -> &[u8]
         ensures { result.now ≡ self.now }
     {
         self.bytes.as_slice()
     }
 
-    // Adds the block of a payload.
+    // Appends the block of a payload.
     fn push(&mut self, payload: &[u8]) -> Result<(), AllocError>
         requires { IsPayload payload.now }
         ensures { OnOk result (self.new ≡ self.old ++ block payload.now) }
@@ -61,15 +61,15 @@ impl<A: Allocator> Rest<A> {
     }
 }
 
-/// Fetches the rest of a snapshot: writes a login that asks for the messages from number `from` on, and reads up to the End of
-/// Snapshot, no further. It returns the blocks of the messages as they came, the End of Snapshot among them.
+/// Fetches the rest of a snapshot: writes a login that requests the messages from number `from` on, and reads up to the End of Snapshot, but
+/// no further. It returns the blocks of the messages as received, including the End of Snapshot.
 ///
-/// A part of a snapshot is no market, so that no order rule is applied: each message has to spell one, and that is all.
+/// Part of a snapshot is not a market, so no order rule is applied: each payload only has to be a valid message.
 ///
 /// # Faults
 ///
-/// As for [`fetch_one`](crate::fetch_one), with `from` in place of 1. A message is refused, `Snapshot`, if it spells none, or
-/// memory for it runs out; its place is its number in the session.
+/// As for [`fetch_one`](crate::fetch_one), with `from` in place of 1. A message is refused, `Snapshot`, if its payload is not a valid
+/// message, or if memory runs out for it; its place is its number in the session.
 pub fn fetch_rest<R: CountedRead, A: Allocator, W: CountedWrite, B: Allocator>(
     alloc: B,
     reader: &mut BlockReader<R, A>,
@@ -105,7 +105,7 @@ fn receive<R: CountedRead, A: Allocator, B: Allocator>(
     unreachable!()
 }
 
-// Takes the next packet, unless as many were read as may be (`enough`). True if it closes the snapshot.
+// Takes the next packet, unless the maximum number was read (`enough`). Returns true if it closes the snapshot.
 fn take_packet<R: CountedRead, A: Allocator, B: Allocator>(
     reader: &mut BlockReader<R, A>,
     session: &mut ClientSession,
@@ -136,7 +136,7 @@ fn take_packet<R: CountedRead, A: Allocator, B: Allocator>(
     }
 }
 
-// Keeps the message of this number. True if it is End of Snapshot.
+// Keeps the message with this number. Returns true if it is End of Snapshot.
 fn keep_message<A: Allocator>(
     rest: &mut Rest<A>,
     number: u64,

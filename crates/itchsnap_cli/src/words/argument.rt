@@ -3,9 +3,8 @@
 use clap::{Arg, ArgAction};
 use std::alloc::{AllocError, Global};
 
-/// An argument of a command. `RequiredUnless` is required unless another option is given, and `Repeated` is a required option that can be
-/// given more than once.
-/// than once.
+/// An argument of a command. `RequiredUnless` and `WordUnless` are required unless another option is given, `Repeated` is a required option
+/// that can be given more than once, and `Hidden` is an option that is accepted, but neither shown nor completed.
 #[derive(Clone, Copy)]
 pub enum Argument {
     Word {
@@ -14,6 +13,16 @@ pub enum Argument {
     },
     RequiredWord {
         id: &'static str,
+        help: &'static str,
+    },
+    WordUnless {
+        id: &'static str,
+        other: &'static str,
+        help: &'static str,
+    },
+    ChosenWord {
+        id: &'static str,
+        choices: &'static [&'static str],
         help: &'static str,
     },
     Flag {
@@ -41,15 +50,20 @@ pub enum Argument {
         value: Value,
         help: &'static str,
     },
+    Hidden {
+        long: &'static str,
+        value: Value,
+    },
 }
 
-/// The value of an option, with its name in the help. A `Range` has its least and its greatest number.
+/// The value of an option, with its name in the help. A `Range` has its least and its greatest number, and a `Choice` its words.
 #[derive(Clone, Copy)]
 pub enum Value {
     Text(&'static str),
     Path(&'static str),
     Number(&'static str),
     Range(&'static str, i64, i64),
+    Choice(&'static str, &'static [&'static str]),
 }
 
 impl Argument {
@@ -58,6 +72,12 @@ impl Argument {
         let arg = match self {
             Argument::Word { id, .. } => Arg::new(alloc, id),
             Argument::RequiredWord { id, .. } => Arg::new(alloc, id).required(true),
+            Argument::WordUnless { id, other, .. } => {
+                Arg::new(alloc, id).required_unless_present(other)?
+            }
+            Argument::ChosenWord { id, choices, .. } => Arg::new(alloc, id)
+                .required(true)
+                .value_parser(choices),
             Argument::Flag { long, .. } => Arg::new(alloc, long)
                 .long(long)
                 .action(ArgAction::SetTrue),
@@ -73,19 +93,36 @@ impl Argument {
                 .arg(alloc, long)
                 .required(true)
                 .action(ArgAction::Append),
+            Argument::Hidden { long, value } => value.arg(alloc, long).hide(true),
         };
         Ok(arg.help(self.help()))
     }
 
-    /// Returns the name of a flag or an option, without its hyphens.
+    /// Returns the name of a flag or an option, without its hyphens, if the help shows it.
     pub fn long(self) -> Option<&'static str> {
         match self {
-            Argument::Word { .. } | Argument::RequiredWord { .. } => None,
             Argument::Flag { long, .. }
             | Argument::Optional { long, .. }
             | Argument::Required { long, .. }
             | Argument::RequiredUnless { long, .. }
             | Argument::Repeated { long, .. } => Some(long),
+            _ => None,
+        }
+    }
+
+    /// Returns the name by which clap knows the argument.
+    pub fn id(self) -> &'static str {
+        match self {
+            Argument::Word { id, .. }
+            | Argument::RequiredWord { id, .. }
+            | Argument::WordUnless { id, .. }
+            | Argument::ChosenWord { id, .. } => id,
+            Argument::Flag { long, .. }
+            | Argument::Optional { long, .. }
+            | Argument::Required { long, .. }
+            | Argument::RequiredUnless { long, .. }
+            | Argument::Repeated { long, .. }
+            | Argument::Hidden { long, .. } => long,
         }
     }
 
@@ -95,7 +132,16 @@ impl Argument {
             Argument::Optional { value, .. }
             | Argument::Required { value, .. }
             | Argument::RequiredUnless { value, .. }
-            | Argument::Repeated { value, .. } => Some(value),
+            | Argument::Repeated { value, .. }
+            | Argument::Hidden { value, .. } => Some(value),
+            _ => None,
+        }
+    }
+
+    /// Returns the words from which a positional argument is chosen.
+    pub fn choices(self) -> Option<&'static [&'static str]> {
+        match self {
+            Argument::ChosenWord { choices, .. } => Some(choices),
             _ => None,
         }
     }
@@ -105,11 +151,14 @@ impl Argument {
         match self {
             Argument::Word { help, .. }
             | Argument::RequiredWord { help, .. }
+            | Argument::WordUnless { help, .. }
+            | Argument::ChosenWord { help, .. }
             | Argument::Flag { help, .. }
             | Argument::Optional { help, .. }
             | Argument::Required { help, .. }
             | Argument::RequiredUnless { help, .. }
             | Argument::Repeated { help, .. } => help,
+            Argument::Hidden { .. } => "",
         }
     }
 }
@@ -124,6 +173,7 @@ impl Value {
             Value::Range(name, least, most) => arg
                 .value_name(name)
                 .value_parser(clap::value_parser!(u64).range(least..=most)),
+            Value::Choice(name, choices) => arg.value_name(name).value_parser(choices),
         }
     }
 }

@@ -1,6 +1,7 @@
 //! The arguments that several commands take.
 
 use crate::words::argument::{Argument, Value};
+use crate::words::commands::Rule;
 
 /// The greatest number for `--after`, `--every` and `--depth`.
 pub const MOST_COUNTED: i64 = 999_999_999_999;
@@ -56,6 +57,12 @@ pub const STOCK: Argument = Argument::Optional {
     help: "Keep only the locates with these stocks, such as AAPL,MSFT",
 };
 
+pub const TYPES: Argument = Argument::Optional {
+    long: "types",
+    value: Value::Text("LETTERS"),
+    help: "Take only messages of these types, such as AEX",
+};
+
 pub const JSON: Argument = Argument::Flag {
     long: "json",
     help: "Print JSON, one object per line",
@@ -76,69 +83,67 @@ pub const PROGRESS: Argument = Argument::Flag {
 pub const FEED: Argument = Argument::Repeated {
     long: "feed",
     value: Value::Text("HOST:PORT"),
-    help: "The server of the live feed; repeat the option to name standby servers",
+    help: "Follow the feed of this server; repeat the option to name standby servers, 8 in all",
 };
 
 pub const FEED_SESSION: Argument = Argument::Optional {
     long: "session",
     value: Value::Text("S"),
-    help: "The feed's session [default: the record's, or the first that the feed names]",
+    help: "Request this session of the feed [default: the record's, or the first that the feed names]",
 };
 
 pub const GLIMPSE_SESSION: Argument = Argument::Optional {
     long: "glimpse-session",
     value: Value::Text("S"),
-    help: "The session of the snapshot server [default: the feed's]",
+    help: "Request this session of the snapshot server [default: the feed's]",
 };
 
 // The address on which a server listens, and its session.
 pub const BIND: Argument = Argument::Optional {
     long: "bind",
     value: Value::Text("ADDRESS"),
-    help: "The IPv4 or IPv6 address to listen on [default: 127.0.0.1]",
+    help: "Listen on this IPv4 or IPv6 address [default: 127.0.0.1]",
 };
 
 pub const PORT: Argument = Argument::Required {
     long: "port",
     value: Value::Range("P", 0, 65_535),
-    help: "The port to listen on; 0 chooses a free one",
+    help: "Listen on this port; 0 chooses a free one [0..65535]",
 };
 
 pub const SESSION: Argument = Argument::Optional {
     long: "session",
     value: Value::Text("S"),
-    help: "The session name that logins must give: 1 to 10 printable characters",
+    help: "Accept logins to this session, a name of 1 to 10 printable characters",
 };
 
 // The login of a server and of its client.
-pub const USER: Argument = Argument::Required {
-    long: "user",
-    value: Value::Text("U"),
-    help: "The user name: 1 to 6 printable characters",
-};
-
-// The users of a server that may have several.
-pub const ONE_USER: Argument = Argument::RequiredUnless {
-    long: "user",
-    other: "users",
-    value: Value::Text("U"),
-    help: "The user name: 1 to 6 printable characters",
-};
-
-pub const USERS: Argument = Argument::Optional {
-    long: "users",
-    value: Value::Path("FILE"),
-    help: "A file with a line USER:PASSWORD for each user, instead of --user and its password",
-};
-
 pub const PASSWORD: Argument = Argument::Optional {
     long: "pass",
     value: Value::Text("W"),
-    help: "The password: 1 to 10 printable characters",
+    help: "Use this password, 1 to 10 printable characters, which everyone on the machine can see",
 };
 
 pub const PASSWORD_FILE: Argument = Argument::Optional {
     long: "pass-file",
     value: Value::Path("FILE"),
-    help: "A file whose first line is the password [default: the variable ITCHSNAP_PASS]",
+    help: "Read the password from the first line of FILE [env: ITCHSNAP_PASS]",
 };
+
+pub const USERS: Argument = Argument::Optional {
+    long: "users",
+    value: Value::Path("FILE"),
+    help: "Accept the users of FILE, with a line USER:PASSWORD for each, instead of --user and its password",
+};
+
+// Rules of several commands.
+pub const ONE_PASSWORD: Rule = Rule::Excludes("pass", "pass-file");
+
+pub const ONE_SELECTION: Rule = Rule::Excludes("only", "stock");
+
+pub const JSON_OR_CSV: Rule = Rule::Excludes("json", "csv");
+
+// A snapshot is read to its end.
+pub const NOT_AFTER: Rule = Rule::Excludes("snapshot", "after");
+
+pub const NOT_UNTIL: Rule = Rule::Excludes("snapshot", "until");

@@ -1,11 +1,8 @@
 //! Completions of the command line, as a script that a shell reads.
 
-use crate::words::argument::Value;
+use crate::words::argument::{Argument, Value};
 use crate::words::commands::{COMMANDS, Entry};
 use std::fmt::{self, Display, Formatter};
-
-/// The values of the argument of `completions`.
-const SHELLS: &str = "bash zsh fish";
 
 const BASH_HEAD: &str = r#"_itchsnap() {
     local words= typed=${COMP_WORDS[COMP_CWORD]}
@@ -89,14 +86,28 @@ fn write_bash<W: fmt::Write>(f: &mut Formatter<W>) -> fmt::Result {
 
 fn write_bash_command<W: fmt::Write>(command: &Entry, f: &mut Formatter<W>) -> fmt::Result {
     write!(f, "        *:{}) words=\"", command.name)?;
-    for argument in command.takes {
-        match argument.long() {
-            Some(long) => write!(f, "--{long} ")?,
-            None if command.name == "completions" => write!(f, "{SHELLS} ")?,
-            None => {}
+    for word in command.words {
+        write_choices(word.choices(), f)?;
+    }
+    for group in command.groups {
+        for argument in group.takes {
+            if let Some(long) = argument.long() {
+                write!(f, "--{long} ")?;
+            }
         }
     }
     f.write_str("--help\" ;;\n")
+}
+
+// Writes the words from which an argument is chosen, each with a space after it.
+fn write_choices<W: fmt::Write>(
+    choices: Option<&'static [&'static str]>,
+    f: &mut Formatter<W>,
+) -> fmt::Result {
+    for choice in choices.unwrap_or(&[]) {
+        write!(f, "{choice} ")?;
+    }
+    Ok(())
 }
 
 fn write_zsh<W: fmt::Write>(f: &mut Formatter<W>) -> fmt::Result {
@@ -115,32 +126,46 @@ fn write_zsh<W: fmt::Write>(f: &mut Formatter<W>) -> fmt::Result {
 fn write_zsh_command<W: fmt::Write>(command: &Entry, f: &mut Formatter<W>) -> fmt::Result {
     let name = command.name;
     write!(f, "        {name}) _arguments '--help[Print help]'")?;
-    for argument in command.takes {
-        if let Some(long) = argument.long() {
-            let help = Quoted(Shell::Zsh, argument.help());
-            let value = match argument.value() {
-                None => "",
-                Some(Value::Path(_)) => ":file:_files",
-                Some(_) => ":value:",
-            };
-            write!(f, " \\\n            '--{long}[{help}]{value}'")?;
+    for group in command.groups {
+        for argument in group.takes {
+            write_zsh_option(argument, f)?;
         }
     }
-    if name == "completions" {
-        writeln!(f, " \\\n            '1:shell:({SHELLS})' ;;")
-    } else {
-        f.write_str(" \\\n            '*:file:_files' ;;\n")
+    f.write_str(" \\\n            ")?;
+    match command.words.first().and_then(|word| word.choices()) {
+        Some(choices) => {
+            f.write_str("'1:word:(")?;
+            write_choices(Some(choices), f)?;
+            f.write_str(")' ;;\n")
+        }
+        None => f.write_str("'*:file:_files' ;;\n"),
     }
+}
+
+fn write_zsh_option<W: fmt::Write>(argument: &Argument, f: &mut Formatter<W>) -> fmt::Result {
+    let Some(long) = argument.long() else {
+        return Ok(());
+    };
+    let help = Quoted(Shell::Zsh, argument.help());
+    write!(f, " \\\n            '--{long}[{help}]")?;
+    match argument.value() {
+        None => {}
+        Some(Value::Path(_)) => f.write_str(":file:_files")?,
+        Some(Value::Choice(_, choices)) => {
+            f.write_str(":value:(")?;
+            write_choices(Some(choices), f)?;
+            f.write_str(")")?;
+        }
+        Some(_) => f.write_str(":value:")?,
+    }
+    f.write_str("'")
 }
 
 fn write_fish<W: fmt::Write>(f: &mut Formatter<W>) -> fmt::Result {
     for command in &COMMANDS {
         write_fish_command(command, f)?;
     }
-    writeln!(
-        f,
-        "complete -c itchsnap -n '__fish_seen_subcommand_from completions' -f -a '{SHELLS}'"
-    )
+    Ok(())
 }
 
 fn write_fish_command<W: fmt::Write>(command: &Entry, f: &mut Formatter<W>) -> fmt::Result {
@@ -150,21 +175,48 @@ fn write_fish_command<W: fmt::Write>(command: &Entry, f: &mut Formatter<W>) -> f
         f,
         "complete -c itchsnap -n __fish_use_subcommand -f -a {name} -d '{about}'"
     )?;
-    for argument in command.takes {
-        if let Some(long) = argument.long() {
-            let help = Quoted(Shell::Fish, argument.help());
-            let value = match argument.value() {
-                None => "",
-                Some(Value::Path(_)) => " -r",
-                Some(_) => " -x",
-            };
-            writeln!(
-                f,
-                "complete -c itchsnap -n '__fish_seen_subcommand_from {name}' -l {long}{value} -d '{help}'"
-            )?;
+    for group in command.groups {
+        for argument in group.takes {
+            write_fish_option(name, argument, f)?;
         }
     }
-    Ok(())
+    match command.words.first().and_then(|word| word.choices()) {
+        Some(choices) => {
+            write!(
+                f,
+                "complete -c itchsnap -n '__fish_seen_subcommand_from {name}' -f -a '"
+            )?;
+            write_choices(Some(choices), f)?;
+            f.write_str("'\n")
+        }
+        None => Ok(()),
+    }
+}
+
+fn write_fish_option<W: fmt::Write>(
+    name: &str,
+    argument: &Argument,
+    f: &mut Formatter<W>,
+) -> fmt::Result {
+    let Some(long) = argument.long() else {
+        return Ok(());
+    };
+    write!(
+        f,
+        "complete -c itchsnap -n '__fish_seen_subcommand_from {name}' -l {long}"
+    )?;
+    match argument.value() {
+        None => {}
+        Some(Value::Path(_)) => f.write_str(" -r")?,
+        Some(Value::Choice(_, choices)) => {
+            f.write_str(" -x -a '")?;
+            write_choices(Some(choices), f)?;
+            f.write_str("'")?;
+        }
+        Some(_) => f.write_str(" -x")?,
+    }
+    let help = Quoted(Shell::Fish, argument.help());
+    writeln!(f, " -d '{help}'")
 }
 
 // A text between the single quotes of a shell's script.

@@ -2,8 +2,12 @@
 ghost use Rattle.std.specs.Prelude.{◌≡◌, option_map};
 ghost use Rattle.itchsnap_cli.specs.Jobs.{output_of, writes_snapshot};
 
-use crate::words::commands::{command, usage_fault};
+use crate::words::books::{BookWords, read_book_words};
+use crate::words::commands::command;
 use crate::words::completions::Shell;
+use crate::words::fault::{Fault, usage_fault};
+use crate::words::help::with_program_help;
+use crate::words::history::{HistoryWords, read_history};
 use crate::words::live::{FeedWords, FollowWords, LiveWords, read_feed, read_follow, read_live};
 use crate::words::points::{PointWords, SnapWords, read_snap_words};
 use crate::words::request::{read_kind, read_output, read_path, read_request, read_snap};
@@ -28,8 +32,12 @@ pub enum Job<'a> {
         progress: bool,
         output: Option<&'a str>,
     },
+    /// Show the complete history of an order.
+    History(HistoryWords<'a>),
     /// Write the snapshots of several points of a day file into a folder.
     Points(PointWords<'a>),
+    /// Write the books of a day file at several times.
+    Books(BookWords<'a>),
     /// Serve the market of a file, or of standard input if none is named, to `count` connections. Port 0 means a free port.
     Serve {
         file: Option<&'a str>,
@@ -79,7 +87,9 @@ fn writes_snapshot(job: &Job<'_>) -> bool
 {
     match job {
         Job::Files { request, .. } => request.is_binary(),
-        Job::Points(_)
+        Job::History(_)
+        | Job::Points(_)
+        | Job::Books(_)
         | Job::Serve { .. }
         | Job::Live(_)
         | Job::Feed(_)
@@ -93,15 +103,31 @@ fn writes_snapshot(job: &Job<'_>) -> bool
 /// Parses the command line; the first word is the program's name. A command that writes a snapshot is refused if standard output is a
 /// terminal. `password` is used for a login without one.
 ///
-/// An error is a usage fault, a request for help, or out of memory: its kind tells which.
+/// An error is a usage fault, a request for help, or out of memory: its kind tells which. A usage fault has the usage of its command.
 pub fn read_job<'a>(
     alloc: Global,
     words: &'a [String],
     terminal: bool,
     password: Option<&'a str>,
 ) -> Result<Job<'a>, Error> {
-    let matches = command(alloc)?.try_get_matches_from(words)?;
-    let job = read_matched(alloc, &matches, password)?;
+    let matches = match command(alloc)?.try_get_matches_from(words) {
+        Ok(matches) => matches,
+        Err(error) => return Err(with_program_help(alloc, words, error)?),
+    };
+    match read_allowed(alloc, &matches, terminal, password) {
+        Ok(job) => Ok(job),
+        Err(fault) => Err(fault.error(alloc, matches.subcommand_name().unwrap_or(""))?),
+    }
+}
+
+// Returns the job of the matched words, unless it would write a snapshot to a terminal.
+fn read_allowed<'a>(
+    alloc: Global,
+    matches: &ArgMatches<'a>,
+    terminal: bool,
+    password: Option<&'a str>,
+) -> Result<Job<'a>, Fault> {
+    let job = read_matched(alloc, matches, password)?;
     if terminal && needs_a_file(&job) {
         return Err(usage_fault(alloc, terminal_fault(&job))?);
     }
@@ -113,7 +139,7 @@ fn read_matched<'a>(
     alloc: Global,
     matches: &ArgMatches<'a>,
     password: Option<&'a str>,
-) -> Result<Job<'a>, Error> {
+) -> Result<Job<'a>, Fault> {
     match matches.subcommand() {
         Some(("serve", options)) => read_serve(alloc, options, password),
         Some(("fetch", options)) => read_fetch(alloc, options, password),
@@ -125,6 +151,13 @@ fn read_matched<'a>(
         Some(("snap", options)) => match read_snap_words(alloc, options)? {
             SnapWords::Several(words) => Ok(Job::Points(words)),
             SnapWords::One(limit) => files(alloc, options, read_snap(alloc, options, limit)?),
+        },
+        Some(("show", options)) if options.get_flag("history") => {
+            Ok(Job::History(read_history(alloc, options)?))
+        }
+        Some(("book", options)) => match read_book_words(alloc, options)? {
+            Some(words) => Ok(Job::Books(words)),
+            None => files(alloc, options, read_request(alloc, matches)?),
         },
         Some((_, options)) => files(alloc, options, read_request(alloc, matches)?),
         None => Err(usage_fault(alloc, "a command is missing")?),
@@ -156,7 +189,7 @@ fn files<'a>(
     alloc: Global,
     options: &ArgMatches<'a>,
     request: Request<'a>,
-) -> Result<Job<'a>, Error> {
+) -> Result<Job<'a>, Fault> {
     Ok(Job::Files {
         request,
         progress: options.get_flag("progress"),
@@ -168,7 +201,7 @@ fn read_fetch<'a>(
     alloc: Global,
     options: &ArgMatches<'a>,
     password: Option<&'a str>,
-) -> Result<Job<'a>, Error> {
+) -> Result<Job<'a>, Fault> {
     Ok(Job::Fetch {
         server: read_server(alloc, options)?,
         login: read_login(alloc, options, password)?,
@@ -181,7 +214,7 @@ fn read_serve<'a>(
     alloc: Global,
     options: &ArgMatches<'a>,
     password: Option<&'a str>,
-) -> Result<Job<'a>, Error> {
+) -> Result<Job<'a>, Fault> {
     Ok(Job::Serve {
         file: read_path(options, "FILE"),
         kind: read_kind(alloc, options)?,
@@ -193,7 +226,7 @@ fn read_serve<'a>(
     })
 }
 
-fn read_shell<'a>(alloc: Global, options: &ArgMatches<'a>) -> Result<Shell, Error> {
+fn read_shell<'a>(alloc: Global, options: &ArgMatches<'a>) -> Result<Shell, Fault> {
     match options.get_str("SHELL") {
         Some("bash") => Ok(Shell::Bash),
         Some("zsh") => Ok(Shell::Zsh),

@@ -1,13 +1,13 @@
 //! The options of a live server, of a follower, and of a played feed.
 
-use crate::words::commands::usage_fault;
+use crate::words::fault::{Fault, usage_fault};
 use crate::words::places::{read_feeds, read_place, read_place_if_any, read_status};
 use crate::words::request::read_count;
 use crate::words::session::{
     LoginWords, Password, UserWords, read_address, read_login, read_session, read_users,
 };
 use crate::words::size::read_size;
-use clap::{ArgMatches, Error};
+use clap::ArgMatches;
 use itch_clients::Pace;
 use itch_codec::Alpha;
 use itch_records::{Ready, RecordPlace, RecordWords, SnapshotWords, SyncTime};
@@ -85,14 +85,14 @@ pub fn read_live<'a>(
     alloc: Global,
     options: &ArgMatches<'a>,
     password: Option<&'a str>,
-) -> Result<LiveWords<'a>, Error> {
+) -> Result<LiveWords<'a>, Fault> {
     let users = read_users(alloc, options, password)?;
     let glimpse = read_place_if_any(alloc, options, "glimpse")?;
     let record = read_record(alloc, options)?;
     if glimpse.is_some() && record.is_some() {
         return Err(usage_fault(
             alloc,
-            "--record and --glimpse exclude each other: a day file begins with the first message",
+            "a record cannot be used with '--glimpse <HOST:PORT>': a day file begins with the first message",
         )?);
     }
     Ok(LiveWords {
@@ -120,7 +120,7 @@ pub fn read_follow<'a>(
     alloc: Global,
     options: &ArgMatches<'a>,
     password: Option<&'a str>,
-) -> Result<FollowWords<'a>, Error> {
+) -> Result<FollowWords<'a>, Fault> {
     Ok(FollowWords {
         feeds: read_feeds(alloc, options)?,
         glimpse: read_place(alloc, options, "glimpse")?,
@@ -136,7 +136,7 @@ pub fn read_feed<'a>(
     alloc: Global,
     options: &ArgMatches<'a>,
     password: Option<&'a str>,
-) -> Result<FeedWords<'a>, Error> {
+) -> Result<FeedWords<'a>, Fault> {
     Ok(FeedWords {
         file: read_played(alloc, options)?,
         address: read_address(alloc, options)?,
@@ -151,19 +151,22 @@ pub fn read_feed<'a>(
 fn read_record<'a>(
     alloc: Global,
     options: &ArgMatches<'a>,
-) -> Result<Option<RecordWords<'a>>, Error> {
+) -> Result<Option<RecordWords<'a>>, Fault> {
     let sync = read_sync(alloc, options)?;
     let is_optional = options.get_flag("record-optional");
     let place = match (options.get_str("record"), options.get_str("records")) {
         (Some(path), None) => RecordPlace::File(path),
         (None, Some(folder)) => RecordPlace::Folder(folder),
         (Some(_), Some(_)) => {
-            return Err(usage_fault(alloc, "--record and --records exclude each other")?);
+            return Err(usage_fault(
+                alloc,
+                "the argument '--record <FILE>' cannot be used with '--records <DIR>'",
+            )?);
         }
         (None, None) if sync.is_some() || is_optional => {
             return Err(usage_fault(
                 alloc,
-                "--sync and --record-optional go with --record or --records",
+                "'--sync <WHEN>' and '--record-optional' require '--record <FILE>' or '--records <DIR>'",
             )?);
         }
         (None, None) => return Ok(None),
@@ -175,7 +178,7 @@ fn read_record<'a>(
     }))
 }
 
-fn read_sync<'a>(alloc: Global, options: &ArgMatches<'a>) -> Result<Option<SyncTime>, Error> {
+fn read_sync<'a>(alloc: Global, options: &ArgMatches<'a>) -> Result<Option<SyncTime>, Fault> {
     match options.get_str("sync") {
         None => Ok(None),
         Some("no") => Ok(Some(SyncTime::Never)),
@@ -185,7 +188,7 @@ fn read_sync<'a>(alloc: Global, options: &ArgMatches<'a>) -> Result<Option<SyncT
     }
 }
 
-fn read_ready<'a>(alloc: Global, options: &ArgMatches<'a>) -> Result<Ready, Error> {
+fn read_ready<'a>(alloc: Global, options: &ArgMatches<'a>) -> Result<Ready, Fault> {
     match options.get_str("ready") {
         None | Some("first") => Ok(Ready::First),
         Some("caught-up") => Ok(Ready::CaughtUp),
@@ -193,7 +196,7 @@ fn read_ready<'a>(alloc: Global, options: &ArgMatches<'a>) -> Result<Ready, Erro
     }
 }
 
-fn read_log<'a>(alloc: Global, options: &ArgMatches<'a>) -> Result<LogForm, Error> {
+fn read_log<'a>(alloc: Global, options: &ArgMatches<'a>) -> Result<LogForm, Fault> {
     match options.get_str("log") {
         None => Ok(LogForm::Plain),
         Some("text") => Ok(LogForm::Text),
@@ -206,11 +209,11 @@ fn read_glimpse_session<'a>(
     alloc: Global,
     options: &ArgMatches<'a>,
     has_glimpse: bool,
-) -> Result<Option<Alpha<10>>, Error> {
+) -> Result<Option<Alpha<10>>, Fault> {
     match read_session(alloc, options, "glimpse-session")? {
         Some(_) if !has_glimpse => Err(usage_fault(
             alloc,
-            "--glimpse-session goes with --glimpse",
+            "'--glimpse-session <S>' requires '--glimpse <HOST:PORT>'",
         )?),
         session => Ok(session),
     }
@@ -222,7 +225,7 @@ fn read_feed_login<'a>(
     options: &ArgMatches<'a>,
     users: UserWords<'a>,
     environment: Option<&'a str>,
-) -> Result<LoginWords<'a>, Error> {
+) -> Result<LoginWords<'a>, Fault> {
     let (user, password) = match users {
         UserWords::One(login) => (Some(login.user), Some(login.password)),
         UserWords::Listed(_) => (None, environment.map(|word| Password::Word(word))),
@@ -234,7 +237,7 @@ fn read_feed_login<'a>(
         (Some(user), Some(password)) => Ok(LoginWords { user, password }),
         _ => Err(usage_fault(
             alloc,
-            "--users requires --feed-user, and --feed-pass-file or ITCHSNAP_PASS",
+            "'--users <FILE>' requires '--feed-user <U>', and '--feed-pass-file <FILE>' or ITCHSNAP_PASS",
         )?),
     }
 }
@@ -242,22 +245,25 @@ fn read_feed_login<'a>(
 fn read_snapshots<'a>(
     alloc: Global,
     options: &ArgMatches<'a>,
-) -> Result<Option<SnapshotWords<'a>>, Error> {
+) -> Result<Option<SnapshotWords<'a>>, Fault> {
     let every = read_counted(alloc, options, "every")?;
     let keep = read_counted(alloc, options, "keep")?;
-    match (options.get_str("snapshots"), every) {
-        (None, None) if keep.is_some() => Err(usage_fault(alloc, "--keep goes with --snapshots")?),
+    match (options.get_str("to"), every) {
+        (None, None) if keep.is_some() => Err(usage_fault(
+            alloc,
+            "'--keep <N>' requires '--to <DIR>'",
+        )?),
         (None, None) => Ok(None),
         (Some(folder), Some(every)) => Ok(Some(SnapshotWords {
             folder,
             every,
             keep,
         })),
-        _ => Err(usage_fault(alloc, "--snapshots and --every go together")?),
+        _ => Err(usage_fault(alloc, "'--to <DIR>' and '--every <N>' require each other")?),
     }
 }
 
-fn read_snapshot_memory<'a>(alloc: Global, options: &ArgMatches<'a>) -> Result<Option<u64>, Error> {
+fn read_snapshot_memory<'a>(alloc: Global, options: &ArgMatches<'a>) -> Result<Option<u64>, Fault> {
     let Some(words) = options.get_str("snapshot-memory") else {
         return Ok(None);
     };
@@ -270,17 +276,20 @@ fn read_snapshot_memory<'a>(alloc: Global, options: &ArgMatches<'a>) -> Result<O
     }
 }
 
-fn read_follow_form<'a>(alloc: Global, options: &ArgMatches<'a>) -> Result<FollowForm, Error> {
+fn read_follow_form<'a>(alloc: Global, options: &ArgMatches<'a>) -> Result<FollowForm, Fault> {
     match (options.get_flag("whole"), options.get_flag("json")) {
         (false, false) => Ok(FollowForm::Blocks),
         (true, false) => Ok(FollowForm::Whole),
         (false, true) => Ok(FollowForm::Json),
-        (true, true) => Err(usage_fault(alloc, "--whole and --json exclude each other")?),
+        (true, true) => Err(usage_fault(
+            alloc,
+            "the argument '--whole' cannot be used with '--json'",
+        )?),
     }
 }
 
 // Each client reads the file separately, which standard input does not allow.
-fn read_played<'a>(alloc: Global, options: &ArgMatches<'a>) -> Result<&'a str, Error> {
+fn read_played<'a>(alloc: Global, options: &ArgMatches<'a>) -> Result<&'a str, Fault> {
     match options.get_str("FILE") {
         Some(path) if path != "-" => Ok(path),
         _ => Err(usage_fault(
@@ -290,13 +299,16 @@ fn read_played<'a>(alloc: Global, options: &ArgMatches<'a>) -> Result<&'a str, E
     }
 }
 
-fn read_pace<'a>(alloc: Global, options: &ArgMatches<'a>) -> Result<Pace, Error> {
+fn read_pace<'a>(alloc: Global, options: &ArgMatches<'a>) -> Result<Pace, Fault> {
     let rate = read_counted(alloc, options, "rate")?;
     match (rate, read_counted(alloc, options, "clock")?) {
         (None, None) => Ok(Pace::Free),
         (Some(rate), None) => Ok(Pace::Rate(rate)),
         (None, Some(clock)) => Ok(Pace::Clock(clock)),
-        (Some(_), Some(_)) => Err(usage_fault(alloc, "--rate and --clock exclude each other")?),
+        (Some(_), Some(_)) => Err(usage_fault(
+            alloc,
+            "the argument '--rate <N>' cannot be used with '--clock <X>'",
+        )?),
     }
 }
 
@@ -304,7 +316,7 @@ fn read_counted<'a>(
     alloc: Global,
     options: &ArgMatches<'a>,
     name: &str,
-) -> Result<Option<u64>, Error> {
+) -> Result<Option<u64>, Fault> {
     read_count(
         alloc,
         options,

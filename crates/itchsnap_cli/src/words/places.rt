@@ -1,13 +1,13 @@
 //! The servers to which a live server or a follower connects, on the command line.
 
-use crate::words::commands::usage_fault;
+use crate::words::fault::{Fault, usage_fault};
 use crate::words::time::read_digits;
-use clap::{ArgMatches, Error};
+use clap::ArgMatches;
 use itch_sessions::{Feeds, Place};
 use std::alloc::Global;
 
 /// Reads the servers after `--feed`.
-pub fn read_feeds<'a>(alloc: Global, options: &ArgMatches<'a>) -> Result<Feeds<'a>, Error> {
+pub fn read_feeds<'a>(alloc: Global, options: &ArgMatches<'a>) -> Result<Feeds<'a>, Fault> {
     let words = options.get_strs("feed").unwrap_or(&[]);
     let [first, rest @ ..] = words else {
         return Err(usage_fault(alloc, "a server is missing")?);
@@ -28,7 +28,7 @@ pub fn read_place<'a>(
     alloc: Global,
     options: &ArgMatches<'a>,
     name: &str,
-) -> Result<Place<'a>, Error> {
+) -> Result<Place<'a>, Fault> {
     match read_place_if_any(alloc, options, name)? {
         Some(place) => Ok(place),
         None => Err(usage_fault(alloc, "a server is missing")?),
@@ -40,7 +40,7 @@ pub fn read_place_if_any<'a>(
     alloc: Global,
     options: &ArgMatches<'a>,
     name: &str,
-) -> Result<Option<Place<'a>>, Error> {
+) -> Result<Option<Place<'a>>, Fault> {
     let Some(words) = options.get_str(name) else {
         return Ok(None);
     };
@@ -52,7 +52,7 @@ pub fn read_status<'a>(
     alloc: Global,
     options: &ArgMatches<'a>,
     name: &str,
-) -> Result<Option<Place<'a>>, Error> {
+) -> Result<Option<Place<'a>>, Fault> {
     let Some(words) = options.get_str(name) else {
         return Ok(None);
     };
@@ -84,7 +84,7 @@ fn port_of(words: &str) -> Option<Place<'_>> {
     })
 }
 
-fn read_words<'a>(alloc: Global, words: &'a str) -> Result<Place<'a>, Error> {
+fn read_words<'a>(alloc: Global, words: &'a str) -> Result<Place<'a>, Fault> {
     match place_of(words) {
         Some(place) if place.port > 0 => Ok(place),
         _ => Err(usage_fault(

@@ -1,10 +1,10 @@
 //! The points of a day file at which `snap` writes snapshots.
 
 use crate::words::arguments::MOST_COUNTED;
-use crate::words::commands::usage_fault;
+use crate::words::fault::{Fault, usage_fault};
 use crate::words::request::{read_count, read_output, read_path, read_until};
 use crate::words::time::{read_digits, read_time};
-use clap::{ArgMatches, Error};
+use clap::ArgMatches;
 use itch_commands::Limit;
 use std::alloc::{AllocError, Global};
 
@@ -45,13 +45,16 @@ pub enum SnapWords<'a> {
 pub fn read_snap_words<'a>(
     alloc: Global,
     options: &ArgMatches<'a>,
-) -> Result<SnapWords<'a>, Error> {
+) -> Result<SnapWords<'a>, Fault> {
     let points = read_list(alloc, options)?;
     let Some(folder) = options.get_str("to") else {
         return Ok(SnapWords::One(one_part(alloc, options, &points)?));
     };
     if options.get_str("stock").is_some() || read_output(alloc, options)?.is_some() {
-        return Err(usage_fault(alloc, "--to excludes --stock and --output")?);
+        return Err(usage_fault(
+            alloc,
+            "the argument '--to <DIR>' cannot be used with '--stock <LIST>' or '--output <PATH>'",
+        )?);
     }
     Ok(SnapWords::Several(PointWords {
         file: read_path(options, "FILE"),
@@ -63,7 +66,7 @@ pub fn read_snap_words<'a>(
 }
 
 // Reads the one requested part of a file without a folder: up to a number of messages, or a time, whichever comes first.
-fn one_part<'a>(alloc: Global, options: &ArgMatches<'a>, points: &Points) -> Result<Limit, Error> {
+fn one_part<'a>(alloc: Global, options: &ArgMatches<'a>, points: &Points) -> Result<Limit, Fault> {
     match points {
         Points::At(limits) if limits.len() == 1 => match limits[0].after {
             Some(_) => Ok(Limit {
@@ -72,12 +75,15 @@ fn one_part<'a>(alloc: Global, options: &ArgMatches<'a>, points: &Points) -> Res
             }),
             None => Ok(limits[0]),
         },
-        _ => Err(usage_fault(alloc, "several snapshots need --to, a folder for them")?),
+        _ => Err(usage_fault(
+            alloc,
+            "several points require '--to <DIR>', a folder for their snapshots",
+        )?),
     }
 }
 
 // Reads the points after `--after`, `--until` or `--every`.
-fn read_list<'a>(alloc: Global, options: &ArgMatches<'a>) -> Result<Points, Error> {
+fn read_list<'a>(alloc: Global, options: &ArgMatches<'a>) -> Result<Points, Fault> {
     let every = read_count(alloc, options, "every", "--every takes decimal digits")?;
     match (options.get_str("after"), options.get_str("until"), every) {
         (None, None, None) => Ok(Points::At(vec![in alloc; Limit::whole()]?)),
@@ -92,7 +98,7 @@ fn read_list<'a>(alloc: Global, options: &ArgMatches<'a>) -> Result<Points, Erro
         ),
         _ => Err(usage_fault(
             alloc,
-            "--after, --until and --every exclude each other where --to is given",
+            "only one of '--after <N>', '--until <TIME>' and '--every <N>' can be used with '--to <DIR>'",
         )?),
     }
 }
@@ -120,16 +126,16 @@ impl Unit {
     fn fault(self) -> &'static str {
         match self {
             Unit::Messages => {
-                "--after takes a number of messages, or with --to several that rise, such as 1000,2000"
+                "--after takes a number of messages, or with --to several in ascending order, such as 1000,2000"
             }
             Unit::Time => {
-                "--until takes a time such as 10:30 or 10:30:00.000000001, or nanoseconds since midnight; with --to several that rise"
+                "--until takes a time such as 10:30 or 10:30:00.000000001, or nanoseconds since midnight; with --to several in ascending order"
             }
         }
     }
 }
 
-fn read_each(alloc: Global, list: &str, unit: Unit) -> Result<Points, Error> {
+fn read_each(alloc: Global, list: &str, unit: Unit) -> Result<Points, Fault> {
     match rising(alloc, list, unit)? {
         Some(limits) => Ok(Points::At(limits)),
         None => Err(usage_fault(alloc, unit.fault())?),

@@ -2,9 +2,9 @@
 ghost use Rattle.std.specs.Prelude.{◌≡◌};
 ghost use Rattle.itchsnap_cli.specs.Types.{is_message_type};
 
-use crate::words::commands::usage_fault;
+use crate::words::fault::{Fault, usage_fault};
 use crate::words::time::read_time;
-use clap::{ArgMatches, Error};
+use clap::ArgMatches;
 use itch_commands::{
     BookForm, Command, Expected, FeedPart, FileKind, Filters, Form, Limit, OrderForm, PairCommand,
     Request, Selection, ShowForm, Start, path_of,
@@ -20,7 +20,7 @@ const TYPES: [char; 24] = [
 /// Reads a request over files other than `snap`.
 ///
 /// An error is a usage fault or out of memory: its kind tells which.
-pub fn read_request<'a>(alloc: Global, matches: &ArgMatches<'a>) -> Result<Request<'a>, Error> {
+pub fn read_request<'a>(alloc: Global, matches: &ArgMatches<'a>) -> Result<Request<'a>, Fault> {
     match matches.subcommand() {
         Some(("compare", options)) => read_compare(alloc, options),
         Some(("join", options)) => read_join(alloc, options),
@@ -45,7 +45,7 @@ pub fn read_snap<'a>(
     alloc: Global,
     options: &ArgMatches<'a>,
     limit: Limit,
-) -> Result<Request<'a>, Error> {
+) -> Result<Request<'a>, Fault> {
     Ok(Request::One {
         file: read_path(options, "FILE"),
         command: Command::Snap {
@@ -60,7 +60,7 @@ fn read_command<'a>(
     alloc: Global,
     name: &str,
     options: &ArgMatches<'a>,
-) -> Result<Command<'a>, Error> {
+) -> Result<Command<'a>, Fault> {
     match name {
         "check" => Ok(Command::Check {
             limit: read_limit(alloc, options)?,
@@ -82,14 +82,14 @@ fn read_command<'a>(
 }
 
 // Reads the expectations after `--expect` and `--ended`.
-fn read_expected<'a>(alloc: Global, options: &ArgMatches<'a>) -> Result<Expected, Error> {
+fn read_expected<'a>(alloc: Global, options: &ArgMatches<'a>) -> Result<Expected, Fault> {
     Ok(Expected {
         count: read_count(alloc, options, "expect", "--expect takes decimal digits")?,
         end: options.get_flag("ended"),
     })
 }
 
-fn read_compare<'a>(alloc: Global, options: &ArgMatches<'a>) -> Result<Request<'a>, Error> {
+fn read_compare<'a>(alloc: Global, options: &ArgMatches<'a>) -> Result<Request<'a>, Fault> {
     let (first, second) = read_two(alloc, options, "A", "B")?;
     let kind = read_kind(alloc, options)?;
     let form = read_form(options);
@@ -99,7 +99,7 @@ fn read_compare<'a>(alloc: Global, options: &ArgMatches<'a>) -> Result<Request<'
         (true, FileKind::Snapshot) => {
             return Err(usage_fault(
                 alloc,
-                "--first excludes --snapshot: the files are read message by message",
+                "the argument '--first' cannot be used with '--snapshot'",
             )?);
         }
     };
@@ -110,7 +110,7 @@ fn read_compare<'a>(alloc: Global, options: &ArgMatches<'a>) -> Result<Request<'
     })
 }
 
-fn read_join<'a>(alloc: Global, options: &ArgMatches<'a>) -> Result<Request<'a>, Error> {
+fn read_join<'a>(alloc: Global, options: &ArgMatches<'a>) -> Result<Request<'a>, Fault> {
     let (first, second) = read_two(alloc, options, "SNAP", "FEED")?;
     Ok(Request::Two {
         first,
@@ -122,7 +122,7 @@ fn read_join<'a>(alloc: Global, options: &ArgMatches<'a>) -> Result<Request<'a>,
     })
 }
 
-fn read_at<'a>(alloc: Global, options: &ArgMatches<'a>) -> Result<Request<'a>, Error> {
+fn read_at<'a>(alloc: Global, options: &ArgMatches<'a>) -> Result<Request<'a>, Fault> {
     Ok(Request::At {
         folder: options.get_str("DIR").unwrap_or("."),
         feed: read_path(options, "FEED"),
@@ -132,7 +132,7 @@ fn read_at<'a>(alloc: Global, options: &ArgMatches<'a>) -> Result<Request<'a>, E
 }
 
 // Reads a point of the day: a number of messages, or a time with a colon in it.
-fn read_point(alloc: Global, text: &str) -> Result<Limit, Error> {
+fn read_point(alloc: Global, text: &str) -> Result<Limit, Fault> {
     if text.contains(':') {
         if let Some(time) = read_time(text) {
             return Ok(Limit {
@@ -152,21 +152,26 @@ fn read_point(alloc: Global, text: &str) -> Result<Limit, Error> {
     )?)
 }
 
-// Reads the requested part of a feed, after `--from`, `--after` and `--until`.
-fn read_feed_part<'a>(alloc: Global, options: &ArgMatches<'a>) -> Result<FeedPart, Error> {
+// Reads the requested part of a feed, after `--first-number`, `--after` and `--until`.
+fn read_feed_part<'a>(alloc: Global, options: &ArgMatches<'a>) -> Result<FeedPart, Fault> {
     Ok(FeedPart {
-        before: read_before(alloc, options)?,
+        before: read_before(
+            alloc,
+            options,
+            "first-number",
+            "--first-number takes decimal digits",
+        )?,
         limit: read_limit(alloc, options)?,
     })
 }
 
-fn read_show<'a>(alloc: Global, options: &ArgMatches<'a>) -> Result<Command<'a>, Error> {
+fn read_show<'a>(alloc: Global, options: &ArgMatches<'a>) -> Result<Command<'a>, Fault> {
     let kind = read_kind(alloc, options)?;
     let filters = read_filters(alloc, options)?;
     if kind == FileKind::Snapshot && filters.start != Start::first() {
         return Err(usage_fault(
             alloc,
-            "--snapshot excludes --from and --since: a snapshot is read from its beginning",
+            "the argument '--snapshot' cannot be used with '--from <N>' or '--since <TIME>'",
         )?);
     }
     Ok(Command::Show {
@@ -177,11 +182,11 @@ fn read_show<'a>(alloc: Global, options: &ArgMatches<'a>) -> Result<Command<'a>,
 }
 
 // Reads `show --orders`, which applies the order rules of a day.
-fn read_orders<'a>(alloc: Global, options: &ArgMatches<'a>) -> Result<Command<'a>, Error> {
+fn read_orders<'a>(alloc: Global, options: &ArgMatches<'a>) -> Result<Command<'a>, Fault> {
     let FileKind::Day(limit) = read_kind(alloc, options)? else {
         return Err(usage_fault(
             alloc,
-            "--orders excludes --snapshot: a snapshot changes no order",
+            "the argument '--orders' cannot be used with '--snapshot'",
         )?);
     };
     Ok(Command::ShowOrders {
@@ -191,24 +196,27 @@ fn read_orders<'a>(alloc: Global, options: &ArgMatches<'a>) -> Result<Command<'a
     })
 }
 
-fn read_order_form<'a>(alloc: Global, options: &ArgMatches<'a>) -> Result<OrderForm, Error> {
+/// Reads the form of messages with their orders.
+pub fn read_order_form<'a>(alloc: Global, options: &ArgMatches<'a>) -> Result<OrderForm, Fault> {
     let (json, csv) = (options.get_flag("json"), options.get_flag("csv"));
     match (options.get_flag("names"), json, csv) {
         (false, false, false) => Ok(OrderForm::Text),
         (true, false, false) => Ok(OrderForm::Named),
         (false, true, false) => Ok(OrderForm::Json),
         (false, false, true) => Ok(OrderForm::Csv),
-        (false, true, true) => Err(usage_fault(alloc, "--json and --csv exclude each other")?),
-        (true, true, _) => Err(usage_fault(alloc, "--names and --json exclude each other")?),
-        (true, false, true) => Err(usage_fault(alloc, "--names and --csv exclude each other")?),
+        _ => Err(usage_fault(
+            alloc,
+            "only one of '--names', '--json' and '--csv' can be used",
+        )?),
     }
 }
 
-fn read_show_form<'a>(
+/// Reads the form of messages, which may be comma-separated values if one type of message is requested.
+pub fn read_show_form<'a>(
     alloc: Global,
     options: &ArgMatches<'a>,
     types: Option<&str>,
-) -> Result<ShowForm, Error> {
+) -> Result<ShowForm, Fault> {
     match read_order_form(alloc, options)? {
         OrderForm::Text => Ok(ShowForm::Text),
         OrderForm::Named => Ok(ShowForm::Named),
@@ -218,7 +226,7 @@ fn read_show_form<'a>(
 }
 
 // The one type whose fields are the columns.
-fn read_columns(alloc: Global, types: &str) -> Result<ShowForm, Error> {
+fn read_columns(alloc: Global, types: &str) -> Result<ShowForm, Fault> {
     let letters = types.as_bytes();
     if letters.len() != 1 {
         return Err(usage_fault(
@@ -229,8 +237,8 @@ fn read_columns(alloc: Global, types: &str) -> Result<ShowForm, Error> {
     Ok(ShowForm::Csv { kind: letters[0] })
 }
 
-// Reads the filters for the messages that are shown.
-fn read_filters<'a>(alloc: Global, options: &ArgMatches<'a>) -> Result<Filters<'a>, Error> {
+/// Reads the filters for the messages that are shown.
+pub fn read_filters<'a>(alloc: Global, options: &ArgMatches<'a>) -> Result<Filters<'a>, Fault> {
     Ok(Filters {
         start: read_start(alloc, options)?,
         only: options.get_str("only"),
@@ -246,7 +254,7 @@ fn read_filters<'a>(alloc: Global, options: &ArgMatches<'a>) -> Result<Filters<'
 }
 
 // Reads the letters of message types: one or more.
-fn read_types<'a>(alloc: Global, options: &ArgMatches<'a>) -> Result<Option<&'a str>, Error> {
+fn read_types<'a>(alloc: Global, options: &ArgMatches<'a>) -> Result<Option<&'a str>, Fault> {
     let Some(types) = options.get_str("types") else {
         return Ok(None);
     };
@@ -273,7 +281,7 @@ fn read_two<'a>(
     options: &ArgMatches<'a>,
     first: &str,
     second: &str,
-) -> Result<(Option<&'a str>, Option<&'a str>), Error> {
+) -> Result<(Option<&'a str>, Option<&'a str>), Fault> {
     match (read_path(options, first), read_path(options, second)) {
         (None, None) => Err(usage_fault(alloc, "only one of the two files may be standard input")?),
         paths => Ok(paths),
@@ -285,45 +293,59 @@ pub fn read_path<'a>(options: &ArgMatches<'a>, name: &str) -> Option<&'a str> {
     path_of(options.get_str(name))
 }
 
-fn read_book<'a>(alloc: Global, options: &ArgMatches<'a>) -> Result<Request<'a>, Error> {
+fn read_book<'a>(alloc: Global, options: &ArgMatches<'a>) -> Result<Request<'a>, Fault> {
     let (selection, file) = read_booked(alloc, options)?;
     Ok(Request::One {
         file,
         command: Command::Book {
             selection,
-            depth: read_count(alloc, options, "depth", "--depth takes decimal digits")?,
+            depth: read_depth(alloc, options)?,
             kind: read_kind(alloc, options)?,
             form: read_book_form(alloc, options)?,
         },
     })
 }
 
-// Reads the locates for `book`, and its file. With `--stock` there is no LOCATE, and the first positional argument is the file.
-fn read_booked<'a>(
+/// Reads the number of prices of each side, after `--depth`.
+pub fn read_depth<'a>(alloc: Global, options: &ArgMatches<'a>) -> Result<Option<u64>, Fault> {
+    read_count(alloc, options, "depth", "--depth takes decimal digits")
+}
+
+/// Reads the locates for `book`, and its file. With `--stock` there is no LOCATE, and the first positional argument is the file.
+pub fn read_booked<'a>(
     alloc: Global,
     options: &ArgMatches<'a>,
-) -> Result<(Selection<'a>, Option<&'a str>), Error> {
+) -> Result<(Selection<'a>, Option<&'a str>), Fault> {
     let (first, second) = (options.get_str("LOCATE"), options.get_str("FILE"));
     match (read_stocks(alloc, options)?, first, second) {
         (Some(names), file, None) => Ok((Selection::Stocks(names), path_of(file))),
-        (Some(_), _, Some(_)) => Err(usage_fault(alloc, "LOCATE and --stock exclude each other")?),
+        (Some(_), _, Some(_)) => Err(usage_fault(
+            alloc,
+            "the argument '[LOCATE]' cannot be used with '--stock <LIST>'",
+        )?),
         (None, Some(list), file) => Ok((Selection::Locates(list), path_of(file))),
-        (None, None, _) => Err(usage_fault(alloc, "LOCATE or --stock is missing")?),
+        (None, None, _) => Err(usage_fault(
+            alloc,
+            "one of '<LOCATE>' and '--stock <LIST>' is required",
+        )?),
     }
 }
 
 // Reads the selection of `--only` or `--stock`.
-fn read_selection<'a>(alloc: Global, options: &ArgMatches<'a>) -> Result<Selection<'a>, Error> {
+fn read_selection<'a>(alloc: Global, options: &ArgMatches<'a>) -> Result<Selection<'a>, Fault> {
     match (options.get_str("only"), read_stocks(alloc, options)?) {
         (None, None) => Ok(Selection::All),
         (Some(list), None) => Ok(Selection::Locates(list)),
         (None, Some(names)) => Ok(Selection::Stocks(names)),
-        (Some(_), Some(_)) => Err(usage_fault(alloc, "--only and --stock exclude each other")?),
+        (Some(_), Some(_)) => Err(usage_fault(
+            alloc,
+            "the argument '--only <LIST>' cannot be used with '--stock <LIST>'",
+        )?),
     }
 }
 
 // Reads the names after `--stock`, none of which may be empty.
-fn read_stocks<'a>(alloc: Global, options: &ArgMatches<'a>) -> Result<Option<&'a str>, Error> {
+fn read_stocks<'a>(alloc: Global, options: &ArgMatches<'a>) -> Result<Option<&'a str>, Fault> {
     let Some(names) = options.get_str("stock") else {
         return Ok(None);
     };
@@ -339,7 +361,7 @@ fn has_empty_part(names: &str) -> bool {
 }
 
 /// Reads the kind of a file: a snapshot with `--snapshot`, and otherwise a day file or the requested part of it.
-pub fn read_kind<'a>(alloc: Global, options: &ArgMatches<'a>) -> Result<FileKind, Error> {
+pub fn read_kind<'a>(alloc: Global, options: &ArgMatches<'a>) -> Result<FileKind, Fault> {
     let limit = read_limit(alloc, options)?;
     if !options.get_flag("snapshot") {
         return Ok(FileKind::Day(limit));
@@ -347,17 +369,20 @@ pub fn read_kind<'a>(alloc: Global, options: &ArgMatches<'a>) -> Result<FileKind
     if limit != Limit::whole() {
         return Err(usage_fault(
             alloc,
-            "--snapshot excludes --after and --until: a snapshot is read to its end",
+            "the argument '--snapshot' cannot be used with '--after <N>' or '--until <TIME>'",
         )?);
     }
     Ok(FileKind::Snapshot)
 }
 
 /// Reads the path of the output file for a snapshot; `None` means standard output. `canon --check` writes no snapshot.
-pub fn read_output<'a>(alloc: Global, options: &ArgMatches<'a>) -> Result<Option<&'a str>, Error> {
+pub fn read_output<'a>(alloc: Global, options: &ArgMatches<'a>) -> Result<Option<&'a str>, Fault> {
     let path = path_of(options.get_str("output"));
     if path.is_some() && options.get_flag("check") {
-        return Err(usage_fault(alloc, "--check excludes --output: it writes no snapshot")?);
+        return Err(usage_fault(
+            alloc,
+            "the argument '--check' cannot be used with '--output <PATH>'",
+        )?);
     }
     Ok(path)
 }
@@ -371,17 +396,21 @@ fn read_form(options: &ArgMatches<'_>) -> Form {
     }
 }
 
-fn read_book_form<'a>(alloc: Global, options: &ArgMatches<'a>) -> Result<BookForm, Error> {
+/// Reads the form of `book`.
+pub fn read_book_form<'a>(alloc: Global, options: &ArgMatches<'a>) -> Result<BookForm, Fault> {
     match (options.get_flag("json"), options.get_flag("csv")) {
         (false, false) => Ok(BookForm::Text),
         (true, false) => Ok(BookForm::Json),
         (false, true) => Ok(BookForm::Csv),
-        (true, true) => Err(usage_fault(alloc, "--json and --csv exclude each other")?),
+        (true, true) => Err(usage_fault(
+            alloc,
+            "the argument '--json' cannot be used with '--csv'",
+        )?),
     }
 }
 
 // Reads the requested part of a file, after `--after` and `--until`.
-fn read_limit<'a>(alloc: Global, options: &ArgMatches<'a>) -> Result<Limit, Error> {
+fn read_limit<'a>(alloc: Global, options: &ArgMatches<'a>) -> Result<Limit, Fault> {
     Ok(Limit {
         after: read_count(alloc, options, "after", "--after takes decimal digits")?,
         until: read_until(alloc, options)?,
@@ -389,9 +418,9 @@ fn read_limit<'a>(alloc: Global, options: &ArgMatches<'a>) -> Result<Limit, Erro
 }
 
 // Reads the beginning of the requested range of messages, after `--from` and `--since`.
-fn read_start<'a>(alloc: Global, options: &ArgMatches<'a>) -> Result<Start, Error> {
+fn read_start<'a>(alloc: Global, options: &ArgMatches<'a>) -> Result<Start, Fault> {
     Ok(Start {
-        before: read_before(alloc, options)?,
+        before: read_before(alloc, options, "from", "--from takes decimal digits")?,
         since: read_moment(
             alloc,
             options,
@@ -401,14 +430,19 @@ fn read_start<'a>(alloc: Global, options: &ArgMatches<'a>) -> Result<Start, Erro
     })
 }
 
-// Reads the number of messages before the one after `--from`, which defaults to the first.
-fn read_before<'a>(alloc: Global, options: &ArgMatches<'a>) -> Result<u64, Error> {
-    let first = read_count(alloc, options, "from", "--from takes decimal digits")?;
+// Reads the number of messages before the one whose number follows an option, which defaults to the first.
+fn read_before<'a>(
+    alloc: Global,
+    options: &ArgMatches<'a>,
+    name: &str,
+    fault: &str,
+) -> Result<u64, Fault> {
+    let first = read_count(alloc, options, name, fault)?;
     Ok(first.unwrap_or(1).saturating_sub(1))
 }
 
 /// Reads the end time of the part of a file, after `--until`.
-pub fn read_until<'a>(alloc: Global, options: &ArgMatches<'a>) -> Result<Option<u64>, Error> {
+pub fn read_until<'a>(alloc: Global, options: &ArgMatches<'a>) -> Result<Option<u64>, Fault> {
     read_moment(
         alloc,
         options,
@@ -423,7 +457,7 @@ fn read_moment<'a>(
     options: &ArgMatches<'a>,
     name: &str,
     fault: &str,
-) -> Result<Option<u64>, Error> {
+) -> Result<Option<u64>, Fault> {
     let Some(text) = options.get_str(name) else {
         return Ok(None);
     };
@@ -439,7 +473,7 @@ pub fn read_count<'a>(
     options: &ArgMatches<'a>,
     name: &str,
     fault: &str,
-) -> Result<Option<u64>, Error> {
+) -> Result<Option<u64>, Fault> {
     let Some(text) = options.get_str(name) else {
         return Ok(None);
     };

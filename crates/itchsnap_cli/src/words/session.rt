@@ -1,9 +1,10 @@
 //! The two ends of a session on the command line: the address of the server, and the login to it.
 
-use crate::words::commands::usage_fault;
+use crate::words::fault::{Fault, usage_fault};
+use crate::words::places::read_place_if_any;
 use crate::words::request::read_count;
 use crate::words::time::read_digits;
-use clap::{ArgMatches, Error};
+use clap::ArgMatches;
 use itch_codec::{Alpha, MOST_MESSAGES, Seq};
 use itch_sessions::sessions::{current_session, default_session};
 use std::alloc::Global;
@@ -58,7 +59,7 @@ pub struct Server<'a> {
 }
 
 /// Reads the address and the port after `--bind` and `--port`.
-pub fn read_address<'a>(alloc: Global, options: &ArgMatches<'a>) -> Result<SocketAddr, Error> {
+pub fn read_address<'a>(alloc: Global, options: &ArgMatches<'a>) -> Result<SocketAddr, Fault> {
     let port = read_port(alloc, options)?;
     let Some(text) = options.get_str("bind") else {
         return Ok(SocketAddr::new(IpAddr::V4(Ipv4Addr::LOCALHOST), port));
@@ -69,18 +70,25 @@ pub fn read_address<'a>(alloc: Global, options: &ArgMatches<'a>) -> Result<Socke
     }
 }
 
-/// Reads the server after `--host`, `--port`, `--session` and `--timeout`.
-pub fn read_server<'a>(alloc: Global, options: &ArgMatches<'a>) -> Result<Server<'a>, Error> {
+/// Reads the server of a fetch, as HOST:PORT or after `--host` and `--port`, and `--session` and `--timeout`.
+pub fn read_server<'a>(alloc: Global, options: &ArgMatches<'a>) -> Result<Server<'a>, Fault> {
+    let (host, port) = match read_place_if_any(alloc, options, "HOST:PORT")? {
+        Some(place) => (place.host, place.port),
+        None => (
+            options.get_str("host").unwrap_or("127.0.0.1"),
+            read_port(alloc, options)?,
+        ),
+    };
     Ok(Server {
-        host: options.get_str("host").unwrap_or("127.0.0.1"),
-        port: read_port(alloc, options)?,
+        host,
+        port,
         session: read_session(alloc, options, "session")?.unwrap_or(current_session()),
         timeout: read_count(alloc, options, "timeout", "--timeout takes decimal digits")?,
     })
 }
 
 /// Reads the number after `--from`, if it is given: that of the first message to fetch.
-pub fn read_from<'a>(alloc: Global, options: &ArgMatches<'a>) -> Result<Option<Seq>, Error> {
+pub fn read_from<'a>(alloc: Global, options: &ArgMatches<'a>) -> Result<Option<Seq>, Fault> {
     let Some(text) = options.get_str("from") else {
         return Ok(None);
     };
@@ -95,7 +103,7 @@ pub fn read_login<'a>(
     alloc: Global,
     options: &ArgMatches<'a>,
     environment: Option<&'a str>,
-) -> Result<LoginWords<'a>, Error> {
+) -> Result<LoginWords<'a>, Fault> {
     let Some(user) = options.get_str("user") else {
         return Err(usage_fault(alloc, "a user name is missing")?);
     };
@@ -105,7 +113,10 @@ pub fn read_login<'a>(
         environment,
     ) {
         (Some(_), Some(_), _) => {
-            return Err(usage_fault(alloc, "--pass and --pass-file exclude each other")?);
+            return Err(usage_fault(
+                alloc,
+                "the argument '--pass <W>' cannot be used with '--pass-file <FILE>'",
+            )?);
         }
         (Some(word), None, _) | (None, None, Some(word)) => Password::Word(word),
         (None, Some(path), _) => Password::File(path),
@@ -124,20 +135,23 @@ pub fn read_users<'a>(
     alloc: Global,
     options: &ArgMatches<'a>,
     environment: Option<&'a str>,
-) -> Result<UserWords<'a>, Error> {
+) -> Result<UserWords<'a>, Fault> {
     let Some(path) = options.get_str("users") else {
         return Ok(UserWords::One(read_login(alloc, options, environment)?));
     };
     for other in ["user", "pass", "pass-file"] {
         if options.get_str(other).is_some() {
-            return Err(usage_fault(alloc, "--users excludes --user, --pass and --pass-file")?);
+            return Err(usage_fault(
+                alloc,
+                "the argument '--users <FILE>' cannot be used with a user or a password",
+            )?);
         }
     }
     Ok(UserWords::Listed(path))
 }
 
 /// Reads the number after an option, in decimal digits only.
-pub fn read_number<'a>(alloc: Global, options: &ArgMatches<'a>, name: &str) -> Result<u64, Error> {
+pub fn read_number<'a>(alloc: Global, options: &ArgMatches<'a>, name: &str) -> Result<u64, Fault> {
     let fault = "a number must have decimal digits only";
     match read_count(alloc, options, name, fault)? {
         Some(number) => Ok(number),
@@ -145,7 +159,7 @@ pub fn read_number<'a>(alloc: Global, options: &ArgMatches<'a>, name: &str) -> R
     }
 }
 
-fn read_port<'a>(alloc: Global, options: &ArgMatches<'a>) -> Result<u16, Error> {
+fn read_port<'a>(alloc: Global, options: &ArgMatches<'a>) -> Result<u16, Fault> {
     match u16::try_from(read_number(alloc, options, "port")?) {
         Ok(port) => Ok(port),
         Err(_) => Err(usage_fault(alloc, "a port is at most 65535")?),
@@ -157,7 +171,7 @@ pub fn read_session<'a>(
     alloc: Global,
     options: &ArgMatches<'a>,
     option: &str,
-) -> Result<Option<Alpha<10>>, Error> {
+) -> Result<Option<Alpha<10>>, Fault> {
     let Some(name) = options.get_str(option) else {
         return Ok(None);
     };

@@ -1,9 +1,9 @@
 //! The options of `status`.
 
-use crate::words::commands::usage_fault;
+use crate::words::fault::{Fault, usage_fault};
 use crate::words::places::status_place_of;
 use crate::words::request::read_count;
-use clap::{ArgMatches, Error};
+use clap::ArgMatches;
 use itch_sessions::Place;
 use std::alloc::Global;
 
@@ -22,7 +22,7 @@ pub struct StatusWords<'a> {
 pub fn read_status_words<'a>(
     alloc: Global,
     options: &ArgMatches<'a>,
-) -> Result<StatusWords<'a>, Error> {
+) -> Result<StatusWords<'a>, Fault> {
     let place = options
         .get_str("SERVER")
         .and_then(status_place_of)

@@ -1,4 +1,4 @@
-//! What a step of a feed is for its connection.
+//! The effects of a feed's steps on its connection.
 
 use super::FeedSide;
 use crate::feed_line::{FeedLine, Named, Trouble};
@@ -12,7 +12,11 @@ use itch_soup::SoupFault;
 use itch_status::Cause;
 
 impl FeedSide<'_> {
-    /// What a step is for the connection.
+    /// Applies a step to the connection.
+    ///
+    /// # Errors
+    ///
+    /// A [`LiveFault`] if a rejection or another session ends the follower.
     pub(super) fn follow<R: Eprint, B: OrderBook>(
         &mut self,
         log: &mut Log<'_, R>,
@@ -41,7 +45,8 @@ impl FeedSide<'_> {
         Ok(())
     }
 
-    // The login was accepted from a number on. Where that is not the next one, messages are missing: the server is asked again.
+    // Handles a login that was accepted from a number on. If this is not the next number, messages are missing, and the connection is made
+    // again.
     fn accept<R: Eprint, B: OrderBook>(
         &mut self,
         log: &mut Log<'_, R>,
@@ -66,15 +71,15 @@ impl FeedSide<'_> {
         log.say(&Named { line, name });
     }
 
-    // What was said of each server is said again if it happens again.
+    // Forgets the reports about each server, so that they are repeated if they occur again.
     pub(super) fn forget_troubles(&mut self) {
         for trouble in self.troubles.iter_mut() {
             *trouble = None;
         }
     }
 
-    // The server has ended its session. One that has sent no message yet is asked again, and so is a server of snapshots that has not sent
-    // its End of Snapshot.
+    // Handles the end of the server's session. The connection is made again if the server has sent no message yet, or if a snapshot server
+    // has not sent its End of Snapshot.
     fn end<R: Eprint, B: OrderBook>(
         &mut self,
         log: &mut Log<'_, R>,
@@ -108,7 +113,8 @@ impl FeedSide<'_> {
         Ok(())
     }
 
-    // The server is in another session. One that was accepted before is asked again: its clients go on to have the market that they logged in to.
+    // Handles a server that is in another session. If it was accepted before, the connection is made again, and the clients keep the market
+    // of the session that they logged in to.
     fn refuse<R: Eprint, B: OrderBook>(
         &mut self,
         log: &mut Log<'_, R>,

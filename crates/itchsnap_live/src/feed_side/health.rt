@@ -1,11 +1,11 @@
-//! The state of a feed, for the status.
+//! The state of a feed for the status page.
 
 use super::FeedSide;
 use crate::feed_line::{FeedLine, Loss};
 use itch_status::{Cause, FeedState};
 
 impl FeedSide<'_> {
-    /// The state of the feed, and why it is not followed, as far as that is known.
+    /// Returns the state of the feed, and why it is not followed, if the cause is known.
     pub(crate) fn state(&self) -> (FeedState, Option<Cause>) {
         if self.is_over() {
             return (FeedState::Ended, None);
@@ -19,27 +19,27 @@ impl FeedSide<'_> {
         (FeedState::Connecting, self.cause)
     }
 
-    /// How long ago the login was accepted that was accepted last.
+    /// Returns the milliseconds since the last accepted login.
     pub(crate) fn accepted_for_ms(&self, now_ms: u64) -> u64 {
         now_ms.saturating_sub(self.accepted_ms)
     }
 
-    /// The place of that server, from 1.
+    /// Returns the number of the current server, starting at 1.
     pub(crate) fn server_number(&self) -> u64 {
         (self.server() as u64).saturating_add(1)
     }
 
-    /// How often a connection was lost, or was not made.
+    /// Returns how often a connection was lost, or could not be made.
     pub(crate) fn losses(&self) -> u64 {
         self.losses
     }
 
-    /// The timestamp of the last message, in nanoseconds since midnight.
+    /// Returns the timestamp of the last message, in nanoseconds since midnight.
     pub(crate) fn market_ns(&self) -> Option<u64> {
         self.market_ns
     }
 
-    /// What is said of the loss of the server with this name, where the feed's next message has this number.
+    /// Returns the line about the loss of the server with this name, if the feed's next message has this number.
     pub(super) fn loss<'a>(&self, next: Option<u64>, name: Option<&'a str>) -> Loss<'a> {
         let line = match next {
             Some(next) => FeedLine::Lost(next),

@@ -1,4 +1,4 @@
-//! What a live server opens, and waits for, before its first turn.
+//! The start of a live server, up to its first turn.
 
 use super::client_side::ClientSide;
 use super::day::Day;
@@ -20,7 +20,11 @@ use std::net::Net;
 use std::rt::{Clock, Files};
 use std::str;
 
-/// Opens what a server works on, and waits until the session of its feed is known. Its paths are known as soon as that is.
+/// Opens everything that a server works on, and waits until the session of its feed is known. The paths are set as soon as they are known.
+///
+/// # Errors
+///
+/// A [`LiveFault`] if a file or a port cannot be opened, or the feed refuses to start.
 pub(super) fn opened<'r, 'a, R, B: OrderBook<Alloc = Global>>(
     rt: &'r R,
     servers: Servers<'a>,
@@ -49,7 +53,7 @@ where
     begin(rt.alloc(), serving, users, &login, start, callers, begun)
 }
 
-// Waits until the session of the feed is known. What a server works on is open.
+// Waits until the session of the feed is known, with everything else opened.
 fn begin<'r, 'a, R, B: OrderBook<Alloc = Global>>(
     alloc: Global,
     serving: &'a Serving<'a>,
@@ -78,7 +82,11 @@ where
     Ok(server_of(serving, start, desk, client_side, day))
 }
 
-/// Opens the files of a day, which is said where each session has its own.
+/// Opens the files of a day, and reports them if each session has its own.
+///
+/// # Errors
+///
+/// A [`LiveFault`] if a file cannot be opened.
 pub(super) fn open_day<R, B: OrderBook<Alloc = Global>>(
     log: &mut Log<'_, R>,
     serving: &Serving<'_>,
@@ -97,7 +105,7 @@ where
     Ok(begun)
 }
 
-// Says which session begins, and where it is recorded.
+// Reports which session begins, and where it is recorded.
 fn say_begun<R: Clock + Eprint, B: OrderBook>(
     log: &mut Log<'_, R>,
     begun: &Begun<B>,
@@ -112,7 +120,7 @@ fn say_begun<R: Clock + Eprint, B: OrderBook>(
     }
 }
 
-// Opens the files of the day whose session the feed names. The feed is followed in a connection of its own from then on.
+// Opens the files of the day with the session that the feed names. The feed is then followed on a connection of its own.
 fn open_found<R, B: OrderBook<Alloc = Global>>(
     start: &mut Start<'_, '_, R>,
     serving: &Serving<'_>,
@@ -131,7 +139,7 @@ where
     open_day(&mut start.log, serving, Some(session), paths)
 }
 
-// The session that a feed names.
+// Returns the session that a feed names.
 fn session_of<R, B: OrderBook<Alloc = Global>>(
     start: &mut Start<'_, '_, R>,
     follower: &mut Follower<B>,
@@ -145,7 +153,7 @@ where
     }
 }
 
-// A server that begins with this. Its paths are set by its caller.
+// Creates a server from its parts. The caller sets its paths.
 fn server_of<'r, 'a, R: Clock, B: OrderBook>(
     serving: &'a Serving<'a>,
     start: Start<'r, 'a, R>,
@@ -177,7 +185,7 @@ fn server_of<'r, 'a, R: Clock, B: OrderBook>(
     }
 }
 
-// The paths of a session's files: where each session has files of its own, these are named after it.
+// Returns the paths of a session's files. If each session has its own files, they are named after it.
 fn paths_of(
     alloc: Global,
     serving: &Serving<'_>,

@@ -1,4 +1,4 @@
-//! Who calls a live server, and who is served.
+//! The clients of a live server.
 
 use super::{FIRST_CLIENT, Serving};
 use itch_book::OrderBook;
@@ -12,7 +12,7 @@ use std::alloc::{AllocError, Global};
 use std::fs::File;
 use std::rt::Files;
 
-/// The clients of a live server, who may become one, and how much of the time their snapshots may take.
+/// The clients of a live server, its users, its port, and the time budget for snapshots.
 #[derive(Drop)]
 pub(super) struct ClientSide<'a> {
     pub users: Logins<'a>,
@@ -23,7 +23,7 @@ pub(super) struct ClientSide<'a> {
 }
 
 impl<'a> ClientSide<'a> {
-    /// Nobody yet. Logins are to this session.
+    /// Creates one without clients. Logins are for this session.
     pub(super) fn new(
         alloc: Global,
         serving: &Serving<'_>,
@@ -42,23 +42,23 @@ impl<'a> ClientSide<'a> {
         })
     }
 
-    /// Whether nobody is there.
+    /// Returns whether there are no connections.
     pub(super) fn is_empty(&self) -> bool {
         self.clients.is_empty() && self.reception.is_empty()
     }
 
-    /// Whether nobody is there whose login was right.
+    /// Returns whether there are no clients with a valid login.
     pub(super) fn has_no_client(&self) -> bool {
         let (_opening, ready) = self.reception.counts();
         self.clients.is_empty() && ready == 0
     }
 
-    /// Whether there is something to read or to write before anything else is ready.
+    /// Returns whether there may be bytes to read, or room to write pending ones, without waiting for another event.
     pub(super) fn is_busy<B: OrderBook>(&self, desk: &Desk<B>) -> bool {
         self.clients.is_busy(desk) || self.reception.is_busy()
     }
 
-    /// Takes note that the socket of this number is ready: that of a client, if the number is below those of the reception.
+    /// Records that the socket with this number is ready. It belongs to a client if the number is below those of the reception.
     pub(super) fn note(&mut self, token: usize, is_client: bool, event: &Event) {
         if is_client {
             self.clients.note(token, event);
@@ -67,7 +67,7 @@ impl<'a> ClientSide<'a> {
         }
     }
 
-    /// Accepts those who call.
+    /// Accepts new connections.
     pub(super) fn accept<R: Files<File = File>>(
         &mut self,
         rt: &R,
@@ -79,7 +79,7 @@ impl<'a> ClientSide<'a> {
             .accept(rt, &mut self.callers, spare, registry, now_ms);
     }
 
-    /// Hands on what was said, and gives places to those who have logged in.
+    /// Passes on the bytes that have arrived, and gives places to clients that have logged in.
     pub(super) fn hear<B: OrderBook>(
         &mut self,
         registry: &Registry,
@@ -93,7 +93,7 @@ impl<'a> ClientSide<'a> {
         self.clients.hear(desk, now_ms);
     }
 
-    /// Whether a snapshot may be encoded now for somebody who waits. `reads` says whether the feed has more to read.
+    /// Returns whether a snapshot may be encoded now for a waiting client. `reads` means that the feed has more bytes to read.
     pub(super) fn may_answer<B: OrderBook>(
         &mut self,
         desk: &Desk<B>,
@@ -107,7 +107,7 @@ impl<'a> ClientSide<'a> {
         self.budget.allows(now_ms, idle)
     }
 
-    /// Takes note of how long the snapshot took, and makes room for those who still wait.
+    /// Records how long the snapshot took, and makes room for clients that still wait.
     pub(super) fn spend<B: OrderBook>(
         &mut self,
         desk: &mut Desk<B>,
@@ -119,7 +119,7 @@ impl<'a> ClientSide<'a> {
         self.clients.make_room(&mut self.reception, desk, now_ms);
     }
 
-    /// Writes what is pending, and closes the connections that are over.
+    /// Writes pending bytes, and closes connections that have ended.
     pub(super) fn tell<B: OrderBook>(
         &mut self,
         registry: &Registry,
@@ -131,13 +131,13 @@ impl<'a> ClientSide<'a> {
             .close(&mut self.reception, registry, desk, now_ms);
     }
 
-    /// Cuts off all whose login was right: the session that they logged in to is over.
+    /// Disconnects all clients with a valid login, because their session is over.
     pub(super) fn cut_off<B: OrderBook>(&mut self, desk: &mut Desk<B>) {
         self.clients.cut_off(&mut self.reception, desk);
         self.reception.cut_off_ready();
     }
 
-    /// Begins a session, with nobody at the places.
+    /// Begins a session, with all places free.
     pub(super) fn begin_day(
         &mut self,
         alloc: Global,
@@ -150,7 +150,7 @@ impl<'a> ClientSide<'a> {
     }
 }
 
-// Free places for clients, with nobody at them.
+// Returns free places for clients.
 fn free_places(alloc: Global, serving: &Serving<'_>) -> Result<Clients, AllocError> {
     let room = SnapshotRoom::new(serving.snapshot_memory);
     Clients::new(

@@ -1,30 +1,30 @@
-//! What a live server keeps of one session of its feed.
+//! The data of a live server about one session of its feed.
 
 use super::days::Tomorrow;
 use crate::opened::OwnFiles;
 use itch_records::{Record, Replay, Saver};
 use itch_status::Tally;
 
-/// The files of a session, and how far it has come.
+/// The files of a session, and its progress.
 #[derive(Drop)]
 pub(super) struct Day {
     pub record: Record,
-    /// What is still to be replayed of it, before the feed is followed.
+    /// The rest of the record, which is replayed before the feed is followed.
     pub replay: Option<Replay>,
     pub saver: Option<Saver>,
     /// The latest timestamp of its messages so far.
     pub latest: Option<u64>,
     pub tally: Tally,
-    /// The session of the next day, once it is found.
+    /// The session of the next day, if it was found.
     pub tomorrow: Option<Tomorrow>,
-    /// Whether all that the feed had has come once, whether it has ended its session, and whether it was asked which one that is.
+    /// Whether the feed was caught up once, whether it has ended its session, and whether it was asked for its session.
     pub has_caught_up: bool,
     pub has_ended: bool,
     pub has_asked: bool,
 }
 
 impl Day {
-    /// A session with these files, whose market has the messages before this number.
+    /// Creates a session with these files, whose market contains the messages before this number.
     pub(super) fn new(files: OwnFiles, next: Option<u64>) -> Day {
         let OwnFiles {
             record,
@@ -44,12 +44,12 @@ impl Day {
         }
     }
 
-    /// Takes note of the timestamp of a message.
+    /// Records the timestamp of a message.
     pub(super) fn see(&mut self, market_ns: Option<u64>) {
         self.latest = self.latest.max(market_ns);
     }
 
-    /// How many messages are between two snapshots that are written; 0 where none are.
+    /// Returns the number of messages between two snapshots, or 0 if none are written.
     pub(super) fn every(&self) -> u64 {
         match &self.saver {
             Some(saver) => saver.every(),
@@ -57,12 +57,12 @@ impl Day {
         }
     }
 
-    /// Whether the snapshot after the messages before this number is to be written.
+    /// Returns whether a snapshot is due after the messages before this number.
     pub(super) fn wants_snapshot(&self, next: u64) -> bool {
         self.saver.as_ref().is_some_and(|saver| saver.wants(next))
     }
 
-    /// The snapshot that was written last, and how many could not be written.
+    /// Returns the number of messages of the last snapshot, and how many snapshots could not be written.
     pub(super) fn saved(&self) -> (Option<u64>, u64) {
         match &self.saver {
             Some(saver) => saver.figures(),

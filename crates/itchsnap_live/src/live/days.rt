@@ -1,4 +1,4 @@
-//! One day of a live server after another: where each session of the feed has files of its own, the next one begins with new ones.
+//! The days of a live server: if each session of the feed has its own files, the next session begins with new ones.
 
 use super::beginning::open_day;
 use super::day::Day;
@@ -15,7 +15,7 @@ use std::fs::File;
 use std::net::Net;
 use std::rt::{Clock, Files};
 
-/// The clients of a day have so long to take what they are sent, once the next day has been found.
+/// How many milliseconds the clients of a day have to receive their data, after the next day was found.
 const EVENING_MS: u64 = 30_000;
 
 /// The session of the next day, and when it was found.
@@ -25,7 +25,7 @@ pub(super) struct Tomorrow {
     found_ms: u64,
 }
 
-// The session that was found, if it is another than the present one.
+// Returns the session that was found, if it differs from the current one.
 fn another(found: Option<Alpha<10>>, present: Option<Alpha<10>>) -> Option<Alpha<10>> {
     let (Some(session), Some(present)) = (found, present) else {
         return None;
@@ -41,7 +41,7 @@ impl<'r, 'a, R, B: OrderBook<Alloc = Global>> Server<'r, 'a, R, B>
 where
     R: Net + Clock + Files<File = File> + Eprint + AllocGlobal,
 {
-    // The feed is not in the session of the day any more: from now on it is asked which one it is in.
+    // Starts to ask the feed for its session, because it is no longer in the session of the day.
     pub(super) fn begin_scouting(&mut self) {
         if self.serving.has_days() && self.serving.stay && self.scout.is_none() {
             self.scout = Scout::of(&self.log, &self.feed, SCOUT);
@@ -55,7 +55,7 @@ where
         }
     }
 
-    // Takes note of the session of the next day, once the feed names it. Who waits is sent the last market of this one.
+    // Records the session of the next day when the feed names it. Waiting clients receive the last market of this one.
     pub(super) fn look_for_a_day(&mut self, now_ms: u64) {
         if self.day.tomorrow.is_some() {
             return;
@@ -80,7 +80,7 @@ where
         }
     }
 
-    // Begins the next day, once it was found, and the clients of this one are gone or have had their time.
+    // Begins the next day, if it was found, and the clients of this one are gone or had their time.
     pub(super) fn begin_day_if_due(&mut self) -> Result<(), LiveFault> {
         let Some(Tomorrow { session, found_ms }) = self.day.tomorrow else {
             return Ok(());

@@ -1,4 +1,4 @@
-//! The figures of a live server, for its status port.
+//! The figures of a live server for its status port.
 
 use super::Server;
 use super::client_side::ClientSide;
@@ -13,7 +13,7 @@ impl<'r, 'a, R, B: OrderBook<Alloc = Global>> Server<'r, 'a, R, B>
 where
     R: Net + Clock + Files<File = File> + Eprint + AllocGlobal,
 {
-    // Whether something is to be done for the status port before anything else is ready.
+    // Returns whether there may be something to do for the status port without waiting for another event.
     pub(super) fn is_asked(&self) -> bool {
         match &self.status {
             Some(status) => status.is_busy(),
@@ -21,7 +21,7 @@ where
         }
     }
 
-    // Answers who asks for the status.
+    // Answers the requests at the status port.
     pub(super) fn tell_status(&mut self, now_ms: u64) {
         let Some(mut status) = self.status.take() else {
             return;

@@ -13,7 +13,7 @@ impl<'r, 'a, R, B: OrderBook<Alloc = Global>> Server<'r, 'a, R, B>
 where
     R: Net + Clock + Files<File = File> + Eprint + AllocGlobal,
 {
-    // Goes on without the record where that is what failed, and is optional.
+    // Continues without the record if it has failed and is optional.
     pub(super) fn fail(&mut self, fault: LiveFault) -> Result<(), LiveFault> {
         match fault.write_error() {
             Some(error) => self.lose_record(RecordLoss::System(error)),
@@ -21,7 +21,7 @@ where
         }
     }
 
-    // The record has the feed's session before it has a message.
+    // Writes the feed's session to the record before it contains a message.
     pub(super) fn begin_record(&mut self) -> Result<(), LiveFault> {
         let Some(session) = self.desk.follower().session() else {
             return Ok(());
@@ -46,7 +46,7 @@ where
         Ok(())
     }
 
-    // Replays a part of the record, and says whether more may follow. The snapshots that are due are written.
+    // Replays a part of the record, and returns whether more may follow. Snapshots that are due are written.
     fn replay_part(&mut self, now_ms: u64) -> Result<bool, LiveFault> {
         let Some(mut replay) = self.day.replay.take() else {
             return Ok(false);
@@ -65,8 +65,8 @@ where
         Ok(is_more)
     }
 
-    // Writes the snapshot after a message, where one is asked for, and says whether it is. The record has each message that the snapshot has: they
-    // end at this offset.
+    // Writes the snapshot after a message, if one is due, and returns whether it was due. The record contains each message of the snapshot,
+    // and they end at this offset.
     pub(super) fn save(&mut self, next: u64, offset: u64, now_ms: u64) -> Result<bool, LiveFault> {
         if !self.day.wants_snapshot(next) {
             return Ok(false);
@@ -91,7 +91,7 @@ where
         Ok(true)
     }
 
-    // Goes on without the record where that is allowed.
+    // Continues without the record if it is optional.
     pub(super) fn lose_record(&mut self, loss: RecordLoss) -> Result<(), LiveFault> {
         if self.day.record.is_optional() {
             self.log.say(&loss);
@@ -101,7 +101,7 @@ where
         Err(loss.fault(self.desk.follower().next()))
     }
 
-    // The fault of a feed that refuses to go on: with its session, or with the one of the record or of the snapshot, which it is not in.
+    // Adds details to the fault of a feed: its session, or that of the record or the snapshot, which it is not in.
     pub(super) fn explained(&self, fault: LiveFault) -> LiveFault {
         let fault = fault.of_message(self.desk.follower().session(), self.feed.server());
         if self.day.record.session().is_some() {
@@ -113,7 +113,7 @@ where
         fault
     }
 
-    // Looks at the files that others may change.
+    // Checks the files that other processes may change.
     pub(super) fn watch(&mut self, now_ms: u64) -> Result<(), LiveFault> {
         if self.client_side.users.is_due(now_ms) {
             self.spare.release();
@@ -125,7 +125,7 @@ where
         }
     }
 
-    // Has all of the record on disk.
+    // Waits until all of the record is on disk.
     pub(super) fn finish(&mut self) -> Result<(), LiveFault> {
         match self.day.record.finish() {
             Ok(()) => Ok(()),
@@ -134,7 +134,7 @@ where
     }
 }
 
-// The part of a day's record up to an offset, if it is recorded.
+// Returns the part of a day's record up to an offset, if it is recorded.
 fn part_of(
     paths: &DayPaths,
     is_recorded: bool,

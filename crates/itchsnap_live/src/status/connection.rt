@@ -1,4 +1,4 @@
-//! A connection to the status port: one request, and the answer to it.
+//! A connection to the status port: one request, and its answer.
 ghost use Rattle.std.specs.Prelude.{◌≡◌, ◌-◌, nat_le};
 
 use itch_sessions::Link;
@@ -6,23 +6,23 @@ use itch_status::{Answer, LONGEST, Refusal, answer_to, refused};
 use mio::event::Event;
 use std::alloc::{AllocError, Global};
 
-/// How long a connection may be open.
+/// How many milliseconds a connection may be open.
 const PATIENCE_MS: u64 = 5_000;
 
-// How far a connection is.
+// The state of a connection.
 #[derive(Drop)]
 enum Stage {
     // Its request is not complete.
     Begun,
-    // It has asked, and is to be answered.
+    // Its request waits for an answer.
     Asked(Answer),
-    // It is answered with these bytes, of which so many were written.
+    // It is answered with these bytes, of which `written` were written.
     Answered { response: Vec<u8>, written: usize },
     // It is to be closed.
     Over,
 }
 
-/// A connection.
+/// A connection to the status port.
 #[derive(Drop)]
 pub(crate) struct Connection {
     link: Link,
@@ -32,7 +32,11 @@ pub(crate) struct Connection {
 }
 
 impl Connection {
-    /// A connection that was accepted at this moment.
+    /// Creates a connection that was accepted at this time.
+    ///
+    /// # Errors
+    ///
+    /// [`AllocError`] if memory is refused.
     pub(crate) fn new(alloc: Global, link: Link, now_ms: u64) -> Result<Connection, AllocError> {
         Ok(Connection {
             link,
@@ -42,12 +46,12 @@ impl Connection {
         })
     }
 
-    /// Takes note of what is ready.
+    /// Records the readiness reported by an event.
     pub(crate) fn note(&mut self, event: &Event) {
         self.link.note(event);
     }
 
-    /// Whether there is something to do before anything else is ready.
+    /// Returns whether there may be something to do without waiting for another event.
     pub(crate) fn is_busy(&self) -> bool {
         match &self.stage {
             Stage::Begun => self.link.is_busy(false),
@@ -56,7 +60,7 @@ impl Connection {
         }
     }
 
-    /// Reads what has come, and how it is to be answered. What comes after the request is passed over.
+    /// Reads bytes, and determines the answer to the request. Bytes after the request are ignored.
     pub(crate) fn hear(&mut self, buffer: &mut [u8], now_ms: u64) {
         match self.stage {
             Stage::Begun => self.read(buffer, now_ms),
@@ -81,7 +85,7 @@ impl Connection {
         }
     }
 
-    // Looks how what has come is to be answered.
+    // Determines the answer to the bytes so far.
     fn look(&mut self, now_ms: u64) {
         match answer_to(self.request.as_slice()) {
             Answer::More => self.time_out(now_ms),
@@ -95,14 +99,14 @@ impl Connection {
         }
     }
 
-    // Whether its five seconds are over.
+    // Returns whether its five seconds are over.
     fn is_late(&self, now_ms: u64) -> bool
         ensures { result ≡ nat_le 5000 (now_ms - self.now.since_ms) }
     {
         now_ms.saturating_sub(self.since_ms) >= PATIENCE_MS
     }
 
-    /// What is to be answered, if anything is.
+    /// Returns the answer that is due, if there is one.
     pub(crate) fn asked(&self) -> Option<Answer> {
         match self.stage {
             Stage::Asked(answer) => Some(answer),
@@ -110,7 +114,7 @@ impl Connection {
         }
     }
 
-    /// Answers it, or closes it where there is no answer.
+    /// Answers it, or closes it if there is no response.
     pub(crate) fn tell(&mut self, response: Option<Vec<u8>>) {
         self.stage = match response {
             Some(response) => Stage::Answered {
@@ -121,7 +125,8 @@ impl Connection {
         };
     }
 
-    /// Writes what its socket takes of the answer, and says whether it is to be closed: once the other side has closed it, or its time is over.
+    /// Writes as much of the answer as the socket accepts. Returns whether the connection is to be closed, because the peer has closed it or
+    /// its time is over.
     pub(crate) fn write(&mut self, now_ms: u64) -> bool {
         let Stage::Answered { response, written } = &mut self.stage else {
             return matches!(self.stage, Stage::Over);

@@ -1,5 +1,5 @@
-//! A side with many more prices than one line of an indexed book takes: they come from the worst to the best and from the best to
-//! the worst, some of them leave and come again, and then all leave in the same and in the other order.
+//! A side with many more prices than fit one line of an indexed book. The prices come from worst to best and from best to worst, some of them
+//! leave and return, and then all leave in the same order and in the reverse order.
 use super::{add, delete, has_len, order};
 use crate::equal::{Host, TestResult, same};
 use itch_book::{IndexedBook, ListBook, Order, OrderBook, SettledBook};
@@ -8,7 +8,7 @@ use std::alloc::AllocError;
 
 const PRICES: u32 = 1000;
 
-// The order of a number, whose price is higher or lower the later it comes.
+// Returns the order with a number. Its price is higher, or lower, the greater the number.
 fn order_of(side: Side, rises: bool, number: u32) -> Order {
     let price = if rises {
         1000000u32.wrapping_add(number)
@@ -18,7 +18,7 @@ fn order_of(side: Side, rises: bool, number: u32) -> Order {
     order(u64::from(number), side, 10, price)
 }
 
-// Adds the order of a number to both books.
+// Adds the order to both books.
 fn add_both<B: OrderBook, C: OrderBook>(
     rt: &impl Host,
     one: &mut B,
@@ -31,7 +31,7 @@ fn add_both<B: OrderBook, C: OrderBook>(
     Ok(())
 }
 
-// Deletes the order of a number from both books.
+// Deletes the order from both books.
 fn delete_both<B: OrderBook, C: OrderBook>(
     rt: &impl Host,
     one: &mut B,
@@ -84,7 +84,7 @@ fn fill<B: OrderBook, C: OrderBook>(
     Ok(())
 }
 
-// Deletes two of every three orders, and adds half of them again.
+// Deletes two out of three orders, and adds half of them again.
 fn thin<B: OrderBook, C: OrderBook>(
     rt: &impl Host,
     one: &mut B,
@@ -107,7 +107,7 @@ fn thin<B: OrderBook, C: OrderBook>(
     Ok(())
 }
 
-// Deletes what is left, in the order in which it came or in the other one.
+// Deletes the rest, in the order of arrival or in the reverse order.
 fn clear<B: OrderBook, C: OrderBook>(
     rt: &impl Host,
     one: &mut B,
@@ -126,7 +126,7 @@ fn clear<B: OrderBook, C: OrderBook>(
     same(rt, other.next_price(1, side, None), None);
 }
 
-// The same of two new books, each over its memory, for each side and order.
+// Checks two new books in their own memory, for each side and order.
 fn check_ladders<B: OrderBook, C: OrderBook>(
     rt: &impl Host,
     memory: B::Alloc,

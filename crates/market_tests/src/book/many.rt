@@ -1,6 +1,6 @@
-//! A book of more than a hundred thousand orders: with ample memory none is refused, and no replacement.
+//! A book of more than a hundred thousand orders: with ample memory, no order and no replacement is refused.
 //!
-//! The clauses of a list's book say where it is never refused any; it would take too long here.
+//! The clauses of the list book state when it refuses an order. It would take too long here.
 use super::{add, has_len, order, reference, replace, total};
 use crate::equal::{Host, TestResult, same};
 use itch_book::{IndexedBook, OrderBook, SettledBook};
@@ -9,7 +9,7 @@ use std::alloc::AllocError;
 
 const MANY: u32 = 110_000;
 
-// Adds many orders, each at a price of its own and after all others.
+// Adds many orders, each at its own price and after all others.
 fn fill<B: OrderBook>(rt: &impl Host, book: &mut B) -> Result<(), AllocError> {
     for number in 0..MANY {
         let added = order(u64::from(number), Side::Sell, 10, 1000000 + number);
@@ -18,7 +18,7 @@ fn fill<B: OrderBook>(rt: &impl Host, book: &mut B) -> Result<(), AllocError> {
     Ok(())
 }
 
-// Puts new orders, each at a price of its own, in place of the first hundred.
+// Replaces the first hundred orders by new ones, each at its own price.
 fn replace_first<B: OrderBook>(rt: &impl Host, book: &mut B) -> Result<(), AllocError> {
     for number in 0..100u32 {
         let original = u64::from(number);
@@ -46,7 +46,7 @@ fn indexed_book_of_many_orders(rt: HostRuntime) -> TestResult {
     Ok(check_many::<IndexedBook>(&rt, rt.alloc())?)
 }
 
-// The same of a settled book, before it is settled and after that.
+// The same for a settled book, before and after it is settled.
 #[test]
 fn settled_book_of_many_orders(rt: HostRuntime) -> TestResult {
     let mut book: SettledBook = SettledBook::new(rt.alloc());

@@ -1,4 +1,4 @@
-//! Settled books by the same rows as the others: one that is never settled, and one that is settled after each change.
+//! Settled books with the rows of the others: one that is never settled, and one that is settled after each change.
 use super::{add, check_calls, check_priority, first, order};
 use crate::equal::TestResult;
 use itch_book::{Order, OrderBook, Placed, SettledBook, Taken};
@@ -105,7 +105,7 @@ fn settled_book_keeps_priority(rt: HostRuntime) -> TestResult {
     Ok(check_priority::<Settling>(&rt, rt.alloc())?)
 }
 
-// Whether a change leaves a book of one order settled.
+// After a change, a settled book is no longer settled.
 #[test]
 fn settled_until_a_change(rt: HostRuntime) -> TestResult {
     let mut book: SettledBook = SettledBook::new(rt.alloc());

@@ -1,4 +1,4 @@
-//! Two books side by side: random calls return the same, and leave the same orders.
+//! Two books side by side: random calls have the same results, and lead to the same orders.
 use super::settled::Settling;
 use super::{
     add, after, after_at, delete_at, first, live, order, place_of, replace_at, take_at, unplaced,
@@ -8,14 +8,14 @@ use itch_book::{IndexedBook, ListBook, Order, OrderBook, SettledBook};
 use itch_codec::Side;
 use std::alloc::AllocError;
 
-// Numbers without a pattern, the same at each run.
+// Numbers without a pattern, the same in each run.
 #[derive(Drop)]
 struct Random {
     state: u64,
 }
 
 impl Random {
-    // A number below a limit.
+    // Returns a number below a limit.
     fn below(&mut self, limit: u32) -> u32 {
         self.state = self
             .state
@@ -32,7 +32,7 @@ impl Random {
         }
     }
 
-    // One of a few prices.
+    // Returns one of a few prices.
     fn price(&mut self) -> u32 {
         1500000u32.wrapping_add(self.below(3).wrapping_mul(100))
     }
@@ -44,7 +44,7 @@ impl Random {
         }
     }
 
-    // The place of the order, one that another may have, or one beyond all.
+    // Returns the place of the order, one that another order may have, or one beyond all.
     fn given(&mut self) -> Given {
         match self.below(3) {
             0 => Given::Own,
@@ -53,7 +53,7 @@ impl Random {
         }
     }
 
-    // An order of 1 to 20 shares.
+    // Returns an order of 1 to 20 shares.
     fn order(&mut self, reference: u64) -> Order {
         let (side, shares, price) = (self.side(), self.below(20), self.price());
         Order {
@@ -63,7 +63,7 @@ impl Random {
     }
 }
 
-// The place that a call is given.
+// The place that is passed to a call.
 #[derive(Clone, Copy)]
 enum Given {
     Own,
@@ -84,7 +84,7 @@ fn add_copy<B: OrderBook>(rt: &impl Host, book: &mut B, order: &Order) -> Result
     add(rt, book, *order)
 }
 
-// Makes one random call of both books.
+// Makes one random call on both books.
 fn call<B: OrderBook, C: OrderBook>(
     rt: &impl Host,
     random: &mut Random,
@@ -123,7 +123,7 @@ fn call<B: OrderBook, C: OrderBook>(
     Ok(())
 }
 
-// Checks that both books have this order of a reference.
+// Checks that both books have this order under a reference.
 fn check_live<B: OrderBook, C: OrderBook>(
     rt: &impl Host,
     one: &B,
@@ -137,7 +137,7 @@ fn check_live<B: OrderBook, C: OrderBook>(
     same(rt, &unplaced(other.find(reference)), want);
 }
 
-// Checks that both books have the same orders of a locate, in the same order: those of the other book from place to place.
+// Checks that both books have the same orders at a locate, in the same order. Those of the other book are found from place to place.
 fn check_orders<B: OrderBook, C: OrderBook>(rt: &impl Host, one: &B, other: &C, locate: u16) {
     let mut next = first(one, locate);
     let mut beside = other.first(locate);
@@ -153,7 +153,7 @@ fn check_orders<B: OrderBook, C: OrderBook>(rt: &impl Host, one: &B, other: &C, 
     same(rt, &unplaced(beside), &next);
 }
 
-// Checks that both books have the same first order, prices and totals of a side.
+// Checks that both books have the same first order, prices and totals on a side.
 fn check_side<B: OrderBook, C: OrderBook>(
     rt: &impl Host,
     one: &B,
@@ -180,7 +180,7 @@ fn check_side<B: OrderBook, C: OrderBook>(
     }
 }
 
-// Checks that both books are the same.
+// Checks that both books have the same orders.
 fn check_books<B: OrderBook, C: OrderBook>(rt: &impl Host, one: &B, other: &C) {
     same(rt, other.len(), one.len());
     for locate in [1, 2, u16::MAX] {
@@ -190,7 +190,7 @@ fn check_books<B: OrderBook, C: OrderBook>(rt: &impl Host, one: &B, other: &C) {
     }
 }
 
-// Makes random calls of both books, and checks both after each.
+// Makes random calls on both books, and checks both after each.
 fn check_calls<B: OrderBook, C: OrderBook>(
     rt: &impl Host,
     one: &mut B,
@@ -205,7 +205,7 @@ fn check_calls<B: OrderBook, C: OrderBook>(
     Ok(())
 }
 
-// The same of two new books, each over its memory.
+// Checks two new books in their own memory in this way.
 fn check_new<B: OrderBook, C: OrderBook>(
     rt: &impl Host,
     memory: B::Alloc,

@@ -1,4 +1,4 @@
-//! What a market holds, by its calls.
+//! The content of a market, as its calls return it.
 use crate::book::{after, first, has_len};
 use crate::equal::Host;
 use itch_book::{Order, OrderBook};
@@ -14,7 +14,7 @@ pub(crate) struct Content {
     pub(crate) orders: Vec<Order>,
 }
 
-/// What is kept of the security at a locate.
+/// The data of the security at a locate.
 #[derive(Debug, Drop, PartialEq)]
 pub(crate) struct Kept {
     pub(crate) locate: u16,
@@ -88,7 +88,7 @@ pub(crate) fn content_of<B: OrderBook>(
     })
 }
 
-/// The references of the orders in snapshot order.
+/// Returns the references of the orders in snapshot order.
 pub(crate) fn references<B: OrderBook>(
     rt: &impl Host,
     market: &Market<B>,

@@ -5,7 +5,7 @@ use itch_market::LocateSet;
 use std::alloc::{AllocError, Allocator, Global};
 use test_doubles::messages::*;
 
-// A locate is not in a set until it is inserted, once or twice.
+// Checks that a locate is in a set only after it was inserted, once or twice.
 fn insert_twice<A: Allocator + Copy>(
     rt: &impl Host,
     set: &mut LocateSet<A>,
@@ -36,14 +36,14 @@ fn contains_what_was_inserted(rt: HostRuntime) -> TestResult {
     Ok(())
 }
 
-// Whether a set of one locate skips a message.
+// Returns whether a set of one locate skips a message.
 fn skipped_by(alloc: Global, locate: u16, message: &Message<'_>) -> Result<bool, AllocError> {
     let mut set = LocateSet::new(alloc);
     set.insert(locate)?;
     Ok(set.skips(message))
 }
 
-// A message about a security or an order at locate 1 is skipped by the sets without it.
+// Checks that a message about a security or an order at locate 1 is skipped by the sets without it.
 fn check_skipped(rt: &impl Host, message: &Message<'_>) -> Result<(), AllocError> {
     assert!(rt; !skipped_by(rt.alloc(), 1, message)?);
     assert!(rt; skipped_by(rt.alloc(), 2, message)?);
@@ -74,7 +74,7 @@ fn skips_the_messages_of_other_locates(rt: HostRuntime) -> TestResult {
     Ok(())
 }
 
-// Trades and messages that change no market, each with locate 1.
+// Trades, and messages that do not change a market, each with locate 1.
 const OTHERS: &[&[u8]] = &[
     b"P\0\x01\0\0\0\0\0\0\0\0\0\0\0\0\0\0\0\0B\0\0\0dAAPL    \0\x16\xe3\x60\0\0\0\0\0\0\0\x01",
     b"Q\0\x01\0\0\0\0\0\0\0\0\0\0\0\0\0\0\0dAAPL    \0\x16\xe3\x60\0\0\0\0\0\0\0\x01O",
@@ -82,7 +82,7 @@ const OTHERS: &[&[u8]] = &[
     b"N\0\x01\0\0\0\0\0\0\0\0AAPL    N",
 ];
 
-// The empty set does not skip this message.
+// Checks that the empty set does not skip this message.
 fn is_kept(rt: &impl Host, message: &Message<'_>) {
     assert!(rt; !LocateSet::new(rt.alloc()).skips(message));
 }

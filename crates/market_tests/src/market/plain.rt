@@ -1,4 +1,4 @@
-//! The plainest message for each type of message, by hand.
+//! The plainest message for each type of message, written out by hand.
 use super::market_of;
 use crate::equal::{Host, TestResult, same_in};
 use itch_book::{ListBook, OrderBook};
@@ -8,10 +8,10 @@ use std::alloc::{AllocError, Global};
 use std::test::Fail;
 use test_doubles::messages::*;
 
-// A message, and its plainest.
+// A message, and its plainest form.
 type Row = (Made, Made);
 
-// AAPL at locate 1 with all that can be set, and a bid for 100 shares of reference 1.
+// Returns a market with AAPL at locate 1, all its data set, and a bid for 100 shares with reference 1.
 fn begun<B: OrderBook>(alloc: B::Alloc) -> Result<Market<B>, Fail> {
     let messages = [
         event(b'O'),
@@ -25,12 +25,12 @@ fn begun<B: OrderBook>(alloc: B::Alloc) -> Result<Market<B>, Fail> {
     market_of(alloc, &messages)
 }
 
-// The message that stands for all that change nothing.
+// Returns the message that represents all messages without an effect.
 fn nothing() -> Made {
     broken_trade(0, 0)
 }
 
-// A halt of AAPL without its reserved byte.
+// Returns a halt of AAPL without its reserved byte.
 fn halted() -> Made {
     Some(Message::TradingAction(TradingAction {
         header: header(1)?,
@@ -41,7 +41,7 @@ fn halted() -> Made {
     }))
 }
 
-// The bytes of a message with a tracking number and a timestamp, which are the eight from the fourth on.
+// Returns the bytes of a message with a tracking number and a timestamp, which are eight bytes from the fourth on.
 fn stamped(alloc: Global, message: &Message<'_>) -> Result<Vec<u8>, AllocError> {
     let encoded = encode(message);
     let mut bytes = encoded.bytes().to_vec(alloc)?;
@@ -61,7 +61,7 @@ fn check_plain<B: OrderBook>(
     same_in(rt, row, &market.plain(message), want);
 }
 
-// Each message has its plainest, and so has it with another tracking number and timestamp.
+// Checks the plainest form of each message, also with another tracking number and timestamp.
 fn check_rows<B: OrderBook>(rt: &impl Host, memory: B::Alloc, rows: &[Row]) -> TestResult {
     let market: Market<B> = begun(memory)?;
     for (row, (message, want)) in rows.iter().enumerate() {

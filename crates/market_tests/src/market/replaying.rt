@@ -1,4 +1,4 @@
-//! Replays that fail in the middle, and go on.
+//! Replays that fail in the middle, and continue.
 use crate::equal::{Host, TestResult, same};
 use itch_book::{ListBook, OrderBook};
 use itch_frame::BlockReader;
@@ -7,14 +7,14 @@ use test_doubles::PieceReader;
 use test_doubles::days::{Blocks, blocks, replayed};
 use test_doubles::payloads::{AAPL, ADD_2};
 
-// Takes the first two messages.
+// Applies the first two messages.
 fn replay_two<B: OrderBook>(rt: &impl Host, reader: &mut Blocks<'_>, market: &mut Market<B>) {
     let (count, stop) = replay_first(reader, market, 2);
     same(rt, count, 2);
     assert!(rt; stop.is_none());
 }
 
-// A refused message ends a replay, and the next replay begins after it.
+// Checks that a refused message ends a replay, and that the next replay begins after it.
 fn goes_on<B: OrderBook>(rt: &impl Host, reader: &mut Blocks<'_>, market: &mut Market<B>) {
     let (count, stop) = replayed(reader, market);
     same(rt, count, 2);
@@ -24,7 +24,7 @@ fn goes_on<B: OrderBook>(rt: &impl Host, reader: &mut Blocks<'_>, market: &mut M
     assert!(rt; matches!(stop, Stop::End));
 }
 
-// The first two messages are taken; of all, the third one is refused, and the fourth is taken.
+// Replays the first two messages only, or all: then the third one is refused, and the fourth is applied.
 fn check<B: OrderBook>(rt: &impl Host, memory: B::Alloc, is_whole: bool) -> TestResult {
     let day = blocks(rt.alloc(), &[AAPL, ADD_2, ADD_2, AAPL])?;
     let mut reader = BlockReader::new(rt.alloc(), PieceReader::new(day.written(), 64, None))?;

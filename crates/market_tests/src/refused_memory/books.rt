@@ -7,7 +7,7 @@ use itch_codec::Side;
 use std::alloc::{AllocError, Global};
 use test_doubles::Refusing;
 
-// A call that may grow a book: it adds an order, or replaces one by it.
+// Makes a call that may grow a book: it adds an order, or replaces another one by it.
 fn call<B: OrderBook>(
     rt: &impl Host,
     book: &mut B,
@@ -23,14 +23,14 @@ fn call<B: OrderBook>(
     }
 }
 
-// The orders of locate 1, in snapshot order.
+// Returns the orders at locate 1, in snapshot order.
 fn listed<B: OrderBook>(rt: &impl Host, book: &B) -> Result<Vec<Order>, AllocError> {
     let mut orders = Vec::new(rt.alloc());
     push_orders(rt, book, 1, &mut orders)?;
     Ok(orders)
 }
 
-// The best price of the side of an order, and the total at its price.
+// Returns the best price on the side of an order, and the total at its price.
 fn level<B: OrderBook>(book: &B, order: &Order) -> (Option<u32>, (u128, u64)) {
     (
         next_price(book, order.side, None),
@@ -38,13 +38,13 @@ fn level<B: OrderBook>(book: &B, order: &Order) -> (Option<u32>, (u128, u64)) {
     )
 }
 
-// These are the orders of locate 1.
+// Checks that these are the orders at locate 1.
 fn has_orders<B: OrderBook>(rt: &impl Host, book: &B, want: &[Order]) -> Result<(), AllocError> {
     same(rt, listed(rt, book)?.as_slice(), want);
     Ok(())
 }
 
-// Makes a call with this allocation refused. Returns whether it was.
+// Makes a call with this allocation refused. Returns whether it was refused.
 fn refuse_one<B: OrderBook>(
     rt: &impl Host,
     refusing: &Refusing<Global>,
@@ -83,8 +83,8 @@ fn refuse_each<B: OrderBook>(
     panic!(rt; "more than 16 allocations")
 }
 
-// Adds forty orders, each so far above the price before, and replaces every `every`-th by one as far above it.
-// Returns how many allocations of the additions and of the replacements were refused.
+// Adds forty orders, each `2 * step` above the one before, and replaces every `every`-th by one that is `step` above it. Returns how many
+// allocations of the additions and of the replacements were refused.
 fn grow<B: OrderBook>(
     rt: &impl Host,
     refusing: &Refusing<Global>,
@@ -110,7 +110,7 @@ fn grow<B: OrderBook>(
     Ok((additions, replacements))
 }
 
-// How far apart the prices are, and which orders are replaced.
+// The distance of the prices, and which orders are replaced.
 const WAYS: [(u32, u64); 4] = [(0, 1), (0, 3), (100, 1), (100, 3)];
 
 #[test]
@@ -120,14 +120,14 @@ fn a_list_book_stays_as_it_was(rt: HostRuntime) -> TestResult {
         let mut book: ListBook<&Refusing<Global>> = ListBook::new(&refusing);
         let (additions, replacements) = grow(&rt, &refusing, &mut book, (step, every))?;
         assert!(rt; additions > 1);
-        // The order that is replaced leaves room.
+        // The replaced order leaves room.
         same(&rt, replacements, 0);
     }
     Ok(())
 }
 
-// A call that is refused keeps room that it made, so that three calls for the first order are refused. A replacement of every
-// order takes the allocations that follow, a replacement of every third leaves them to the additions.
+// A refused call keeps the room that it made, so three calls for the first order are refused. A replacement of every order makes the
+// allocations that follow; a replacement of every third leaves them to the additions.
 #[test]
 fn an_indexed_book_stays_as_it_was(rt: HostRuntime) -> TestResult {
     for (step, every) in WAYS {
@@ -141,7 +141,7 @@ fn an_indexed_book_stays_as_it_was(rt: HostRuntime) -> TestResult {
     Ok(())
 }
 
-// Adds three hundred levels, which are more than one line of an indexed book takes.
+// Adds three hundred levels, more than fit one line of an indexed book.
 fn fill_line<B: OrderBook>(rt: &impl Host, book: &mut B) -> Result<(), AllocError> {
     for number in 1000..1300u32 {
         add(
@@ -153,7 +153,7 @@ fn fill_line<B: OrderBook>(rt: &impl Host, book: &mut B) -> Result<(), AllocErro
     Ok(())
 }
 
-// Levels that find their line full are refused in turn too, above and below those that are there.
+// Calls for new levels are refused in turn when their line is full, above and below the existing levels.
 #[test]
 fn an_indexed_book_with_a_full_line_stays_as_it_was(rt: HostRuntime) -> TestResult {
     let refusing = Refusing::new(rt.alloc(), u64::MAX);
@@ -184,7 +184,7 @@ fn a_settled_book_stays_as_it_was(rt: HostRuntime) -> TestResult {
     Ok(())
 }
 
-// Orders are sorted where they stand.
+// Orders are sorted in place.
 #[test]
 fn a_book_is_settled_without_memory(rt: HostRuntime) -> TestResult {
     let refusing = Refusing::new(rt.alloc(), 0);

@@ -14,7 +14,7 @@ use test_doubles::{PieceReader, Refusing};
 
 type Refused<'a> = &'a Refusing<Global>;
 
-// Applies a message with this allocation refused. Returns whether it was.
+// Applies a message with this allocation refused. Returns whether it was refused.
 fn refuse_one<B: OrderBook>(
     rt: &impl Host,
     refusing: &Refusing<Global>,
@@ -30,7 +30,7 @@ fn refuse_one<B: OrderBook>(
     is_refused
 }
 
-// The market holds this.
+// Checks the content of the market.
 fn holds<B: OrderBook>(
     rt: &impl Host,
     market: &Market<B>,
@@ -57,7 +57,7 @@ fn refuse_to_apply<B: OrderBook>(
     panic!(rt; "more than 16 allocations")
 }
 
-// The same of forty messages: that of `payload`, whose numbers at these places count up from 1.
+// Applies forty messages in this way: that of `payload`, with the numbers at these places counting up from 1.
 fn refuse_forty<B: OrderBook>(
     rt: &impl Host,
     refusing: &Refusing<Global>,
@@ -80,21 +80,21 @@ fn refuse_forty<B: OrderBook>(
     Ok(refused)
 }
 
-// Orders 1 to 40 at as many prices, and with attribution 65 to 104.
+// Orders 1 to 40 at 40 prices, and orders 65 to 104 with attribution.
 const ADDS: &[u8] = b"A\0\x02\0\0\0\0\0\0\0\0\0\0\0\0\0\0\0\0B\0\0\0dAAPL    \0\x16\xe3\0";
 
 const NAMES: &[u8] = b"F\0\x02\0\0\0\0\0\0\0\0\0\0\0\0\0\0\0\x40S\0\0\0dAAPL    \0\x26\xe3\0ABCD";
 
-// Orders 256 apart in place of 1 to 40, at other prices.
+// Replacements of orders 1 to 40 by orders 256 apart, at other prices.
 const REPLACES: &[u8] =
     b"U\0\x02\0\0\0\0\0\0\0\0\0\0\0\0\0\0\0\0\0\0\0\0\0\0\0\x80\0\0\0d\0\x17\xe3\0";
 
-// Halts of forty markets, and positions of forty market participants.
+// Halts of forty market centers, and positions of forty market participants.
 const HALTS: &[u8] = b"h\0\x02\0\0\0\0\0\0\0\0AAPL    \0H";
 
 const POSITIONS: &[u8] = b"L\0\x02\0\0\0\0\0\0\0\0ABC\x40AAPL    NNA";
 
-// Each growth of a market over this memory. Returns how many allocations of the replacements were refused.
+// Checks each growth of a market in this memory. Returns how many allocations of the replacements were refused.
 fn refuse_growth<B: OrderBook>(
     rt: &impl Host,
     refusing: &Refusing<Global>,
@@ -102,10 +102,10 @@ fn refuse_growth<B: OrderBook>(
 ) -> Result<u64, Fail> {
     let mut market: Market<B> = Market::new(memory);
     for (payload, places, grows) in [
-        // Directory entries of locates 2 to 41.
+        // Directory entries at locates 2 to 41.
         (AAPL, [2].as_slice(), true),
         (HALTS, &[19], true),
-        // What is there already takes none.
+        // Existing data needs no memory.
         (HALTS, &[19], false),
         (POSITIONS, &[14], true),
         (POSITIONS, &[14], false),
@@ -120,7 +120,7 @@ fn refuse_growth<B: OrderBook>(
     Ok(refused)
 }
 
-// The order that is replaced leaves room.
+// The replaced order leaves room.
 #[test]
 fn a_market_of_a_list_stays_as_it_was(rt: HostRuntime) -> TestResult {
     let refusing = Refusing::new(rt.alloc(), 0);
@@ -137,7 +137,7 @@ fn a_market_of_an_index_stays_as_it_was(rt: HostRuntime) -> TestResult {
     Ok(())
 }
 
-// Inserts a locate with memory refused, and again with memory, and once more. Returns whether it was refused.
+// Inserts a locate with memory refused, then with memory, and once more. Returns whether it was refused.
 fn insert_refused<A: Allocator + Copy>(
     rt: &impl Host,
     refusing: &Refusing<Global>,
@@ -157,7 +157,7 @@ fn insert_refused<A: Allocator + Copy>(
     Ok(was_refused)
 }
 
-// A set of locates stays as it was where memory is refused, and a locate that it contains takes none.
+// A set of locates does not change if memory is refused, and a locate that it contains needs none.
 #[test]
 fn a_set_of_locates_stays_as_it_was(rt: HostRuntime) -> TestResult {
     let refusing = Refusing::new(rt.alloc(), 0);
@@ -167,7 +167,7 @@ fn a_set_of_locates_stays_as_it_was(rt: HostRuntime) -> TestResult {
         was_refused |= insert_refused(&rt, &refusing, &mut set, locate)?;
     }
     assert!(rt; was_refused);
-    // The set of all locates takes no memory.
+    // The set of all locates allocates no memory.
     let mut all = LocateSet::all(&refusing);
     refusing.arm(0);
     all.insert(7)?;
@@ -175,8 +175,8 @@ fn a_set_of_locates_stays_as_it_was(rt: HostRuntime) -> TestResult {
     Ok(())
 }
 
-// A replay of the day into an empty market, whose memory is refused once, stops there, with the message read and not counted.
-// Returns whether it was.
+// Replays the day into an empty market whose memory is refused once, and checks that the replay stops there, with the message read and not
+// counted. Returns whether memory was refused.
 fn stops_at_the_message<B: OrderBook>(
     rt: &impl Host,
     refusing: &Refusing<Global>,
@@ -196,13 +196,13 @@ fn stops_at_the_message<B: OrderBook>(
     Ok(true)
 }
 
-// A reader has this block next.
+// Checks that the next block of a reader is this one.
 fn gives(rt: &impl Host, reader: &mut Blocks<'_>, want: Option<&[u8]>) -> Result<(), FrameFault> {
     same(rt, reader.next_block()?, want);
     Ok(())
 }
 
-// The same of a market over this memory.
+// Does this with a market in this memory.
 fn refuse_to_replay<B: OrderBook>(
     rt: &impl Host,
     refusing: &Refusing<Global>,
@@ -214,7 +214,7 @@ fn refuse_to_replay<B: OrderBook>(
     Ok(stops_at_the_message(rt, refusing, &mut reader, &mut market)?)
 }
 
-// Each allocation of a replay is refused in turn.
+// Refuses each allocation of a replay in turn.
 fn refuse_each_replay<B: OrderBook>(
     rt: &impl Host,
     refusing: &Refusing<Global>,

@@ -52,11 +52,12 @@ fn words_of_a_live_server_are_read(rt: HostRuntime) -> TestResult {
 }
 
 // More options of a live server, and a part of the resulting request.
-const PARTS: [&str; 16] = [
+const PARTS: [&str; 17] = [
     "--feed g:2 => others: [Some(Place { words: \"g:2\", host: \"g\", port: 2 }), None, None, None, None, None, None] }",
     "--feed b:2 --feed c:3 --feed d:4 --feed e:5 --feed f:6 --feed g:7 --feed [::1]:8 => Some(Place { words: \"[::1]:8\", host: \"::1\", port: 8 })] }",
     "--records days => record: Some(RecordWords { place: Folder(\"days\"), sync: EverySecond, is_optional: false })",
     "--snapshots s --every 5 --keep 3 => snapshots: Some(SnapshotWords { folder: \"s\", every: 5, keep: Some(3) })",
+    "--to s --every 5 --keep 3 => snapshots: Some(SnapshotWords { folder: \"s\", every: 5, keep: Some(3) })",
     "--ready first => ready: First,",
     "--ready caught-up => ready: CaughtUp,",
     "--snapshot-memory 1 => snapshot_memory: Some(1),",

@@ -69,6 +69,14 @@ fn words_of_a_client_are_read(rt: HostRuntime) -> TestResult {
             1,
             Some(86_400),
         ),
+        (
+            "glimpse.example:17801",
+            None,
+            "glimpse.example",
+            17_801,
+            None,
+        ),
+        ("[::1]:1 --timeout 5", None, "::1", 1, Some(5)),
     ];
     for (line, name, host, port, timeout) in cases {
         let found = server(rt.alloc(), line, name)?;

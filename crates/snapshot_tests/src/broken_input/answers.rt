@@ -1,4 +1,4 @@
-//! Broken answers to a fetch: each beginning of a served session, and each of its bytes at each value.
+//! Broken answers to a fetch: each prefix of a served session, and each of its bytes at each value.
 use crate::equal::{Host, TestResult, same};
 use crate::files::{are_same, read};
 use crate::sessions::{FROM_1, fetch_fault, fetched};
@@ -12,7 +12,7 @@ use std::test::Fail;
 use test_doubles::days::Blocks;
 use test_doubles::{FuseWriter, PieceReader};
 
-// Where the blocks of the answer begin, and where the last one that is read ends.
+// Where the blocks of the answer begin, and where the last block that is read ends.
 const STARTS: [usize; 6] = [0, 33, 48, 90, 129, 168];
 
 const READ: usize = 192;
@@ -21,7 +21,7 @@ fn fault(rt: &impl Host, answer: &[u8]) -> Result<Option<SoupFault>, Fail> {
     fetch_fault(rt, PieceReader::new(answer, 64, None))
 }
 
-// A fetch of this many bytes, the last of them those of the block from `start` on, is cut or ends early.
+// Checks that a fetch of `len` bytes, whose last block begins at `start`, is truncated or ends early.
 fn is_cut(rt: &impl Host, fault: Option<SoupFault>, start: usize, len: usize) {
     match fault {
         Some(SoupFault::EndedEarly) => same(rt, start, len),
@@ -33,7 +33,7 @@ fn is_cut(rt: &impl Host, fault: Option<SoupFault>, start: usize, len: usize) {
     }
 }
 
-// Where the block begins that these bytes end in.
+// Returns the start of the block in which these bytes end.
 fn start_of(rt: &impl Host, len: usize) -> usize {
     let start = STARTS.iter().rfind(|start| **start <= len);
     *start.expect(rt, "a block")
@@ -51,7 +51,7 @@ fn each_beginning_of_an_answer(rt: HostRuntime) -> TestResult {
     Ok(())
 }
 
-// Writes the payload of each packet of sequenced data in its block.
+// Writes the payload of each packet of sequenced data in a block.
 fn copy_payloads(
     reader: &mut Blocks<'_>,
     file: &mut FuseWriter,
@@ -65,7 +65,7 @@ fn copy_payloads(
     Ok(())
 }
 
-// The snapshot file of an answer: the payload of each sequenced data packet in its block.
+// Returns the snapshot file of an answer: the payload of each sequenced data packet in a block.
 fn snapshot_file(alloc: Global, answer: &[u8]) -> Result<FuseWriter, Fail> {
     let mut reader = BlockReader::new(alloc, PieceReader::new(answer, 64, None))?;
     let mut file = FuseWriter::new(alloc, 64, None);
@@ -73,7 +73,7 @@ fn snapshot_file(alloc: Global, answer: &[u8]) -> Result<FuseWriter, Fail> {
     Ok(file)
 }
 
-// Whether these bytes give a market, which is the one that they spell, or a fault.
+// Returns whether these bytes result in a market, and checks that it is the one that they encode. Otherwise there is a fault.
 fn gives_market<B: OrderBook>(
     rt: &impl Host,
     memory: B::Alloc,
@@ -90,7 +90,7 @@ fn gives_market<B: OrderBook>(
     Ok(true)
 }
 
-// Those of one byte: a fault, or a market. Returns how many were markets.
+// Sets one byte to each value. Returns how many of the results are markets.
 fn with_byte_changed(rt: &impl Host, at: usize) -> Result<usize, Fail> {
     assert!(rt; at < READ);
     let mut answer = [0; READ];

@@ -1,4 +1,4 @@
-//! Broken logins: each beginning of a login, each of its bytes at each value, and what may come before it.
+//! Broken logins: each prefix of a login, each of its bytes at each value, and packets before it.
 use crate::equal::{Host, TestResult, same, same_shown};
 use crate::files::seq;
 use crate::sessions::{FROM_3, LOGIN_3, serve_from, served_market};
@@ -9,7 +9,7 @@ use itch_soup::{Served, SoupFault};
 use std::alloc::{AllocError, Global};
 use test_doubles::{FuseWriter, PieceReader};
 
-// These bytes are answered so, by a server with five messages. Only an answer to a login writes.
+// Checks that a server with five messages gives this result for these bytes. Only the answer to a login is written.
 fn is_answered<B: OrderBook>(
     rt: &impl Host,
     market: &Market<B>,
@@ -36,7 +36,7 @@ fn truncated(held: usize) -> Result<Served, SoupFault> {
     Err(SoupFault::Frame(FrameFault::Truncated { held }))
 }
 
-// The answer to a login of which this many bytes come.
+// Returns the result for a login of which only this many bytes arrive.
 fn cut(rt: &impl Host, len: usize) -> Result<Served, SoupFault> {
     if len == 0 {
         Ok(Served::Left)
@@ -59,7 +59,7 @@ fn each_beginning_of_a_login(rt: HostRuntime) -> TestResult {
     check_beginnings(&rt, &served_market(rt.alloc())?)
 }
 
-// A login whose length is another one: with fewer bytes it is no login, and more do not come.
+// Returns the result for a login with another length: with fewer bytes it is not a login, and no more bytes arrive.
 fn of_length(byte: u8) -> Result<Served, SoupFault> {
     match byte {
         0 => Err(SoupFault::EmptyPacket),
@@ -72,7 +72,7 @@ fn of_length(byte: u8) -> Result<Served, SoupFault> {
     }
 }
 
-// A packet of 47 bytes of this type.
+// Returns the result for a packet of 47 bytes of this type.
 fn of_type(byte: u8) -> Result<Served, SoupFault> {
     match byte {
         b'+' | b'U' => Ok(Served::Left),
@@ -86,7 +86,8 @@ fn of_type(byte: u8) -> Result<Served, SoupFault> {
     }
 }
 
-// A login with another byte at this place of a text: the names are another's, but for the case of a letter.
+// Returns the result for a login with another byte at this place of a text. The names do not match then, except if only the case of a letter
+// differs.
 fn of_text(
     rt: &impl Host,
     offset: usize,
@@ -103,7 +104,7 @@ fn of_text(
     }
 }
 
-// A login that asks for a number whose last two digits are these, which may be blank.
+// Returns the result for a login that asks for a number with these last two digits, which may be blank.
 fn of_number(rt: &impl Host, tens: u8, ones: u8) -> Result<Served, SoupFault> {
     match (tens, ones) {
         (b' ', b' ') | (b' ' | b'0', b'0') => accepted(rt, 1),
@@ -113,7 +114,7 @@ fn of_number(rt: &impl Host, tens: u8, ones: u8) -> Result<Served, SoupFault> {
     }
 }
 
-// The answer to a login whose byte at this place, the length counted, is another one.
+// Returns the result for a login with another byte at this place, counted with the length.
 fn wanted(rt: &impl Host, at: usize, byte: u8, own: u8) -> Result<Served, SoupFault> {
     match at {
         0 => truncated(LOGIN_3.len()),
@@ -121,14 +122,14 @@ fn wanted(rt: &impl Host, at: usize, byte: u8, own: u8) -> Result<Served, SoupFa
         2 => of_type(byte),
         3..19 => of_text(rt, at - 2, byte, own, b'A'),
         19..29 => of_text(rt, at - 2, byte, own, b'S'),
-        // Only spaces may stand before and after the digits.
+        // Before and after the digits only spaces are valid.
         29..47 => Err(SoupFault::BadNumber { offset: 27 }),
         47 => of_number(rt, byte, b'3'),
         _ => of_number(rt, b' ', byte),
     }
 }
 
-// The login with each other byte at this place is answered as it has to be.
+// Checks the result of the login with each other byte at this place.
 fn check_byte<B: OrderBook>(rt: &impl Host, market: &Market<B>, at: usize) -> TestResult {
     assert!(rt; at < 49);
     let mut login = [0; 49];
@@ -155,7 +156,7 @@ fn each_byte_of_a_login(rt: HostRuntime) -> TestResult {
     check_bytes(&rt, &served_market(rt.alloc())?)
 }
 
-// Ten thousand debug packets, and these bytes.
+// Returns ten thousand debug packets, followed by these bytes.
 fn after_debug_packets(alloc: Global, rest: &[u8]) -> Result<Vec<u8>, AllocError> {
     let mut input = Vec::new(alloc);
     for _packet in 0..10_000 {
@@ -165,7 +166,7 @@ fn after_debug_packets(alloc: Global, rest: &[u8]) -> Result<Vec<u8>, AllocError
     Ok(input)
 }
 
-// Packets that a server passes over.
+// Checks packets that a server ignores.
 fn check_debug_packets<B: OrderBook>(rt: &impl Host, market: &Market<B>) -> TestResult {
     for (rest, want) in [(b"" as &[u8], Ok(Served::Left)), (LOGIN_3, accepted(rt, 3))] {
         let input = after_debug_packets(rt.alloc(), rest)?;
@@ -179,7 +180,7 @@ fn ten_thousand_debug_packets_before_a_login(rt: HostRuntime) -> TestResult {
     check_debug_packets(&rt, &served_market(rt.alloc())?)
 }
 
-// A login is answered whose bytes come one at a time.
+// Checks the answer to a login whose bytes arrive one at a time.
 fn is_answered_in_pieces<B: OrderBook>(rt: &impl Host, market: &Market<B>) -> TestResult {
     let mut writer = FuseWriter::new(rt.alloc(), 1, None);
     let reader = PieceReader::new(LOGIN_3, 1, None);

@@ -1,15 +1,15 @@
-//! Blocks that are no packets.
+//! Blocks that are not packets.
 use crate::equal::{Host, TestResult, same_shown};
 use itch_soup::{Origin, SoupFault, parse_packet};
 
-// A block from this side has this fault.
+// Checks that a block from this side has this fault.
 fn is_fault(rt: &impl Host, from: Origin, block: &[u8], want: SoupFault) -> TestResult {
     let found = parse_packet(block, from).err().expect(rt, "a fault");
     same_shown(rt, block, &found, &want)?;
     Ok(())
 }
 
-// Login requests with a byte of the user name that is not printable, with a letter and with too high a number.
+// Login requests with a byte of the user name that is not printable, with a letter in the number, and with a number that is too great.
 const UNPRINTABLE: &[u8] = b"L\0ser  secret                                 3";
 
 const LETTER: &[u8] = b"Luser  secret                                 x";

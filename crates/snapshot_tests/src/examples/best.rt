@@ -1,5 +1,5 @@
-//! The example of the guide: the best bid and the best offer of a symbol, whenever a message of a day file changes them. The messages
-//! are those of `examples/quotes.itch`.
+//! The example of the guide: the best bid and the best offer of a symbol, whenever a message of a day file changes them. The messages are
+//! those of `examples/quotes.itch`.
 use crate::equal::{TestResult, same};
 use itch_book::{IndexedBook, Order, OrderBook};
 use itch_codec::{Side, decode};
@@ -40,7 +40,7 @@ fn price(best: Option<&Order>) -> Option<u32> {
     best.map(|order| order.price)
 }
 
-// The best prices at a locate after each message that changes them.
+// Returns the best prices at a locate after each message that changes them.
 fn follow<R: CountedRead + Drop, B: OrderBook>(
     alloc: Global,
     memory: B::Alloc,

@@ -11,10 +11,10 @@ use itch_soup::{Served, SoupFault};
 use test_doubles::days::Blocks;
 use test_doubles::{FuseWriter, PieceReader};
 
-// A login is read in the length and, by sevens, the 47 bytes.
+// A login is read as the length and, in pieces of seven bytes, the 47 bytes.
 const LOGIN_READS: u64 = 1 + 7;
 
-// Serves a login one read of which may fail: nothing was written, and a second call goes on.
+// Serves a login, where one read may fail. If it fails, nothing was written, and a second call continues.
 fn serve_again<B: OrderBook>(
     rt: &impl Host,
     reader: &mut Blocks<'_>,
@@ -48,13 +48,13 @@ fn a_login_is_read_again(rt: HostRuntime) -> TestResult {
     each_is_served_again(&rt, &served_market(rt.alloc())?)
 }
 
-// The length of each packet, and by sevens its 31, 13, 40, 37, 37 and 22 bytes.
+// The length of each packet, and in pieces of seven its 31, 13, 40, 37, 37 and 22 bytes.
 const ANSWER_READS: u64 = 6 + 5 + 2 + 6 + 6 + 6 + 4;
 
-// The length of each packet, and by sevens its 31, 37, 37 and 22 bytes.
+// The length of each packet, and in pieces of seven its 31, 37, 37 and 22 bytes.
 const REST_READS: u64 = 4 + 5 + 6 + 6 + 4;
 
-// A fetch fails if one of its reads does.
+// Checks that a fetch fails if one of its reads fails.
 fn has_failed(rt: &impl Host, fault: Option<SoupFault>, nth: u64, reads: u64) {
     let has_failed = matches!(fault, Some(SoupFault::Frame(FrameFault::Read(_))));
     same(rt, has_failed, nth <= reads);
@@ -80,16 +80,16 @@ fn a_rest_is_not_read(rt: HostRuntime) -> TestResult {
     Ok(())
 }
 
-// A beginning of these bytes was written.
+// Checks that a proper prefix of these bytes was written.
 fn is_cut(rt: &impl Host, written: &[u8], whole: &[u8]) {
     assert!(rt; written.len() < whole.len());
     assert!(rt; whole.starts_with(written));
 }
 
-// An answer is written, by sevens, in 2 and 31 bytes, two orders of 3 and 36, 3 and 20, and 2 and 1.
+// An answer is written, in pieces of seven, as 2 and 31 bytes, two orders of 3 and 36, 3 and 20, and 2 and 1.
 const ANSWER_WRITES: u64 = (1 + 5) + (1 + 6) + (1 + 6) + (1 + 3) + (1 + 1);
 
-// The whole answer was written, or a beginning where a write failed.
+// Checks that the complete answer was written, or a prefix if a write failed.
 fn is_written_up_to(rt: &impl Host, fault: Option<SoupFault>, written: &[u8]) {
     match fault {
         None => same(rt, written, FROM_3),
@@ -116,12 +116,12 @@ fn an_answer_is_written_in_part(rt: HostRuntime) -> TestResult {
     each_is_served_in_part(&rt, &served_market(rt.alloc())?)
 }
 
-// The length of the block that comes next.
+// Returns the length of the next block.
 fn next_len(rt: &impl Host, reader: &mut Blocks<'_>) -> Result<usize, FrameFault> {
     Ok(reader.next_block()?.expect(rt, "a block").len())
 }
 
-// A login is written in the length and, by sevens, the 47 bytes; where it is not written whole, nothing is read.
+// Checks a login, which is written as the length and, in pieces of seven, the 47 bytes. If it is not written completely, nothing is read.
 fn logged_in_in_part<B: OrderBook>(rt: &impl Host, memory: B::Alloc, nth: u64) -> TestResult {
     let mut reader = BlockReader::new(rt.alloc(), PieceReader::new(FROM_1, 64, None))?;
     let mut writer = FuseWriter::new(rt.alloc(), 7, Some(nth));

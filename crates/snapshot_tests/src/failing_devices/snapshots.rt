@@ -1,4 +1,4 @@
-//! A snapshot written.
+//! Snapshots written to failing devices.
 use crate::equal::{Host, TestResult, holds_in, same};
 use crate::files::{ONE_ORDER, ONE_ORDER_SNAPSHOT, market, seq, write};
 use itch_book::{IndexedBook, OrderBook};
@@ -11,7 +11,7 @@ use test_doubles::days::blocks;
 // The first bytes of the four blocks.
 const STARTS: [usize; 4] = [0, 14, 55, 93];
 
-// After `written` bytes this many of the block at hand were written.
+// Returns whether the fault reports how much of the current block was written, after `written` bytes in total.
 fn says_its_block(fault: &SnapFault, written: usize) -> bool {
     let start = STARTS.iter().rfind(|start| **start <= written).copied();
     match fault {
@@ -20,7 +20,7 @@ fn says_its_block(fault: &SnapFault, written: usize) -> bool {
     }
 }
 
-// Each write of one byte of the market's snapshot fails in turn, counted from 1.
+// Checks the market's snapshot with each write of one byte failing in turn, counted from 1.
 fn fails_at_each<B: OrderBook>(rt: &impl Host, market: &Market<B>, whole: &[u8]) {
     same(rt, whole.len(), 116);
     for nth in 1..=116u64 {
@@ -42,7 +42,7 @@ fn a_beginning_is_written(rt: HostRuntime) -> TestResult {
     Ok(())
 }
 
-// The write after the last one would fail.
+// Checks the snapshot if only the write after the last one would fail.
 fn is_written<B: OrderBook>(rt: &impl Host, market: &Market<B>, whole: &[u8]) {
     let mut writer = FuseWriter::new(rt.alloc(), 1, Some(117));
     let count = write(rt, market, seq(rt, 4), &mut writer);

@@ -1,4 +1,4 @@
-//! Each growth of a joiner refused in turn, and the calls that take no memory.
+//! Each growth of a joiner refused in turn, and the calls that allocate no memory.
 use super::{
     BEFORE_6, JOINED_AT_3, READ_2, Step, check_market, joiner, live, read, snapshot, stands,
     take_steps,
@@ -23,10 +23,10 @@ const HALTED_AT_5: JoinFault = JoinFault::Halted {
     cause: Cause::Rule(Refusal::UnknownLocate),
 };
 
-// More allocations than a test makes: none is refused.
+// More allocations than any test makes: none is refused.
 const NONE: u64 = 1_000_000;
 
-// A message of the live feed with its nth allocation refused, where it makes that many. Returns whether memory was refused.
+// Delivers a message of the live feed with its nth allocation refused, if it makes that many. Returns whether memory was refused.
 fn live_short<B: OrderBook>(
     rt: &impl Host,
     refusing: &Refusing<Global>,
@@ -42,8 +42,7 @@ fn live_short<B: OrderBook>(
     is_refused
 }
 
-// Delivers a message that has to wait with each of its allocations refused in turn, and then with memory. Returns how many
-// were refused.
+// Delivers a message that must wait with each of its allocations refused in turn, and then with memory. Returns how many were refused.
 fn refuse_to_keep<B: OrderBook>(
     rt: &impl Host,
     refusing: &Refusing<Global>,
@@ -76,8 +75,7 @@ fn a_message_that_would_wait(rt: HostRuntime) {
     check_keeping::<Index<'_>>(&rt, &refusing, &refusing);
 }
 
-// Takes a message of the snapshot with each of its allocations refused in turn, and then with memory. Returns how many were
-// refused.
+// Takes a message of the snapshot with each of its allocations refused in turn, and then with memory. Returns how many were refused.
 fn refuse_to_read<B: OrderBook>(
     rt: &impl Host,
     refusing: &Refusing<Global>,
@@ -119,12 +117,12 @@ fn a_message_of_the_snapshot(rt: HostRuntime) -> TestResult {
     check_reading::<Index<'_>>(&rt, &refusing, &refusing)
 }
 
-// As many orders as there is room for, so that the replacement takes memory.
+// As many orders as there is room for, so that the replacement needs memory.
 const FOUR_ORDERS: &[&[u8]] = &[AAPL, ADD_1, ADD_2, SELL_3, NAMED_5];
 
 const LEFT: &[&[u8]] = &[AAPL, ADD_2, ADD_4, NAMED_5];
 
-// The seventh and the eighth message wait, and five are in the snapshot.
+// Messages 7 and 8 wait, and the snapshot contains the first five.
 const JOINED_AT_6: &[Step<'static>] = &[
     Step::Live(8, DELETE_3, Ok(Live::Kept)),
     Step::Live(7, REPLACE_1_BY_4, Ok(Live::Kept)),
@@ -132,7 +130,7 @@ const JOINED_AT_6: &[Step<'static>] = &[
     Step::Snapshot(END_6, Ok(Snap::Joined { next: 6 })),
 ];
 
-// Message 7, which waits already, is refused when it comes again, and then taken by `resume`.
+// Message 7, which waits already, is refused when it is delivered again, and then applied by `resume`.
 const REFUSED_AT_7: &[Step<'static>] = &[
     Step::Live(7, REPLACE_1_BY_4, Err(TAKEN)),
     Step::Stands(Some(7), 2),
@@ -158,7 +156,7 @@ fn resume_at_7<B: OrderBook>(
     take_steps(rt, joiner, RESUMED_AT_7)
 }
 
-// Message 6 is applied, and memory is refused at 7, which waits as 8 does. Returns whether memory was refused.
+// Applies message 6, with memory refused at message 7, which waits like message 8. Returns whether memory was refused.
 fn refuse_at_7<B: OrderBook>(
     rt: &impl Host,
     refusing: &Refusing<Global>,
@@ -176,7 +174,7 @@ fn refuse_at_7<B: OrderBook>(
     Ok(is_refused)
 }
 
-// A joiner of its own for each allocation that is refused.
+// Does this with a new joiner for each allocation. Returns how many were refused.
 fn refuse_waiting<B: OrderBook>(
     rt: &impl Host,
     memory: B::Alloc,
@@ -199,7 +197,8 @@ fn a_waiting_message(rt: HostRuntime) -> TestResult {
     Ok(())
 }
 
-// A message that is next and does not wait is not taken, and is delivered again. Returns how many allocations were refused.
+// Delivers the next message, which does not wait, with each of its allocations refused in turn. It is not taken, and is delivered again.
+// Returns how many were refused.
 fn refuse_at_3<B: OrderBook>(
     rt: &impl Host,
     refusing: &Refusing<Global>,
@@ -233,7 +232,7 @@ fn the_next_message(rt: HostRuntime) -> TestResult {
     check_next::<Index<'_>>(&rt, &refusing, &refusing)
 }
 
-// The joiner has joined all the same, and goes on.
+// Checks that the joiner has joined in spite of this, and continues.
 fn check_end<B: OrderBook>(
     rt: &impl Host,
     refusing: &Refusing<Global>,
@@ -259,7 +258,7 @@ fn the_end_of_the_snapshot(rt: HostRuntime) -> TestResult {
     check_end::<Index<'_>>(&rt, &refusing, &refusing)
 }
 
-// No call takes memory before the second message.
+// No call allocates memory before the second message.
 const BEFORE_MEMORY: &[Step<'static>] = &[
     Step::Restart,
     Step::Resume(Ok(None)),
@@ -274,7 +273,7 @@ const WITH_MEMORY: &[Step<'static>] = &[
     Step::Live(4, CLOSES, Ok(Live::Kept)),
 ];
 
-// No call takes memory after that.
+// No call allocates memory after that.
 const AFTER_MEMORY: &[Step<'static>] = &[
     Step::Live(4, CLOSES, Ok(Live::Kept)),
     Step::Live(4, EVENT, Err(JoinFault::Conflict { number: 4 })),

@@ -7,7 +7,7 @@ use itch_join::{Cause, JoinFault, Joiner, Live, Snap};
 use itch_market::{LocateSet, Refusal};
 use test_doubles::payloads::*;
 
-// A joiner of locate 1 for which `cap` messages may wait takes these steps.
+// Takes a joiner of locate 1 for which `cap` messages may wait through these steps.
 fn check<B: OrderBook>(
     rt: &impl Host,
     memory: B::Alloc,
@@ -20,7 +20,7 @@ fn check<B: OrderBook>(
     take_steps(rt, &mut joiner, steps)
 }
 
-// What is at other locates is counted in the snapshot and in the feed, and follows no rule.
+// Messages at other locates are counted in the snapshot and in the feed, but no rule applies to them.
 #[test]
 fn counts_what_it_skips(rt: HostRuntime) -> TestResult {
     let steps = [
@@ -36,7 +36,7 @@ fn counts_what_it_skips(rt: HostRuntime) -> TestResult {
     check::<IndexedBook>(&rt, rt.alloc(), 2, &steps)
 }
 
-// This payload of message 4 halts it.
+// Checks that this payload of message 4 halts the joiner.
 fn check_halt(rt: &impl Host, payload: &[u8], cause: Cause) -> TestResult {
     let halted = JoinFault::Halted { number: 4, cause };
     let steps = [
@@ -50,7 +50,7 @@ fn check_halt(rt: &impl Host, payload: &[u8], cause: Cause) -> TestResult {
     check::<IndexedBook>(rt, rt.alloc(), 0, &steps)
 }
 
-// A payload without a message halts it, whatever the set, and a rule broken at its own locate.
+// A payload that is not a message halts it, for any set, and so does a rule broken at its own locate.
 #[test]
 fn is_halted_by_what_it_does_not_skip(rt: HostRuntime) -> TestResult {
     for (payload, cause) in [

@@ -10,10 +10,10 @@ use test_doubles::PieceReader;
 use test_doubles::days::{Blocks, blocks};
 use test_doubles::payloads::*;
 
-// An Add Order without its fields, which is no message.
+// An Add Order without its fields, which is not a valid message.
 const NOTHING: &[u8] = b"A";
 
-// A word for a stop.
+// Returns a word for a stop.
 fn word(stop: &Stop<Refused>) -> &'static str {
     match stop {
         Stop::Full => "full",
@@ -27,7 +27,7 @@ fn word(stop: &Stop<Refused>) -> &'static str {
     }
 }
 
-// A joiner takes the messages of a day from the first one on, if it may. Returns what stops it, and after how many.
+// Passes the messages of a day to a joiner from the first one on, if it is ready. Returns what stops it, and after how many messages.
 fn take_part<B: OrderBook>(
     reader: &mut Blocks<'_>,
     joiner: &mut Joiner<B>,
@@ -41,7 +41,7 @@ fn take_part<B: OrderBook>(
     (word(&stop), count)
 }
 
-// What a joiner takes of a day with these payloads.
+// Checks how much of a day with these payloads a joiner takes.
 fn takes<B: OrderBook>(
     rt: &impl Host,
     joiner: &mut Joiner<B>,
@@ -57,7 +57,7 @@ fn takes<B: OrderBook>(
     Ok(())
 }
 
-// A joiner that has joined at the sixth message takes a day whose messages before it spell nothing.
+// Checks a joiner that has joined at the sixth message, with a day whose earlier messages are invalid.
 fn check_from_6<B: OrderBook>(rt: &impl Host, memory: B::Alloc) -> TestResult {
     let mut joiner: Joiner<B> = joiner(memory, 0);
     read(rt, &mut joiner, BEFORE_6);
@@ -79,7 +79,7 @@ fn takes_a_day_from_its_next_message(rt: HostRuntime) -> TestResult {
     check_from_6::<IndexedBook>(&rt, rt.alloc())
 }
 
-// A joiner that has joined at the third message takes this one, or is stopped, and takes nothing after that.
+// Checks that a joiner that has joined at the third message is stopped by this one, and takes nothing afterwards.
 fn check_third<B: OrderBook>(
     rt: &impl Host,
     memory: B::Alloc,

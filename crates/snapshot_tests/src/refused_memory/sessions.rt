@@ -1,4 +1,4 @@
-//! A session fetched, and one served, which takes no memory.
+//! A session fetched, and one served, which allocates no memory.
 use crate::equal::{Host, TestResult, same};
 use crate::files::market;
 use crate::sessions::{
@@ -16,7 +16,7 @@ use test_doubles::{PieceReader, Refusing};
 
 type Refused<'a> = &'a Refusing<Global>;
 
-// Whether memory was refused for a message of the snapshot.
+// Returns whether memory was refused for a message of the snapshot.
 fn wants_memory(fault: &SoupFault) -> bool {
     matches!(
         fault,
@@ -27,7 +27,7 @@ fn wants_memory(fault: &SoupFault) -> bool {
     )
 }
 
-// Fetches with one allocation refused. Returns whether it was.
+// Fetches with one allocation refused. Returns whether it was refused.
 fn refuse_to_fetch<B: OrderBook>(
     rt: &impl Host,
     refusing: &Refusing<Global>,
@@ -40,7 +40,7 @@ fn refuse_to_fetch<B: OrderBook>(
     Ok(refusing.has_refused())
 }
 
-// Each allocation of a fetch is refused in turn.
+// Refuses each allocation of a fetch in turn.
 fn refuse_each_fetch<B: OrderBook>(
     rt: &impl Host,
     refusing: &Refusing<Global>,
@@ -68,7 +68,7 @@ fn no_market_is_fetched_over_a_list(rt: HostRuntime) -> TestResult {
     refuse_each_fetch::<ListBook<Refused<'_>>>(&rt, &refusing, &refusing)
 }
 
-// Fetches a rest with one allocation refused. Returns whether it was.
+// Fetches a rest with one allocation refused. Returns whether it was refused.
 fn refuse_a_rest(rt: &impl Host, refusing: &Refusing<Global>) -> Result<bool, Fail> {
     match third_fetched(rt, refusing, PieceReader::new(FROM_3, 64, None))? {
         Ok(rest) => same(rt, rest.bytes(), REST_3),
@@ -104,7 +104,7 @@ fn serve_into<R: CountedRead, A: Allocator, B: OrderBook>(
     writer.into_inner().len()
 }
 
-// Serves a login over fixed memory with every allocation refused.
+// Serves a login in fixed memory with every allocation refused.
 fn serve_without_memory<B: OrderBook>(
     rt: &impl Host,
     refusing: &Refusing<Global>,

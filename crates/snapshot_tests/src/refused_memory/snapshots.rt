@@ -1,4 +1,4 @@
-//! The messages of a snapshot taken one by one, a snapshot file read, and what takes no memory.
+//! The messages of a snapshot taken one by one, a snapshot file read, and calls that allocate no memory.
 use crate::equal::{Host, TestResult, same};
 use crate::files::{REPLACED_SNAPSHOT, are_same, finished, market, read_from, seq, write};
 use itch_book::{IndexedBook, ListBook, OrderBook};
@@ -12,7 +12,7 @@ use test_doubles::{PieceReader, Refusing};
 
 type Refused<'a> = &'a Refusing<Global>;
 
-// Memory was refused for the message at this place.
+// Returns whether memory was refused for the message at this place.
 fn wants_memory(fault: &SnapFault, at: u64) -> bool {
     matches!(fault, SnapFault::Rule { place, reason: Refusal::OutOfMemory } if *place == at)
 }
@@ -42,7 +42,7 @@ fn is_replaced<B: OrderBook>(rt: &impl Host, found: &Market<B>) -> TestResult {
     Ok(())
 }
 
-// Takes each message so, and is handed the market out.
+// Takes each message in this way, and checks the resulting market.
 fn refuse_each<B: OrderBook>(
     rt: &impl Host,
     refusing: &Refusing<Global>,
@@ -71,7 +71,7 @@ fn a_message_may_follow_again_over_a_list(rt: HostRuntime) -> TestResult {
     refuse_each::<ListBook<Refused<'_>>>(&rt, &refusing, &refusing)
 }
 
-// Reads a snapshot file with one allocation refused. Returns whether it was.
+// Reads a snapshot file with one allocation refused. Returns whether it was refused.
 fn refuse_to_read<B: OrderBook>(
     rt: &impl Host,
     refusing: &Refusing<Global>,
@@ -92,7 +92,7 @@ fn refuse_to_read<B: OrderBook>(
     Ok(refusing.has_refused())
 }
 
-// Each allocation of a read is refused in turn.
+// Refuses each allocation of a read in turn.
 fn refuse_each_read<B: OrderBook>(
     rt: &impl Host,
     refusing: &Refusing<Global>,

@@ -19,7 +19,7 @@ fn the_laws_of_files() {
     laws::cut_day_file();
 }
 
-// The snapshot of a small market, closed with this number.
+// Returns the snapshot of a small market, closed with this number.
 fn written<B: OrderBook>(
     rt: &impl Host,
     market: &Market<B>,
@@ -30,7 +30,7 @@ fn written<B: OrderBook>(
     Ok(writer)
 }
 
-// The market of these payloads is written as those, and so is what is read from them.
+// Checks that the market of the payloads in `file` is written as those in `want`, and that these are read and written as they are.
 fn check_file<B: OrderBook>(
     rt: &impl Host,
     memory: B::Alloc,
@@ -67,7 +67,7 @@ fn written_again_all_bytes_are_equal(rt: HostRuntime) -> TestResult {
     Ok(())
 }
 
-// What the snapshot of a beginning of a day stands for.
+// Returns the market read from the snapshot of the first messages of a day.
 fn late_start<B: OrderBook>(
     rt: &impl Host,
     memory: B::Alloc,
@@ -80,7 +80,7 @@ fn late_start<B: OrderBook>(
     Ok(late)
 }
 
-// A day leaves the same as the snapshot of its first messages and the others.
+// Checks that the snapshot of a day's first messages and the other messages lead to the same market as the day.
 fn check_cut<B: OrderBook>(
     rt: &impl Host,
     memory: B::Alloc,

@@ -1,4 +1,4 @@
-//! The worked files over both books: what a replay says of each, and the snapshot of what it leaves.
+//! The worked files with both books: the result of replaying each, and the snapshot of the final market.
 
 use super::{check_snapshot, file_of};
 use crate::equal::{Host, TestResult, same, same_words};
@@ -9,19 +9,19 @@ use test_doubles::days::REPLACED;
 use test_doubles::payloads::*;
 use test_doubles::{FuseWriter, PieceReader};
 
-// A file, what a replay says of it, and the snapshot of what it leaves.
+// A file, the result of its replay, and the snapshot of the final market.
 #[derive(Clone, Copy)]
 struct File<'a> {
     payloads: &'a [&'a [u8]],
     // The bytes after their blocks.
     rest: &'a [u8],
-    // Why no further message is applied, and how many messages of the file are not.
+    // Why the replay stops, and how many messages of the file are not applied.
     stop: &'a str,
     left: u64,
     snapshot: &'a [&'a [u8]],
 }
 
-// A market with nothing in it is left by a file as it has to be.
+// Checks the effect of a file on an empty market.
 fn check_market<B: OrderBook>(
     rt: &impl Host,
     market: &mut Market<B>,
@@ -48,13 +48,13 @@ fn check_market<B: OrderBook>(
     Ok(())
 }
 
-// Checks a file over a book whose memory comes from `memory`.
+// Checks a file with a book in this memory.
 fn check<B: OrderBook>(rt: &impl Host, memory: B::Alloc, file: File<'_>) -> TestResult {
     let mut market: Market<B> = Market::new(memory);
     check_market(rt, &mut market, file)
 }
 
-// Files that end, and their snapshots.
+// Files that are replayed to their end, and their snapshots.
 const WHOLE: [(&[&[u8]], &[&[u8]]); 13] = [
     (&[], &[END_1]),
     (&[EVENT, AAPL, ADD_1], &[EVENT, AAPL, ADD_1, END_4]),
@@ -86,7 +86,7 @@ const WHOLE: [(&[&[u8]], &[&[u8]]); 13] = [
     ),
 ];
 
-// Checks the files that end, and what stands after an end.
+// Checks the files that are replayed to their end, and bytes after the end.
 fn check_whole<B: OrderBook>(rt: &impl Host, memory: B::Alloc) -> TestResult {
     let mut file = File {
         payloads: &[EVENT, AAPL, ADD_1],
@@ -105,7 +105,7 @@ fn check_whole<B: OrderBook>(rt: &impl Host, memory: B::Alloc) -> TestResult {
     Ok(())
 }
 
-// Files whose last message is refused or is no message, why, and the snapshots of those before.
+// Files whose last message is refused or invalid, the reason, and the snapshots of the messages before it.
 const REFUSED: [(&str, &[&[u8]], &[&[u8]]); 13] = [
     ("duplicate reference", &[AAPL, ADD_1, ADD_1], ONE_ORDER_3),
     (

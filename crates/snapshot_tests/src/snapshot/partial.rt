@@ -1,4 +1,4 @@
-//! Snapshots cut down to sets of locates, written and read.
+//! Snapshots restricted to sets of locates, written and read.
 ghost use Rattle.std.specs.Prelude.{◌<◌, ◌^◌, length};
 ghost use Rattle.itch_snapshot.specs.Snapshot.{snap};
 
@@ -23,7 +23,7 @@ fn set_of<A: Allocator + Copy>(alloc: A, locates: &[u16]) -> Result<LocateSet<A>
     Ok(set)
 }
 
-// The number of messages of a market's snapshot cut down to a set.
+// Returns the number of messages of a market's snapshot restricted to a set.
 fn count<B: OrderBook>(market: &Market<B>, set: &LocateSet<B::Alloc>) -> usize {
     let mut count = 0usize;
     for _message in SnapshotIter::only(market, set) {
@@ -32,7 +32,7 @@ fn count<B: OrderBook>(market: &Market<B>, set: &LocateSet<B::Alloc>) -> usize {
     count
 }
 
-// Writes the snapshot of a market cut down to a set, closed with the number 6.
+// Writes the snapshot of a market restricted to a set, closed with the number 6.
 fn write<B: OrderBook>(
     market: &Market<B>,
     set: &LocateSet<B::Alloc>,
@@ -44,7 +44,7 @@ fn write<B: OrderBook>(
     Ok(write_partial(market, set, next, writer)?)
 }
 
-// The snapshot of a small market cut down to a set has these payloads.
+// Checks that the snapshot of a small market restricted to a set has these payloads.
 fn check_partial<B: OrderBook>(
     rt: &impl Host,
     market: &Market<B>,
@@ -86,7 +86,7 @@ fn writes_the_locates_of_a_set(rt: HostRuntime) -> TestResult {
     check_parts::<ListBook>(&rt, rt.alloc())
 }
 
-// Reads payloads of a snapshot cut down to a set, of which none ends it.
+// Reads payloads of a snapshot restricted to a set, before its end.
 fn check_more<B: OrderBook>(
     rt: &impl Host,
     snapshot: &mut SnapshotReader<B>,
@@ -98,7 +98,7 @@ fn check_more<B: OrderBook>(
     }
 }
 
-// Messages of other locates are decoded and counted, and follow no rule.
+// Checks that messages at other locates are decoded and counted, but that no rule applies to them.
 fn check_read<B: OrderBook>(rt: &impl Host, memory: B::Alloc) -> TestResult {
     let set = set_of(memory, &[2])?;
     let mut snapshot: SnapshotReader<B> = SnapshotReader::new(memory);
@@ -116,7 +116,7 @@ fn reads_the_locates_of_a_set(rt: HostRuntime) -> TestResult {
     check_read::<ListBook>(&rt, rt.alloc())
 }
 
-// After a message that is skipped, this payload is refused so for good.
+// Checks that, after a skipped message, this payload is refused, and every later one too.
 fn check_fault<B: OrderBook>(
     rt: &impl Host,
     snapshot: &mut SnapshotReader<B>,
@@ -132,7 +132,7 @@ fn check_fault<B: OrderBook>(
     Ok(())
 }
 
-// The same of a snapshot of its own.
+// Checks this with a new snapshot.
 fn check_refused<B: OrderBook>(
     rt: &impl Host,
     memory: B::Alloc,

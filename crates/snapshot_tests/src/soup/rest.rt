@@ -1,4 +1,4 @@
-//! The rest of a served session fetched over memory, row by row.
+//! The rest of a served session fetched in memory, row by row.
 use super::served::same_text;
 use crate::equal::{Host, TestResult, same};
 use crate::files::gives;
@@ -6,7 +6,7 @@ use crate::sessions::{FROM_1, FROM_3, REST_3, fetch_third, third_fetched};
 use itch_frame::BlockReader;
 use test_doubles::{FuseWriter, PieceReader};
 
-// This reader gives these blocks from the third message on.
+// Checks the blocks that this reader provides from the third message on.
 fn check_rest(rt: &impl Host, reader: PieceReader<'_>, want: &[u8]) -> TestResult {
     match third_fetched(rt, rt.alloc(), reader)? {
         Ok(rest) => same(rt, rest.bytes(), want),
@@ -23,8 +23,8 @@ fn a_rest_is_fetched(rt: HostRuntime) -> TestResult {
     Ok(())
 }
 
-// An order that is not there is deleted, and a message of a type that is not decoded follows. Between them are packets that mean
-// nothing, and nothing after the End of Snapshot is looked at.
+// A nonexistent order is deleted, and a message of an undecoded type follows. Packets without an effect come between them, and nothing after
+// the End of Snapshot is read.
 #[test]
 fn a_rest_follows_no_rule(rt: HostRuntime) -> TestResult {
     let answer = b"\0\x03+up\0\x1fA  ITCHSNAP                   3\

@@ -1,4 +1,4 @@
-//! One served and one fetched session over memory, row by row.
+//! Sessions served and fetched in memory, row by row.
 use crate::equal::{Host, TestResult, same, same_in, same_words};
 use crate::files::{gives, seq};
 use crate::sessions::{
@@ -12,7 +12,7 @@ use itch_soup::{Served, SoupFault, laws, write_data};
 use test_doubles::days::Blocks;
 use test_doubles::{FuseWriter, PieceReader};
 
-// Logins for the message of this number: blank, in capitals and for the session, after other packets, for another session, and with
+// Logins for the message with this number: blank, in capitals and with the session name, after other packets, for another session, and with
 // another password.
 const LOGIN_0: &[u8] = b"\0\x2fLuser  secret                                 0";
 
@@ -28,7 +28,7 @@ const OTHER_3: &[u8] = b"\0\x2fLuser  secret    OTHER                        3";
 
 const WRONG_3: &[u8] = b"\0\x2fLuser  wrong                                  3";
 
-// An answer.
+// The answer to a login for the number after the last message.
 const FROM_6: &[u8] = b"\0\x1fA  ITCHSNAP                   6\0\x01Z";
 
 #[test]
@@ -41,7 +41,7 @@ fn the_laws_of_sessions() {
     laws::waits_by_the_table();
 }
 
-// A login is served so, in pieces of whatever length, and answered by these bytes.
+// Checks the result of serving a login, in pieces of any length, and the bytes of the answer.
 fn check_login<B: OrderBook>(
     rt: &impl Host,
     market: &Market<B>,
@@ -59,7 +59,7 @@ fn check_login<B: OrderBook>(
     Ok(())
 }
 
-// Logins that are accepted from this message on: packets before them mean nothing, and only the case of a password counts.
+// Checks logins that are accepted from this message on. Packets before them have no effect, and the case of a user name does not count.
 fn check_accepted<B: OrderBook>(rt: &impl Host, market: &Market<B>) -> TestResult {
     let rows: [(u64, u64, &[u8], &[&[u8]]); 3] = [
         (1, 5, FROM_1, &[LOGIN_1, LOGIN_0, LOGIN_BLANK]),
@@ -76,7 +76,7 @@ fn check_accepted<B: OrderBook>(rt: &impl Host, market: &Market<B>) -> TestResul
     Ok(())
 }
 
-// What else comes before a login or in its place.
+// Checks other input before a login or in its place.
 fn check_not_accepted<B: OrderBook>(rt: &impl Host, market: &Market<B>) -> TestResult {
     let rows: [(Served, &[u8], &[&[u8]]); 3] = [
         (Served::Rejected(b'S'), b"\0\x02JS", &[LOGIN_7, OTHER_3]),
@@ -105,13 +105,13 @@ fn other_logins_are_not_served(rt: HostRuntime) -> TestResult {
     check_not_accepted(&rt, &served_market(rt.alloc())?)
 }
 
-// There is a fault with these words.
+// Checks that there is a fault with this text.
 pub(super) fn same_text(rt: &impl Host, fault: Option<SoupFault>, want: &str) -> TestResult {
     same_words(rt, &fault.expect(rt, "a fault"), want)?;
     Ok(())
 }
 
-// Inputs with a fault, which are not answered.
+// Checks input with a fault, which is not answered.
 fn check_faults<B: OrderBook>(rt: &impl Host, market: &Market<B>) -> TestResult {
     let rows: [(&[u8], &str); 5] = [
         (b"\0\0", "empty packet"),
@@ -135,7 +135,7 @@ fn faults_before_a_login_are_not_answered(rt: HostRuntime) -> TestResult {
     check_faults(&rt, &served_market(rt.alloc())?)
 }
 
-// Serves the login of this input, after which the next block is this one.
+// Serves the login of this input, and checks the next block.
 fn check_after_login<B: OrderBook>(
     rt: &impl Host,
     market: &Market<B>,
@@ -156,7 +156,7 @@ fn nothing_is_read_after_the_login(rt: HostRuntime) -> TestResult {
     check_after_login(&rt, &market, input, b"O")
 }
 
-// The market that was served is fetched over this reader.
+// Checks that the served market is fetched from this reader.
 fn check_fetched<B: OrderBook>(
     rt: &impl Host,
     memory: B::Alloc,
@@ -177,7 +177,7 @@ fn answers_are_fetched(rt: HostRuntime) -> TestResult {
     Ok(())
 }
 
-// Fetches a market, after which the next block is this one.
+// Fetches a market, and checks the next block.
 fn check_after_fetch<B: OrderBook>(
     rt: &impl Host,
     memory: B::Alloc,

@@ -1,4 +1,4 @@
--- What is read is the one message that is spelled, and its fields fit.
+-- The result is the one message that the payload encodes, and its fields fit.
 use Rattle.std.proofs.Common.{arith}
 use Rattle.itch_codec.proofs.Bytes.{all_bytes}
 use Rattle.itch_codec.proofs.Spelling.{only_read, read_message, read_fits}

@@ -1,4 +1,4 @@
--- A message's bytes are its spelling.
+-- The bytes of a message are its encoding.
 use Rattle.std.proofs.Common.{◌∙◌, ap, subst}
 use Rattle.itch_codec.specs.Fields.{AreBytes}
 use Rattle.itch_codec.specs.Messages.{spelling}

@@ -1,4 +1,4 @@
--- A field spells at most one number.
+-- A field encodes at most one number.
 use Rattle.itch_codec.proofs.Numbers.{same_spelled}
 use Rattle.itch_codec.proofs.laws.numbers.Goals as goal
 

@@ -1,4 +1,4 @@
--- What is spelled is read so.
+-- An encoded number is read back.
 use Rattle.std.proofs.Common.{◌∙◌}
 use Rattle.itch_codec.proofs.Numbers.{spells-read}
 use Rattle.itch_codec.proofs.number.read_number20.Goals as goal

@@ -6,7 +6,7 @@ use Rattle.itch_join.specs.Rules.{rules_of}
 use Rattle.itch_join.specs.Applying.{Front, at_hand, Applies}
 use Rattle.itch_join.proofs.position.drain.Given as goal
 
--- however applying goes on from here, it goes on so from the beginning
+-- if applying continues in some way from here, it continues in the same way from the beginning
 abbrev pub invariant-loop-payload : goal.invariant-loop-payload
 invariant-loop-payload g l =
     let here : Front = record { wait = l.wait; next = l.position-inside.next; market = l.position-inside.market } in

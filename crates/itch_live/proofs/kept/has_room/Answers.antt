@@ -2,7 +2,7 @@ use Rattle.std.proofs.Common.{◌≡◌, ℕ, ◌-◌, ◌<◌, ◌≤◌, ◌^�
 use Rattle.itch_live.specs.Kept.{fits, snapshot_bytes, most_bytes_of}
 use Rattle.itch_live.proofs.kept.has_room.Goals as goal
 
--- what is beyond a `u64` does not fit either way
+-- capping at the greatest `u64` does not change the result
 capped : (limit used more : ℕ) → limit ≤ 2 ^ 64 - 1 → 0 < more → fits limit (min used (2 ^ 64 - 1)) (min more (2 ^ 64 - 1)) ≡ fits limit used more
 capped limit used more within some = grind arith
 

@@ -20,7 +20,7 @@ with_bytes seats None true numbers = omega arith
 with_bytes seats (Some n) true numbers = sum_by-cons (λ number. length_or (kept_bytes seats number)) n numbers
 with_bytes seats o false numbers = omega arith
 
--- what is beyond the limit makes no difference
+-- capping a part of the sum does not change the capped sum
 capped : (a b rest most : ℕ) → min (min (a + b) most + rest) most ≡ min (a + (b + rest)) most
 capped a b rest most = omega arith
 

@@ -18,7 +18,7 @@ record IsStill (refs : ℕ → Option ℕ) (bids asks : List (Place × ℕ)) (v 
   pub busy : IsBusy v bids asks
   pub view : indexed v bids asks ≡ orders
 
--- room for queues changes nothing that is seen
+-- reserving room for queues changes nothing that contracts describe
 roomy : (refs : ℕ → Option ℕ) (bids asks : List (Place × ℕ)) (old new : Queued) (orders : List Order) → IsWhole refs bids asks (seen old) → indexed (seen old) bids asks ≡ orders
     → new.queues ≡ old.queues → new.orders ≡ old.orders → IsStill refs bids asks (seen new) orders
 roomy refs bids asks old new orders whole view queues kept =
@@ -28,7 +28,7 @@ roomy refs bids asks old new orders whole view queues kept =
 fresh_in : (refs : ℕ → Option ℕ) (bids asks : List (Place × ℕ)) (v : Seen) (orders : List Order) (r : ℕ) → IsStill refs bids asks v orders → get orders r ≡ None → refs r ≡ None
 fresh_in refs bids asks v orders r is new = unnamed refs bids asks v is.index r (ap (λ (os : List Order). get os r) is.view ∙ new)
 
--- a reference that is put and taken back
+-- a reference that is inserted and removed again
 taken_back : (f g h : ℕ → Option ℕ) (k n : ℕ) → f k ≡ None → ((r : ℕ) → g r ≡ at_key k (Some n) f r) → ((r : ℕ) → h r ≡ at_key k None g r) → (r : ℕ) → h r ≡ f r
 taken_back f g h k n new put taken r =
     by_test (eqb k r)

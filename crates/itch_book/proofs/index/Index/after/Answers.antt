@@ -38,7 +38,7 @@ some_first (k ∷ js) n h = (js, ap (λ (t : ℕ). t ∷ js) (inj h))
 head_found : (orders : ℕ → Option Order) (n : ℕ) (js : List ℕ) (y : Order) → orders n ≡ Some y → first (found orders (n ∷ js)) ≡ Some y
 head_found orders n js y h = ap (λ o. first (shown o (found orders js))) h
 
--- the index and what is known of the order
+-- the index and the properties of the order
 module _ (references : ℕ → Option ℕ) (bids asks : List (Place × ℕ)) (w : Seen) (is : IsIndexed references bids asks w)
     (r k : ℕ) (node : references r ≡ Some k) (next : Option ℕ)
     (decided : (q : ℕ) (before after_it : List ℕ) → w.keys q ≡ Some (before ++ k ∷ after_it) → next ≡ first_or after_it None) where
@@ -53,7 +53,7 @@ module _ (references : ℕ → Option ℕ) (bids asks : List (Place × ℕ)) (w 
       is.full place.queue (parts.0 ++ k ∷ parts.1) n keys
       (in_right n parts.0 (k ∷ parts.1) (in_tail n k parts.1 (subst (λ t. list_any (eqb n) t ≡ true) (sym first_is.1) (in_head n first_is.0))))
 
-  -- which is what comes after it
+  -- it is the next order in the book
   next_after : (x : Order) → w.orders k ≡ Some x → (n : ℕ) (y : Order) → next ≡ Some n → w.orders n ≡ Some y → after (indexed w bids asks) r ≡ Some y
   next_after x here n y h there =
       let place = is.listed k x here in
@@ -65,7 +65,7 @@ module _ (references : ℕ → Option ℕ) (bids asks : List (Place × ℕ)) (w 
       let live = live_is references bids asks w is r k x node here in
       after_tail (indexed w bids asks) is.book r x live ∙ next_here (indexed w bids asks) is.book r x live y level
 
-  -- or none stands after it at its price
+  -- or no order is after it at its price
   none_level : (x : Order) (here : w.orders k ≡ Some x) → next ≡ None → find (is_level x.locate x.side x.price) (following r (indexed w bids asks)) ≡ None
   none_level x here h =
       let place = is.listed k x here in

@@ -1,4 +1,4 @@
--- The fourteen fields stand one after the other.
+-- The fourteen fields, one after another.
 use Rattle.std.proofs.lemmas.List.{append_assoc}
 use Rattle.itch_codec.specs.Fields.{joined}
 use Rattle.itch_codec.proofs.stocks.Directory.put.Goals as goal

@@ -3,7 +3,7 @@ use Rattle.std.specs.List.{filter}
 use Rattle.itch_join.proofs.Waits.{is_kept}
 use Rattle.itch_join.proofs.waiting.Waiting.keep_from.Given as goal
 
--- what is dropped was to be dropped
+-- only messages that are to be dropped were dropped
 abbrev pub invariant-loop-number : goal.invariant-loop-number
 invariant-loop-number g l = filter (is_kept l.next) l.self-inside.messages.entries ≡ filter (is_kept l.next) l.initial.self-inside.messages.entries
 

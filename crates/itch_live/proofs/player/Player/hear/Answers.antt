@@ -8,7 +8,7 @@ use Rattle.itch_live.specs.Guests.{Judges}
 use Rattle.itch_live.specs.Players.{Player, is_deaf, after_act, Hears}
 use Rattle.itch_live.proofs.player.Player.hear.Goals as goal
 
--- a whole packet is heard: what was held of it is dropped
+-- a complete packet arrives: its held bytes are dropped
 hears_packet : (inside p q : Player) (piece held payload dropped : List ℕ) (now n : ℕ) (answer : ServerAct × Option LoginRequest) (s : Server)
     → inside ≡ p → is_deaf p ≡ false → IsTake inside.held piece n held → IsBlockOf payload held → Judges inside.session payload now answer s → dropped ≡ []
     → q ≡ after_act answer.0 now (record inside { held = dropped; session = s; moved = now }) → Hears p piece now n q

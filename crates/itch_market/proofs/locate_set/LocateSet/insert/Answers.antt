@@ -5,7 +5,7 @@ use Rattle.std.proofs.lemmas.Bool.Decides.{nat_tests}
 use Rattle.itch_market.specs.Wanted.{Wanted, has}
 use Rattle.itch_market.proofs.locate_set.LocateSet.insert.Goals as goal
 
--- a locate is the one put in, or was in the set
+-- a locate is the inserted one, or was already in the set
 put_in : (x b y z : Bool) → x ≡ false → z ≡ cond b true y → (x || z) ≡ (b || (x || y))
 put_in true b y z e h = cc
 put_in false true y z e h = h

@@ -4,7 +4,7 @@ use Rattle.itch_market.specs.Slots.{directory}
 use Rattle.itch_market.proofs.Slots.{kept_here}
 use Rattle.itch_market.proofs.securities.Securities.set_halt.Goals as goal
 
--- where memory is refused, the security is put back as it was
+-- if memory runs out, the security is put back unchanged
 pub returns-clause-err : goal.returns-clause-err
 returns-clause-err g c =
     on_err_weaker c.set_halt-kept.result

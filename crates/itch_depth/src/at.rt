@@ -1,0 +1,84 @@
+//! The books at given times.
+ghost use Rattle.std.specs.Prelude.{Some};
+ghost use Rattle.std.specs.Option.{option_copied};
+ghost use Rattle.itch_day.specs.Parts.{GoesOnTo};
+ghost use Rattle.itch_day.specs.declared.limit.Limit.{Limit as AnyLimit};
+ghost use Rattle.itch_day.specs.declared.stop.Stop.{Stop as AnyStop};
+ghost use Rattle.itch_day.specs.declared.stop.Stop.TheVariants.{Full};
+ghost use Rattle.itch_frame.specs.Reading.{Reading};
+ghost use Rattle.itch_market.specs.declared.refused.Refused.{Refused as AnyRefused};
+ghost use Rattle.itch_commands.specs.Points.{Stands, up_to};
+ghost use Rattle.itch_depth.specs.Series.{Ascend, AtEach, AtTime, ListsOn, TitlesBefore};
+ghost use Rattle.itch_depth.specs.Timed.{timed_head};
+
+use crate::listing::{continues, list_market};
+use crate::request::BookRequest;
+use crate::timed::timed_head;
+use itch_book::OrderBook;
+use itch_commands::snap::Pass;
+use itch_commands::{ToolFault, write_text};
+use itch_frame::{BlockReader, CountedRead, CountedWrite};
+use itch_market::LocateSet;
+use std::alloc::Allocator;
+
+/// Writes the books of a day file at each of these times, in one pass over the file. The times must ascend.
+///
+/// For each time, in order, the output and the result are those of `book` for the part of the file before that time, with the time at the
+/// beginning of each line. The heading is written once, at the beginning. A time at which the directory still lacks a selected locate or
+/// stock has no lines, and the next times follow; the last time has the result. Any other fault ends the output.
+pub fn books_at<R: CountedRead + Drop, A: Allocator, B: OrderBook, W: CountedWrite>(
+    alloc: B::Alloc,
+    request: BookRequest<'_>,
+    only: Option<&LocateSet<B::Alloc>>,
+    times: &[u64],
+    reader: BlockReader<R, A>,
+    out: &mut W,
+) -> Result<bool, ToolFault>
+    ensures { Ascend times.now → TitlesBefore W.contents W.failures (timed_head request.entry.form)
+        (AtEach (AtTime R.remaining R.failures W.contents W.failures request.entry (option_copied only.entry) reader) times.now) out.old result out.new }
+{
+    write_text(timed_head(request.form).as_bytes(), out)?;
+    let mut pass: Pass<R, A, B> = Pass::new(alloc, reader);
+    list_each(alloc, request, only, times, &mut pass, out)
+}
+
+// Writes the books at each of these times.
+fn list_each<R: CountedRead, A: Allocator, B: OrderBook, W: CountedWrite>(
+    alloc: B::Alloc,
+    request: BookRequest<'_>,
+    only: Option<&LocateSet<B::Alloc>>,
+    times: &[u64],
+    pass: &mut Pass<R, A, B>,
+    out: &mut W,
+) -> Result<bool, ToolFault>
+    ensures { (first : Reading R) → Stands R.remaining R.failures (record { after = Some 0; until = Some 0 }) first pass.old.reader pass.old.marked Full
+        → Ascend times.now
+        → AtEach (AtTime R.remaining R.failures W.contents W.failures request.entry (option_copied only.entry) first) times.now out.old result out.new }
+{
+    let mut answer = Ok(true);
+    for &time in times {
+        answer = list_at(alloc, request, only, time, pass, out);
+        if !continues(&answer) {
+            return answer;
+        }
+    }
+    answer
+}
+
+// Reads on to a time, and writes the books there.
+fn list_at<R: CountedRead, A: Allocator, B: OrderBook, W: CountedWrite>(
+    alloc: B::Alloc,
+    request: BookRequest<'_>,
+    only: Option<&LocateSet<B::Alloc>>,
+    time: u64,
+    pass: &mut Pass<R, A, B>,
+    out: &mut W,
+) -> Result<bool, ToolFault>
+    ensures { (first : Reading R) → (before : AnyLimit) → (stop : AnyStop AnyRefused)
+        → Stands R.remaining R.failures before first pass.old.reader pass.old.marked stop
+        → GoesOnTo before stop pass.old.marked.mark.count (up_to time)
+        → ListsOn R.remaining R.failures W.contents W.failures request.entry (option_copied only.entry) first time pass.new.reader pass.new.marked out.old result out.new }
+{
+    pass.read_until(time)?;
+    list_market(alloc, pass.market(), request, only, time, out)
+}
