@@ -121,7 +121,7 @@ class Kept:
             if failed.exists() and kind not in MAY_GO_UNNOTICED and not any(REASON in it for it in server.lines):
                 differences.append("nothing is said of it")
             if kind == "connect" and nth == 1:
-                differences += differs("said", f"feed: lost at {KEPT_BEFORE + 1}\n" in server.lines, True)
+                differences += differs("said", any(it.startswith(f"feed: lost at {KEPT_BEFORE + 1}: ") for it in server.lines), True)
             return differences, failed.exists()
 
     def differences(self, kind, server, folder, end):

@@ -77,8 +77,9 @@ def a_feed_that_is_cut_is_asked_for_the_next_message(program):
             yield from differs("sessions", sessions, [b"", b""] + [name.strip()] * 3)
         yield from differs("the record", record.read_bytes(), day)
     last = len(blocks) + 1
-    wanted = ["feed: lost at 1\n", "feed: accepted from 1\n", "feed: lost at 31\n", "feed: accepted from 31\n", "feed: lost at 61\n",
-              "feed: accepted from 61\n", "feed: lost at 91\n", "feed: accepted from 91\n", f"feed: ended at {last}\n"]
+    wanted = ["feed: lost at 1: closed by the server\n", "feed: accepted from 1\n", "feed: lost at 31: closed by the server\n", "feed: accepted from 31\n",
+              "feed: lost at 61: closed by the server\n", "feed: accepted from 61\n", "feed: lost at 91: closed by the server\n", "feed: accepted from 91\n",
+              f"feed: ended at {last}\n"]
     yield from differs("ended", (status, output, lines), (0, b"", wanted))
 
 
@@ -148,7 +149,7 @@ def a_snapshot_is_where_it_begins(program):
         server.said("feed: ended")
         # With --stay it serves on.
         yield from differs("fetched at the end", fetch(program, server.port), (0, wanted, b""))
-        lines = ["glimpse: accepted\n", "glimpse: lost\n", "glimpse: accepted\n", "feed: joined at 121\n", "feed: accepted from 121\n",
+        lines = ["glimpse: accepted\n", "glimpse: lost: closed by the server\n", "glimpse: accepted\n", "feed: joined at 121\n", "feed: accepted from 121\n",
                  f"feed: ended at {number_of(wanted)}\n"]
         yield from differs("lines", [it for it in server.lines if not it.startswith("listening")], lines)
 
@@ -207,7 +208,7 @@ def heartbeats_go_both_ways(program):
     seconds = beats.pop() if beats else 0
     if status != 0 or set(beats) != {CLIENT_BEAT} or not 11 <= len(beats) <= 16 or not SILENCE - 1 < seconds < SILENCE + 5:
         yield f"ended with {status} after {seconds:.1f} seconds and {beats}"
-    yield from differs("lines", lines[1:3], [f"feed: lost at {len(split(day)) + 1}\n", f"feed: accepted from {len(split(day)) + 1}\n"])
+    yield from differs("lines", lines[1:3], [f"feed: lost at {len(split(day)) + 1}: silent\n", f"feed: accepted from {len(split(day)) + 1}\n"])
 
 
 def each_client_is_told_what_it_asks(program):

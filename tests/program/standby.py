@@ -3,6 +3,7 @@
 RUNS lists the runs. Each is a function that is given the program and yields the differences.
 """
 import contextlib
+import re
 import socket
 import subprocess
 import tempfile
@@ -59,7 +60,7 @@ def a_feed_that_is_killed_is_gone_on_with_at_the_next(program):
         first.process.kill()
         lost = server.said("feed: lost at ")
         again = server.said(rf"feed: accepted from \d+ \({at(second.port)}\)")
-        yield from differs("goes on", again, lost.replace("lost at", "accepted from").replace("\n", f" ({at(second.port)})\n"))
+        yield from differs("goes on", again, re.sub(r"lost at (\d+): .*", rf"accepted from \1 ({at(second.port)})", lost))
         server.said("feed: ended")
         yield from differs("fetched", fetch(program, server.port), (0, wanted, b""))
         yield from differs("record", (folder / "record").read_bytes() == day, True)
@@ -74,7 +75,7 @@ def where_nobody_listens_the_next_is_tried(program):
     nobody = closed_port()
     with folder_with() as folder, Feed(plays(day, then=ENDED)) as feed, live(program, at(nobody), at(feed.port), words=("--record", folder / "record")) as server:
         status, output, lines = server.ended()
-        wanted = ["feed: lost at 1\n", f"feed: accepted from 1 ({at(feed.port)})\n", f"feed: ended at {len(split(day)) + 1}\n"]
+        wanted = ["feed: lost at 1: refused\n", f"feed: accepted from 1 ({at(feed.port)})\n", f"feed: ended at {len(split(day)) + 1}\n"]
         yield from differs("ended", (status, output, lines, feed.asked()), (0, b"", wanted, [1]))
         yield from differs("record", (folder / "record").read_bytes(), day)
 
@@ -110,7 +111,7 @@ def a_rejection_that_is_tried_again_is_tried_at_the_next(program):
             Feed(plays(day, until=5, session=b"DAY1"), sends(acceptance(6, b"DAY2"))) as other, live(program, at(one.port), at(other.port)) as server:
         status, _, lines = server.ended()
         yield from differs("asked", (status, one.asked(), other.asked()), (0, [1, 6, 6], [1, 6]))
-        wanted = [f"feed: rejected S ({at(one.port)})\n", f"feed: accepted from 1 ({at(other.port)})\n", "feed: lost at 6\n",
+        wanted = [f"feed: rejected S ({at(one.port)})\n", f"feed: accepted from 1 ({at(other.port)})\n", "feed: lost at 6: closed by the server\n",
                   f"feed: rejected S ({at(one.port)})\n", f"feed: in session DAY2, not in DAY1 ({at(other.port)})\n",
                   f"feed: accepted from 6 ({at(one.port)})\n", f"feed: ended at {len(split(day)) + 1}\n"]
         yield from differs("said", lines, wanted)

@@ -88,11 +88,11 @@ def resets(day, at):
 
 
 def causes_of_a_lost_feed(program):
-    """A log says each of them when it changes, and once; without --log the loss alone is said, and what the server answers."""
+    """A log says each of them when it changes, and once; without --log the loss alone, with its cause, is said, and what the server answers."""
     day, _ = day_of(20)
     rejects = sends(b"\0\x02JS")
     causes = ["reset", "rejected S", "in another session", "closed by the server", "refused"]
-    plain = ["feed: accepted from 1\n", "feed: lost at 6\n", "feed: rejected S\n", "feed: in session DAY2, not in ITCHSNAP\n", "feed: accepted from 6\n"]
+    plain = ["feed: accepted from 1\n", "feed: lost at 6: reset\n", "feed: rejected S\n", "feed: in session DAY2, not in ITCHSNAP\n", "feed: accepted from 6\n"]
     for form in ("json", "plain"):
         moment = threading.Event()
         with contextlib.ExitStack() as held:

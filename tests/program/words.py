@@ -252,7 +252,7 @@ def usage_of(program, command):
 def usage_names_what_is_required(program):
     """Each line of a usage without one of its required arguments is an error that names it, or another line's."""
     yield from differs("book", usage_of(program, "book"), ["itchsnap book [OPTIONS] <LOCATE> [FILE]", "itchsnap book [OPTIONS] --stock <LIST> [FILE]"])
-    yield from differs("fetch", usage_of(program, "fetch"), ["itchsnap fetch [OPTIONS] --user <U> <HOST:PORT>"])
+    yield from differs("fetch", usage_of(program, "fetch"), ["itchsnap fetch [OPTIONS] --user <USER> <HOST:PORT>"])
     for command in commands(program):
         for line in usage_of(program, command):
             yield from differs(f"{command}: the command", line.startswith(f"itchsnap {command}"), True)
@@ -308,8 +308,8 @@ RULES = {
     "snap --to d --after 1 --until 9": "only one of '--after <N>', '--until <TIME>' and '--every <N>' can be used with '--to <DIR>'",
     "canon --check --output o": "the argument '--check' cannot be used with '--output <PATH>'",
     "join a b --only 1 --stock A": "the argument '--only <LIST>' cannot be used with '--stock <LIST>'",
-    "serve f --port 1 --count 1 --user u --pass p --pass-file f": "the argument '--pass <W>' cannot be used with '--pass-file <FILE>'",
-    "fetch h:1 --port 1 --user u --pass p": "the argument '[HOST:PORT]' cannot be used with '--port <P>'",
+    "serve f --port 1 --count 1 --user u --pass p --pass-file f": "the argument '--pass <PASSWORD>' cannot be used with '--pass-file <FILE>'",
+    "fetch h:1 --port 1 --user u --pass p": "the argument '[HOST:PORT]' cannot be used with '--port <PORT>'",
     "fetch h --user u --pass p": "a server is HOST:PORT, with an IPv6 address in brackets and a port from 1 to 65535",
     "fetch --user u --pass p": "the following required arguments were not provided:",
     "live --feed h:1 --port 0 --user u --pass p --to d": "the following required arguments were not provided:",
@@ -319,9 +319,9 @@ RULES = {
     "live --feed h:1 --port 0 --user u --pass p --record r --records d": "the argument '--record <FILE>' cannot be used with '--records <DIR>'",
     "live --feed h:1 --port 0 --user u --pass p --sync no": "'--sync <WHEN>' and '--record-optional' require '--record <FILE>' or '--records <DIR>'",
     "live --feed h:1 --port 0 --user u --pass p --sync now": "invalid value 'now' for '--sync <WHEN>'",
-    "live --feed h:1 --port 0 --user u --users f": "the argument '--user <U>' cannot be used with '--users <FILE>'",
+    "live --feed h:1 --port 0 --user u --users f": "the argument '--user <USER>' cannot be used with '--users <FILE>'",
     "follow --feed h:1 --glimpse h:2 --user u --pass p --whole --json": "the argument '--whole' cannot be used with '--json'",
-    "feed f --port 0 --user u --pass p --rate 1 --clock 1": "the argument '--rate <N>' cannot be used with '--clock <X>'",
+    "feed f --port 0 --user u --pass p --rate 1 --clock 1": "the argument '--rate <N>' cannot be used with '--clock <FACTOR>'",
     "completions csh": "invalid value 'csh' for '<SHELL>'",
 }
 

@@ -118,7 +118,7 @@ impl<L: Event> Event for Named<'_, L> {
     }
 }
 
-/// A lost server. The cause and the name appear only in the fields of the event, not in the plain line.
+/// A lost server. Its name appears only in the fields of the event, not in the plain line.
 #[derive(Clone, Copy)]
 pub(crate) struct Loss<'a> {
     pub line: FeedLine,
@@ -129,7 +129,13 @@ pub(crate) struct Loss<'a> {
 impl Display for Loss<'_> {
     fn fmt<W: fmt::Write>(&self, f: &mut Formatter<W>) -> fmt::Result {
         let line = &self.line;
-        write!(f, "{line}")
+        match self.cause {
+            Some(cause) => {
+                let words = cause.words();
+                write!(f, "{line}: {words}")
+            }
+            None => write!(f, "{line}"),
+        }
     }
 }
 

@@ -88,13 +88,13 @@ pub const FEED: Argument = Argument::Repeated {
 
 pub const FEED_SESSION: Argument = Argument::Optional {
     long: "session",
-    value: Value::Text("S"),
+    value: Value::Text("SESSION"),
     help: "Request this session of the feed [default: the record's, or the first that the feed names]",
 };
 
 pub const GLIMPSE_SESSION: Argument = Argument::Optional {
     long: "glimpse-session",
-    value: Value::Text("S"),
+    value: Value::Text("SESSION"),
     help: "Request this session of the snapshot server [default: the feed's]",
 };
 
@@ -107,20 +107,20 @@ pub const BIND: Argument = Argument::Optional {
 
 pub const PORT: Argument = Argument::Required {
     long: "port",
-    value: Value::Range("P", 0, 65_535),
+    value: Value::Range("PORT", 0, 65_535),
     help: "Listen on this port; 0 chooses a free one [0..65535]",
 };
 
 pub const SESSION: Argument = Argument::Optional {
     long: "session",
-    value: Value::Text("S"),
+    value: Value::Text("SESSION"),
     help: "Accept logins to this session, a name of 1 to 10 printable characters",
 };
 
 // The login of a server and of its client.
 pub const PASSWORD: Argument = Argument::Optional {
     long: "pass",
-    value: Value::Text("W"),
+    value: Value::Text("PASSWORD"),
     help: "Use this password, 1 to 10 printable characters, which everyone on the machine can see",
 };
 

@@ -213,7 +213,7 @@ fn read_glimpse_session<'a>(
     match read_session(alloc, options, "glimpse-session")? {
         Some(_) if !has_glimpse => Err(usage_fault(
             alloc,
-            "'--glimpse-session <S>' requires '--glimpse <HOST:PORT>'",
+            "'--glimpse-session <SESSION>' requires '--glimpse <HOST:PORT>'",
         )?),
         session => Ok(session),
     }
@@ -237,7 +237,7 @@ fn read_feed_login<'a>(
         (Some(user), Some(password)) => Ok(LoginWords { user, password }),
         _ => Err(usage_fault(
             alloc,
-            "'--users <FILE>' requires '--feed-user <U>', and '--feed-pass-file <FILE>' or ITCHSNAP_PASS",
+            "'--users <FILE>' requires '--feed-user <USER>', and '--feed-pass-file <FILE>' or ITCHSNAP_PASS",
         )?),
     }
 }
@@ -307,7 +307,7 @@ fn read_pace<'a>(alloc: Global, options: &ArgMatches<'a>) -> Result<Pace, Fault>
         (None, Some(clock)) => Ok(Pace::Clock(clock)),
         (Some(_), Some(_)) => Err(usage_fault(
             alloc,
-            "the argument '--rate <N>' cannot be used with '--clock <X>'",
+            "the argument '--rate <N>' cannot be used with '--clock <FACTOR>'",
         )?),
     }
 }

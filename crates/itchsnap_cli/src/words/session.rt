@@ -115,7 +115,7 @@ pub fn read_login<'a>(
         (Some(_), Some(_), _) => {
             return Err(usage_fault(
                 alloc,
-                "the argument '--pass <W>' cannot be used with '--pass-file <FILE>'",
+                "the argument '--pass <PASSWORD>' cannot be used with '--pass-file <FILE>'",
             )?);
         }
         (Some(word), None, _) | (None, None, Some(word)) => Password::Word(word),

@@ -43,7 +43,7 @@ error.",
             takes: &[
                 Argument::Required {
                     long: "user",
-                    value: Value::Text("U"),
+                    value: Value::Text("USER"),
                     help: "Accept this user, a name of 1 to 6 printable characters",
                 },
                 PASSWORD,
@@ -62,7 +62,7 @@ pub const FETCH: Entry = Entry {
     details: "Write the snapshot that a server has
 
 The server is one of GLIMPSE, `serve` or `live`. If the connection is lost, nothing is written.",
-    usage: Some("itchsnap fetch [OPTIONS] --user <U> <HOST:PORT>"),
+    usage: Some("itchsnap fetch [OPTIONS] --user <USER> <HOST:PORT>"),
     words: &[Argument::WordUnless {
         id: "HOST:PORT",
         other: "port",
@@ -78,11 +78,11 @@ The server is one of GLIMPSE, `serve` or `live`. If the connection is lost, noth
                 },
                 Argument::Hidden {
                     long: "port",
-                    value: Value::Range("P", 1, 65_535),
+                    value: Value::Range("PORT", 1, 65_535),
                 },
                 Argument::Optional {
                     long: "session",
-                    value: Value::Text("S"),
+                    value: Value::Text("SESSION"),
                     help: "Request this session, a name of 1 to 10 printable characters [default: the current one]",
                 },
                 Argument::Optional {
@@ -102,7 +102,7 @@ The server is one of GLIMPSE, `serve` or `live`. If the connection is lost, noth
             takes: &[
                 Argument::Required {
                     long: "user",
-                    value: Value::Text("U"),
+                    value: Value::Text("USER"),
                     help: "Log in as this user, a name of 1 to 6 printable characters",
                 },
                 PASSWORD,
@@ -131,8 +131,8 @@ pub const LIVE: Entry = Entry {
 It prints a line for each client that has left, and reports the state of the feed on standard error. It
 exits when the feed has ended its session and the clients have left, unless --stay is given.",
     usage: Some(
-        "itchsnap live [OPTIONS] --feed <HOST:PORT> --port <P> --user <U>
-       itchsnap live [OPTIONS] --feed <HOST:PORT> --port <P> --users <FILE> --feed-user <U>",
+        "itchsnap live [OPTIONS] --feed <HOST:PORT> --port <PORT> --user <USER>
+       itchsnap live [OPTIONS] --feed <HOST:PORT> --port <PORT> --users <FILE> --feed-user <USER>",
     ),
     words: &[],
     groups: &[
@@ -143,7 +143,7 @@ exits when the feed has ended its session and the clients have left, unless --st
                 FEED_SESSION,
                 Argument::Optional {
                     long: "feed-user",
-                    value: Value::Text("U"),
+                    value: Value::Text("USER"),
                     help: "Log in to the feed as this user [default: the clients' user]",
                 },
                 Argument::Optional {
@@ -191,7 +191,7 @@ exits when the feed has ended its session and the clients have left, unless --st
                 Argument::RequiredUnless {
                     long: "user",
                     other: "users",
-                    value: Value::Text("U"),
+                    value: Value::Text("USER"),
                     help: "Accept this user, a name of 1 to 6 printable characters, and log in to the feed as this user too",
                 },
                 PASSWORD,
@@ -300,7 +300,7 @@ session.",
             takes: &[
                 Argument::Required {
                     long: "user",
-                    value: Value::Text("U"),
+                    value: Value::Text("USER"),
                     help: "Log in to both servers as this user, a name of 1 to 6 printable characters",
                 },
                 PASSWORD,
@@ -331,8 +331,8 @@ pub const FEED_COMMAND: Entry = Entry {
 Each client receives the messages from the number that it requests on. It prints a line for each client
 that has left.",
     usage: Some(
-        "itchsnap feed [OPTIONS] --port <P> --user <U> <FILE>
-       itchsnap feed [OPTIONS] --port <P> --users <FILE> <FILE>",
+        "itchsnap feed [OPTIONS] --port <PORT> --user <USER> <FILE>
+       itchsnap feed [OPTIONS] --port <PORT> --users <FILE> <FILE>",
     ),
     words: &[Argument::RequiredWord {
         id: "FILE",
@@ -349,8 +349,8 @@ that has left.",
                 },
                 Argument::Optional {
                     long: "clock",
-                    value: Value::Range("X", 1, MOST_COUNTED),
-                    help: "Play by the messages' timestamps, X times as fast",
+                    value: Value::Range("FACTOR", 1, MOST_COUNTED),
+                    help: "Play by the messages' timestamps, FACTOR times as fast",
                 },
                 Argument::Flag {
                     long: "stay",
@@ -377,7 +377,7 @@ that has left.",
                 Argument::RequiredUnless {
                     long: "user",
                     other: "users",
-                    value: Value::Text("U"),
+                    value: Value::Text("USER"),
                     help: "Accept this user, a name of 1 to 6 printable characters",
                 },
                 PASSWORD,
