@@ -1,9 +1,8 @@
-// What a strong engineer would write without proofs, with speed as the only goal: the yardstick for `snap` and `check`. Not part of
-// the product. It checks every order rule, and reads and writes the same bytes.
+// What a strong engineer would write without proofs, with speed as the only goal: the yardstick for `snap` and `check`. Not part of the product. It
+// checks every order rule, and reads and writes the same bytes.
 //
-// Orders are found through a table of pages that the reference indexes, nodes have 32 bytes and 32-bit links and are in one
-// reserved run of addresses, each side of a book is a sorted vector of levels, and messages are looked at ahead so that what they
-// touch is fetched into the cache.
+// Orders are found through a table of pages indexed by reference. Nodes have 32 bytes and 32-bit links and are in one reserved address range. Each
+// side of a book is a sorted vector of levels. Messages are examined in advance, so that the memory they touch is prefetched into the cache.
 //
 // Build: g++ -O3 -march=native -std=c++20 -fno-exceptions bench/fast.cc -o fast
 // Run:   fast snap | check | frames | decode < day.itch
@@ -41,8 +40,8 @@ static void *arena(size_t bytes, bool huge = true) {
     return p;
 }
 
-// Nodes of 32 bytes with 32-bit links in one reserved run of addresses. A price level is a node of the same kind, and the orders
-// of its queue form a ring through it: putting in and taking out have no branches. Node 0 means none.
+// Nodes of 32 bytes with 32-bit links in one reserved address range. A price level is also such a node, and the orders of its queue form a ring
+// through it, so insertion and removal have no branches. Node 0 means none.
 struct Node {
     u64 ref;                    // of a level: all shares
     u32 shares;                 // of a level: the number of orders
@@ -57,11 +56,11 @@ struct Pool {
     inline __attribute__((always_inline)) void give(u32 k) { at[k].next = free_; free_ = k; }
 };
 
-struct Side { u32 *k = nullptr; u32 len = 0, cap = 0; };       // rising keys, the best price last; their levels stand cap words later
+struct Side { u32 *k = nullptr; u32 len = 0, cap = 0; };       // ascending keys, the best price last; their levels are stored cap words later
 
 struct Sec { u8 stock[8]; u8 entry[20]; u8 has, has_action, has_sho, state, sho; u8 reason[4]; std::vector<std::pair<u8, u8>> halts; std::vector<std::pair<u32, u32>> positions; };
 
-static Sec *secs; static u64 *stocks;                           // stocks: the eight raw bytes for the quick compare, 0 for none
+static Sec *secs; static u64 *stocks;                           // stocks: the eight raw bytes for the quick comparison, 0 for none
 static Side *sides;
 static int event_ = -1;
 static Pool nodes;
@@ -69,8 +68,8 @@ static Pool nodes;
 static u32 *seqs; static u32 seq_; static u32 live;
 #endif
 
-// The order table: pages of 512 references, four bytes for each; page 0 is empty for ever. An empty page is used again.
-// References from 2^38 on are in a map.
+// The order table: pages of 512 references with four bytes each. Page 0 is always empty. Pages that become empty are reused. References from 2^38 up
+// are in a map.
 static const u32 PB = 9, PN = 1 << PB; static const u64 DIRECT = (u64)1 << 38;
 static u32 *dir_, *slots; static u16 *in_page; static u32 pages = 1; static std::vector<u32> free_pages; static std::unordered_map<u64, u32> *far_;
 INL u32 *slot_of(u64 ref) { ref = ref < DIRECT ? ref : 0; return slots + ((u64)dir_[ref >> PB] << PB | (ref & (PN - 1))); }
@@ -91,7 +90,7 @@ INL void drop(u64 ref) {
 }
 
 INL u32 key_of(u8 side, u32 price) { return side == 'B' ? price : ~price; }
-// how many keys are below: of the 32 best at once, and else by halving without branches; 32 words before k are zeros
+// Returns how many keys are lower: first among the 32 best at once, then by a binary search without branches. The 32 words before k are zeros.
 INL u32 place(const Side &s, u32 key) {
 #if defined(__AVX512F__) && !defined(NOVEC)
     __m512i w = _mm512_set1_epi32(key);
@@ -113,7 +112,7 @@ INL u32 place(const Side &s, u32 key) {
     return (u32)(b - s.k) + (*b < key);
 }
 #ifndef LAZY
-static void __attribute__((noinline)) widen(Side &s) {          // empty levels go, and if that is not enough the room is doubled
+static void __attribute__((noinline)) widen(Side &s) {          // drops empty levels, and doubles the room if that is not enough
     u32 n = 0;
     for (u32 i = 0; i < s.len; i++) { u32 l = s.k[s.cap + i]; if (nodes.at[l].shares) { s.k[n] = s.k[i]; s.k[s.cap + n] = l; n++; } else { nodes.at[l].has = 0; nodes.give(l); } }
     s.len = n;
@@ -135,7 +134,7 @@ static u32 __attribute__((noinline)) open_level(Side &s, u32 key, u16 locate, u8
 INL u32 level_at(const Side &s, u32 key) { if (UNLIKELY(!s.cap)) return 0; u32 at = place(s, key); return at < s.len && s.k[at] == key ? s.k[s.cap + at] : 0; }
 INL void add(u64 ref, u16 locate, u8 side, u32 shares, u32 price, u32 mpid, u8 has, u32 guess) {
     Side &s = sides[(u32)locate * 2 + (side == 'S')];
-    u32 l = guess;                                              // what the look-ahead found, if it is still so
+    u32 l = guess;                                              // the look-ahead's result, if it is still valid
     const Node &g = nodes.at[l];
     if (UNLIKELY(!(g.has == 2 && g.level == price && g.locate == locate && g.side == side))) {
         u32 key = key_of(side, price);
@@ -172,7 +171,7 @@ INL void lessen(u32 n, u32 take) { nodes.at[n].shares -= take; }
 #endif
 
 // Faults and refusals: the slow path, with the same texts.
-static u64 number; // of the message at hand
+static u64 number; // of the current message
 [[noreturn]] static void refuse(const char *why) { fprintf(stderr, "itchsnap: message %llu: %s\n", (unsigned long long)number, why); exit(1); }
 [[noreturn]] static void refuse(const char *form, unsigned a, unsigned b = 0, unsigned c = 0) { char t[80]; snprintf(t, 80, form, a, b, c); refuse(t); }
 static void text(const u8 *p, int at, int n) { for (int i = at; i < at + n; i++) if (p[i] < 0x20 || p[i] > 0x7e) refuse("bad text at %u", i); }
@@ -260,15 +259,15 @@ INL void apply(const u8 *p, u32 n, u32 guess) {
     }
 }
 
-// Input in a window of 256 KiB that is never less than one longest block behind.
+// Input in a window of 256 KiB, refilled so that it always holds at least one block of the greatest length.
 static const u32 PIECE = 1 << 18;
 static u8 *buf; static u32 have, pos; static bool ended;
 static void __attribute__((noinline)) refill() {
     memmove(buf, buf + pos, have - pos); have -= pos; pos = 0;
     while (!ended && have < 65537 + 4096) { ssize_t r = read(0, buf + have, PIECE - have); if (r < 0) { perror("itchsnap: read"); exit(3); } if (r == 0) ended = true; else have += r; }
 }
-// The stages of the look-ahead have no branches: they treat each message as one with a reference at 11 and a side at 19. What
-// they read wrongly is a line that is fetched in vain.
+// The stages of the look-ahead have no branches: they treat each message as one with a reference at 11 and a side at 19. A wrong guess costs only a
+// needless prefetch.
 INL void warm_slot(const u8 *p) { PF(slot_of(be64(p + 11)));
 #ifndef LAZY
     PF(&sides[(u32)be16(p + 1) * 2 + (p[19] == 'S')]);
@@ -391,7 +390,7 @@ int main(int argc, char **argv) {
             if (!dec) { sum += p[0]; continue; }
             if (size_of[p[0]] && size_of[p[0]] != l) break;
             sum += be16(p + 1);
-            switch (p[0]) { // all fields that the order rules read, and the texts judged
+            switch (p[0]) { // all fields that the order rules read, and the texts checked
             case 'F': if (!printable8((u64)raw32(p + 36) << 32 | raw32(p + 36))) text(p, 36, 4); [[fallthrough]];
             case 'A': if (p[19] != 'B' && p[19] != 'S') refuse("bad side at 19"); if (!printable8(raw64(p + 24))) text(p, 24, 8); sum += be64(p + 11) + be32(p + 20) + be32(p + 32); break;
             case 'E': case 'C': case 'X': sum += be64(p + 11) + be32(p + 19); break;

@@ -1,6 +1,6 @@
-// Writes a day of messages that is shaped like a real one: symbols by Zipf's law, most orders short-lived and a long tail that stays,
-// prices by a random walk around the middle of each symbol, and ten message types in about the shares of a real day. The same
-// arguments give the same bytes.
+// Writes a day of messages that is shaped like a real one: symbols by Zipf's law, most orders short-lived with a long tail that
+// stays, prices by a random walk around the middle of each symbol, and ten message types in about the proportions of a real day. The
+// same arguments give the same bytes.
 //
 // Build: g++ -O3 -std=c++20 bench/realday.cc -o realday
 // Run:   realday MESSAGES SYMBOLS [SEED] > day.itch
@@ -66,7 +66,7 @@ private:
     uint8_t message[64];
     std::vector<uint8_t> out;
 
-    // Locates as often as their rank says: `pick` at a random place is one of them.
+    // Locates, repeated according to their rank: `pick` takes one at a random place.
     void spread_symbols() {
         std::vector<double> weight(symbols);
         double total = 0, sum = 0;
@@ -208,7 +208,7 @@ private:
         end(44);
     }
 
-    // A net order imbalance, which is not decoded.
+    // A Net Order Imbalance Indicator, which is not decoded.
     void imbalance() {
         uint16_t locate = some_locate();
         head('I', locate);
@@ -222,7 +222,7 @@ private:
         orders.pop_back();
     }
 
-    // One of a few recent orders, most of the time.
+    // Picks one of a few recent orders, most of the time.
     size_t some_place(const std::vector<Order> &orders) {
         bool recent = random.below(10) < 8 && orders.size() > 4096;
         return recent ? orders.size() - 1 - random.below(4096) : random.below(orders.size());

@@ -1,4 +1,4 @@
-//! A caller in Rust. README.md has its command.
+//! A caller in Rust. README.md contains its command.
 //!
 //!     main DAY SNAPSHOT    writes the snapshot of the day file DAY to SNAPSHOT
 
@@ -35,7 +35,7 @@ unsafe extern "C" {
 const OK: u32 = 0;
 const NO_ROOM: u32 = 49;
 
-/// A call was refused, with this code of itchsnap.h.
+/// The library refused a call with this code of itchsnap.h.
 #[derive(Debug)]
 struct Refused {
     code: u32,
@@ -50,7 +50,7 @@ impl fmt::Display for Refused {
 
 impl Error for Refused {}
 
-/// A market. It is neither `Send` nor `Copy`, as the library asks of a handle.
+/// A market. It is neither `Send` nor `Copy`, as the library requires of a handle.
 struct Market {
     handle: Handle,
 }
@@ -58,7 +58,7 @@ struct Market {
 impl Market {
     fn new() -> Result<Market, Refused> {
         let mut handle = Handle { at: std::ptr::null_mut(), live: false };
-        // SAFETY: the handle is empty, and nobody else has it.
+        // SAFETY: the handle is empty, and nothing else uses it.
         let Answer { detail, code } = unsafe { itchsnap_market_new(&mut handle) };
         if code == OK { Ok(Market { handle }) } else { Err(Refused { code, detail }) }
     }
@@ -84,7 +84,7 @@ impl Market {
 
 impl Drop for Market {
     fn drop(&mut self) {
-        // SAFETY: the handle is this market's own.
+        // SAFETY: only this market uses the handle.
         unsafe { itchsnap_free(&mut self.handle) }
     }
 }

@@ -1,6 +1,6 @@
-# Proves and builds the program and the C library from the sources that are here. For scripts that have read tools/release.sh.
+# Proves and builds the program and the C library from the current sources. For scripts that have sourced tools/release.sh.
 
-# Reports on standard error how long proving may take: the last time on this machine, if that is known.
+# Reports on standard error how long proving may take: as long as last time on this machine, if that is known.
 say_how_long() {
     local seconds
     if read -r seconds 2>/dev/null <"$(dirname "$built")/seconds"; then
@@ -10,7 +10,7 @@ say_how_long() {
     fi
 }
 
-# Runs a command quietly, and shows its output if it fails.
+# Runs a command silently, and shows its output only if it fails.
 quietly() {
     local log status=0
     log=$(mktemp)
@@ -20,7 +20,7 @@ quietly() {
     return "$status"
 }
 
-# Proves each crate in turn, and builds the program.
+# Proves each crate in turn and builds the program.
 prove_and_build() {
     local crates number=0 crate verb begin=$SECONDS
     find_crates itch_tool
@@ -35,7 +35,8 @@ prove_and_build() {
     echo "$((SECONDS - begin))" >"$(dirname "$built")/seconds"
 }
 
-# Builds the program where it is not that of the sources, with why on standard error. Of two that are started, one builds at a time.
+# Builds the program if it is out of date, and reports the reason on standard error. If two processes build at once, the second
+# waits for the first.
 build() {
     local why=$1
     if ! is_stale "$built" itch_tool; then
@@ -55,7 +56,7 @@ build() {
     exec 9<&-
 }
 
-# Sets `program` to the released program, or where that is of other sources or does not run here, to the one that is built.
+# Sets `program` to the released program if it fits the sources and runs on this machine, otherwise to the built one.
 choose_program() {
     program=$released
     if [ "$(recorded sources)" != "$(source_hash itch_tool)" ]; then
@@ -67,7 +68,7 @@ choose_program() {
     fi
 }
 
-# Sets `libraries` to the folder of the released C library, or where that is of other sources, of the one that is built.
+# Sets `libraries` to the directory of the released C library if it fits the sources, otherwise to that of the built one.
 choose_libraries() {
     libraries=$top/release
     if [ "$(recorded c-sources)" != "$(c_source_hash)" ]; then

@@ -1,9 +1,9 @@
-# The three Debian packages. For tools/pack, which has set `room`, `out` and `version`, and read tools/layout.sh.
+# Builds the three Debian packages. For tools/pack, which has set `room`, `out` and `version` and sourced tools/layout.sh.
 
 maintainer="Sundrekk maintainers <maintainers@users.noreply.sundrekk.example>"
 triplet=x86_64-linux-gnu
 
-# Begins a package: `prefix` is where its files go.
+# Begins a package and sets `prefix` to where its files go.
 begin() {
     package=$1
     prefix=$room/$package/usr
@@ -13,7 +13,7 @@ begin() {
     mkdir -p "$room/$package/DEBIAN"
 }
 
-# A changelog as Debian has them.
+# Prints a changelog in Debian's format.
 changelog() {
     echo "itchsnap ($version) unstable; urgency=medium"
     echo
@@ -22,17 +22,17 @@ changelog() {
     echo " -- $maintainer  $(date -u -R -d "@$SOURCE_DATE_EPOCH")"
 }
 
-# Each file of a package with its MD5, as dpkg checks it.
+# Prints the MD5 sums of a package's files in the format that dpkg checks.
 sums() {
     (cd "$room/$package" && find usr -type f -print0 | sort -z | xargs -0 md5sum)
 }
 
-# The size of a package as dpkg counts it, which is the same on each file system: each file in kilobytes, rounded up, and one for anything else.
+# Prints the installed size as dpkg defines it, independent of the file system: each file in kilobytes, rounded up, and 1 for anything else.
 kilobytes() {
     find "$room/$package/usr" -printf '%y %s\n' | awk '{ sum += $1 == "f" ? int(($2 + 1023) / 1024) : 1 } END { print sum }'
 }
 
-# The fields of a package's control file; the section, what it depends on, and its description are given.
+# Prints a package's control file. Arguments: section, dependencies, description and, optionally, the Multi-Arch value.
 control() {
     echo "Package: $package"
     echo "Source: itchsnap"
@@ -47,7 +47,7 @@ control() {
     echo "Description: $3"
 }
 
-# Ends a package: the files that every package has, and its archive.
+# Finishes a package: adds the files that every package contains, and builds the archive.
 finish() {
     local doc=share/doc/$package
     put 644 "$doc/copyright" cat "$top/LICENSE"
@@ -57,7 +57,8 @@ finish() {
     dpkg-deb --root-owner-group --threads-max=1 -Zxz --build "$room/$package" "$out/${package}_${version}_amd64.deb" >/dev/null
 }
 
-# The page of the program as Debian has it. The program is not stripped: its bytes are those that were compared with what is proved.
+# The manual page is compressed, as Debian requires. The program is not stripped, so its bytes are still those that were compared with the
+# proved build.
 pack_program() {
     begin itchsnap
     lay_program

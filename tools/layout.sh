@@ -1,13 +1,13 @@
-# Where each file of the product goes below a folder: for ./install and for the packages. For scripts that have read tools/release.sh.
-# They set `prefix`, the folder; `program`, the program; `libraries`, the folder with the C library; and `version`, such as 0.1.0.
+# Places the files of the product under a prefix, for ./install and for the packages. For scripts that have sourced tools/release.sh and set
+# `prefix`; `program`, the program's path; `libraries`, the directory of the C library; and `version`, such as 0.1.0.
 
-# Below the folder: where the libraries go, and the zsh completions.
+# Where libraries and zsh completions go, relative to the prefix.
 lib=lib
 zsh=share/zsh/site-functions
-# The folder in the pkg-config file: packages are made below one folder and installed below another.
+# The prefix written into the pkg-config file. It differs from `prefix` when packages are built in one directory and installed in another.
 home=
 
-# Writes what a command prints to a place below the folder, through a new file next to it, so that a running program is not written to.
+# Writes the output of a command to a path under the prefix. Writes a new file and renames it, so a running program is never modified in place.
 put() {
     local mode=$1 to=$prefix/$2
     shift 2
@@ -18,7 +18,7 @@ put() {
     placed "$to"
 }
 
-# Makes a link at a place below the folder.
+# Creates a link at a path under the prefix.
 put_link() {
     local to=$prefix/$1
     if ! ln -sfn "$2" "$to" 2>/dev/null; then
@@ -28,17 +28,17 @@ put_link() {
     placed "$to"
 }
 
-# Called with the name of each installed file: by default it does nothing.
+# Called with the path of each installed file. Does nothing by default.
 placed() {
     :
 }
 
-# A template with the folders and the version that it leaves open.
+# Fills the directories and the version into a template.
 filled() {
     sed -e "s|@PREFIX@|${home:-$prefix}|" -e "s|@LIB@|$lib|" -e "s|@VERSION@|$version|g" -e "s|@UP@|$(sed 's|[^/]*|..|g' <<<"$lib")|" "$1"
 }
 
-# The program, its manual page, and its completions for three shells.
+# The program, its manual page, and completions for three shells.
 lay_program() {
     put 755 bin/itchsnap cat "$program"
     put 644 share/man/man1/itchsnap.1 cat "$top/docs/itchsnap.1"
@@ -47,12 +47,12 @@ lay_program() {
     put 644 share/fish/vendor_completions.d/itchsnap.fish "$program" completions fish
 }
 
-# The shared library, by the name that programs load.
+# The shared library, under the name that programs load.
 lay_shared() {
     put 644 "$lib/libitchsnap.so.0" cat "$libraries/libitchsnap.so"
 }
 
-# The files to compile programs with: the header, the static library, and the files of pkg-config and CMake.
+# The files needed to compile programs: the header, the static library, and the files for pkg-config and CMake.
 lay_development() {
     put 644 include/itchsnap.h cat "$top/c/itchsnap.h"
     put 644 "$lib/libitchsnap.a" cat "$libraries/libitchsnap.a"
@@ -62,7 +62,8 @@ lay_development() {
     put 644 "$lib/cmake/itchsnap/itchsnap-config-version.cmake" filled "$top/c/itchsnap-config-version.cmake.in"
 }
 
-# The page for operators and the files of deploy/: the unit and its user, which systemd finds below /usr and /usr/local, and the others as examples.
+# The operator's page and the files of deploy/: the unit and its user go where systemd looks for them under /usr and /usr/local, the rest are
+# examples.
 lay_service() {
     local it
     put 644 "lib/systemd/system/itchsnap-live@.service" cat "$top/deploy/itchsnap-live@.service"

@@ -1,14 +1,15 @@
-# Compares the released program with the sources. For scripts of this repository, which set `top` and read this file:
+# Compares the released program with the sources. Scripts of this repository set `top` and source this file:
 #   top=$(dirname "$(readlink -f "${BASH_SOURCE[0]}")"); . "$top/tools/release.sh"
 
 released_files=(itchsnap libitchsnap.a libitchsnap.so)
 released=$top/release/itchsnap
 built=$top/crates/itch_tool/out/itch_tool
 
-# The text that a build has where a released program has `release` and the beginning of its sources' hash. Both are as long.
+# A build contains this text where a released program contains `release` and the start of its sources' hash. Both have the same
+# length.
 unreleased="not a released build"
 
-# Sets `crates` to a crate and those of the repository that it depends on, lowest first, as in crates.txt.
+# Sets `crates` to a crate and its dependencies in this repository, lowest first, in the order of crates.txt.
 find_crates() {
     local lines at line name it
     local -A needed=(["$1"]=yes)
@@ -24,7 +25,8 @@ find_crates() {
     done
 }
 
-# The hash of what a crate is built of: crates.txt, the .rt and .antt files of its crates, and further files, by content and name.
+# Prints the hash of everything that a crate is built from, by name and content: crates.txt, the .rt and .antt files of its crates,
+# and any further files given.
 source_hash() {
     local crates hash
     find_crates "$1"
@@ -33,7 +35,7 @@ source_hash() {
     echo "${hash%% *}"
 }
 
-# The same of the C library, which is also made of what links it.
+# Prints the same hash for the C library, which also depends on the files that link it.
 c_source_hash() {
     source_hash itchsnap_c c/build c/link c/exports.map
 }
@@ -44,7 +46,7 @@ hash_of_file() {
     echo "${hash%% *}"
 }
 
-# What release/RECORD says under a name, or nothing.
+# Prints the value of a field of release/RECORD, or nothing.
 recorded() {
     local name value
     while read -r name value; do
@@ -52,13 +54,14 @@ recorded() {
     done 2>/dev/null <"$top/release/RECORD"
 }
 
-# A built program as it is released, on standard output: each text of an unreleased build says the release of these sources.
+# Writes the released form of a built program to standard output: the placeholder for unreleased builds is replaced by the release of
+# these sources.
 stamped() {
     LC_ALL=C sed "s/$unreleased/release ${2:0:12}/g" "$1"
 }
 
-# Whether this machine runs the released program: it needs Linux on x86-64 with the instructions of x86-64-v2, and glibc 2.34, without
-# which it does not start.
+# Whether this machine can run the released program. It needs Linux on x86-64 with the x86-64-v2 instructions, and does not start
+# without glibc 2.34.
 runs_here() {
     local flags it
     [[ $MACHTYPE == x86_64-*linux* ]] || return 1
@@ -69,7 +72,7 @@ runs_here() {
     "$released" --version >/dev/null 2>&1
 }
 
-# Whether a file is missing, or older than a source of a crate.
+# Whether a file is missing, or older than a source of a crate or of its dependencies.
 is_stale() {
     local crates
     find_crates "$2"

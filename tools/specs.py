@@ -1,4 +1,5 @@
-"""What the scripts of this folder know of definitions: where a name in a source comes from, and how a definition begins."""
+"""Helpers for the scripts of this directory: finding the definition that a name in a source refers to, and the start of a
+definition."""
 import functools
 import re
 from pathlib import Path
@@ -11,7 +12,8 @@ IMPORTED = re.compile(r"use Rattle\.(\w+)\.specs\.([\w.]+?)(?:\.\{([^}]*)\}| as 
 
 @functools.cache
 def imports(file):
-    """What the names in a file stand for: a crate, and a file of definitions or None for a type, and a name; or an alias of a file."""
+    """Returns what each imported name in a file refers to, as a triple: the crate; the definitions file, or None for a type; and the
+    name, or None for an alias of a file."""
     names = {}
     for line in file.read_text().split("\n"):
         line = line.strip().removeprefix("pub ").removeprefix("ghost ")
@@ -28,7 +30,7 @@ def imports(file):
 
 
 def meant(file, word):
-    """What a word in a file stands for, if it is a name of this repository."""
+    """Returns what a word in a file refers to, if it is a name of this repository."""
     names = imports(file)
     first, _, rest = word.partition(".")
     if first in names:
@@ -38,5 +40,5 @@ def meant(file, word):
 
 
 def named(text):
-    """The words of a clause or of a definition that may be names."""
+    """Returns the words of a clause or a definition that may be names."""
     return set(re.findall(r"[^\s(){}\[\],;&|]+", text))

@@ -1,1 +1,2 @@
-"""The jobs of many days, whatever runs them: what a job makes, when that is there already, and which jobs a year of days comes to."""
+"""The jobs of many days, whatever engine runs them: what a job makes, when its result already exists, and which jobs a set of days
+needs."""

@@ -1,4 +1,5 @@
-"""The kinds of jobs: snapshots of a day, a check of it, its parts laid together to the whole, and a table of its price levels."""
+"""The kinds of jobs: snapshots of a day, a check of it, a merge of its parts into the complete snapshot, and a table of its price
+levels."""
 import json
 import re
 import shutil
@@ -15,7 +16,7 @@ TIME = re.compile(r"([01]?\d|2[0-3]):[0-5]\d(:[0-5]\d(\.\d{1,9})?)?")
 
 
 class Site(NamedTuple):
-    """Where the results are, and the program that makes them."""
+    """Where the results go, and the program that makes them."""
 
     out: Path
     program: Program
@@ -32,33 +33,33 @@ class Site(NamedTuple):
 
 
 def limit(point):
-    """The words for a point of a day: its end, a number of messages, or a time."""
+    """Returns the options for a point of a day: its end, a number of messages, or a time."""
     if point == END:
         return []
     return ["--until" if TIME.fullmatch(point) else "--after", point]
 
 
 def moment(time):
-    """A time in nanoseconds since midnight, as an index has it."""
+    """Returns a time in nanoseconds since midnight, as in an index."""
     hours, minutes, seconds = [*time.split(":"), "0"][:3]
     whole, _, fraction = seconds.partition(".")
     return ((int(hours) * 60 + int(minutes)) * 60 + int(whole)) * 10 ** 9 + int(fraction.ljust(9, "0"))
 
 
 def is_before(snapshot, option, place):
-    """Whether a snapshot of an index has no message beyond a point."""
+    """Returns whether a snapshot of an index contains no message beyond a point."""
     if option == "--after":
         return snapshot["messages"] <= place
     return snapshot["timestamp"] is None or snapshot["timestamp"] < place
 
 
 def name_of(point):
-    """What files of a point are called: `end`, `after-500000`, `until-10-30`."""
+    """Returns the name of a point in file names, such as `end`, `after-500000` or `until-10-30`."""
     return "-".join(limit(point)).removeprefix("--").replace(":", "-") or END
 
 
 def needed(result):
-    """A result of an earlier job. A refusal of it is passed on."""
+    """Returns the path of an earlier job's result. Passes its refusal on."""
     manifest = result.found()
     if not manifest:
         raise Failure(f"{result} is missing")
@@ -68,30 +69,31 @@ def needed(result):
 
 
 def told(result, manifest, how):
-    """The line of a result."""
+    """Returns the line that reports a result."""
     return f"refused {result}: {manifest['refused']}" if "refused" in manifest else f"{how} {result}"
 
 
 @dataclass(frozen=True)
 class Job:
-    """What all kinds share. A kind has its name, its options as words, its results, and `make`, which writes one of them to a file."""
+    """The common part of all kinds. Each kind defines its name, its options, its results, and `make`, which writes one result to a
+    file."""
 
     site: Site
     day: Day
 
     def command(self):
-        """The words that `scale/job` is called with."""
+        """Returns the arguments with which `scale/job` runs this job."""
         return [self.kind, *self.site.words(), *self.options(), str(self.day.path)]
 
     def read_day(self, words, made):
-        """Runs the program over the day, and writes what it prints to a file. To the program a day without messages is one like others;
-        here it is a file that someone has yet to fill."""
+        """Runs the program over the day and writes its output to a file. The program accepts a day without messages, but here such a file
+        has not been filled yet and is refused."""
         if has_no_messages(self.day.path):
             raise Refusal("no messages")
         self.site.program.write(words, self.day.path, made)
 
     def answers(self, results, room):
-        """Each of these results with its file in a folder, or with the refusal or failure that it came to."""
+        """Yields each of these results with its file in a folder, or with the refusal or failure that it met."""
         for result in results:
             made = room / result.path.name
             try:
@@ -101,7 +103,7 @@ class Job:
                 yield result, fault
 
     def perform(self):
-        """Makes the results that are not there, and yields a line for each result. A failure is raised once all were tried."""
+        """Makes the missing results and yields a line for each result. Raises failures only after trying all of them."""
         missing, failures = [], []
         for result in self.results():
             if manifest := result.found():
@@ -122,7 +124,7 @@ class Job:
 
 @dataclass(frozen=True)
 class Snapshots(Job):
-    """The snapshots of a day at some points, of all locates or of a part."""
+    """The snapshots of a day at given points, of all locates or of one part."""
 
     points: tuple = (END,)
     part: str | None = None
@@ -135,7 +137,7 @@ class Snapshots(Job):
         return [self.site.snapshot(self.day, point, self.part) for point in self.points]
 
     def answers(self, results, room):
-        """One pass over the day makes all points that are numbers, and one all that are times."""
+        """Makes all points that are numbers in one pass over the day, and all points that are times in another."""
         made = {}
         for option, place in ("--after", int), ("--until", moment):
             points = {place(result.made_of["point"]): result for result in results if option in limit(result.made_of["point"])}
@@ -148,8 +150,8 @@ class Snapshots(Job):
                 yield from super().answers([result], room)
 
     def pass_over(self, option, points, room):
-        """Each result with its file, by one pass over these points; none where the pass is refused or fails, since then each point has an
-        answer of its own."""
+        """Returns the file of each result, made in one pass over these points. Returns none if the pass is refused or fails: each point
+        may then end differently."""
         folder = room / option.strip("-")
         folder.mkdir()
         wanted = ",".join(result.made_of["point"] for result in points.values())
@@ -161,15 +163,15 @@ class Snapshots(Job):
         index = [json.loads(line) for line in (folder / "index.jsonl").read_text().splitlines()]
         made = {}
         for place, result in points.items():
-            # A point where no message came since the one before has the same file.
+            # If no message came between two points, the later one uses the same file.
             written = [it["file"] for it in index if is_before(it, option, place)]
             made[result] = room / result.path.name
             shutil.copyfile(folder / written[-1], made[result])
         return made
 
     def make(self, result, made, room):
-        """A run of the program for a point. A part at the end is joined to the empty snapshot, which passes over the messages of the
-        other parts, and so takes less time than `snap`, but does not check them."""
+        """Runs the program for one point. A part at the end of the day is joined to the empty snapshot: this skips the messages of other
+        parts without checking them, so it is faster than `snap`."""
         point = result.made_of["point"]
         if not self.part:
             words = ["snap", *limit(point)]
@@ -184,7 +186,7 @@ class Snapshots(Job):
 
 @dataclass(frozen=True)
 class Check(Job):
-    """How many messages a day has, if all of them follow the order rules, and if it is all there, as far as that is known."""
+    """The number of messages of a day, if all of them follow the order rules and, as far as this is known, none is missing."""
 
     expect: int | None = None
     ended: bool = False
@@ -203,7 +205,8 @@ class Check(Job):
 
 @dataclass(frozen=True)
 class Merge(Job):
-    """The complete snapshot of a day, laid together from parts that have all locates, once the day was checked, which no part does."""
+    """The complete snapshot of a day, merged from parts that cover all locates. Needs a check of the day, because no part checks all of
+    it."""
 
     parts: tuple = ()
     kind = "merge"
@@ -223,7 +226,7 @@ class Merge(Job):
 
 @dataclass(frozen=True)
 class Table(Job):
-    """The price levels of a day at some points, of all stocks or of some, as comma-separated values."""
+    """The price levels of a day at given points, of all stocks or of some, as comma-separated values."""
 
     points: tuple = (END,)
     stock: str | None = None
@@ -241,6 +244,6 @@ class Table(Job):
         self.site.program.write(["book", *locates, "--snapshot", "--csv"], snapshot, made)
 
     def locates(self, snapshot):
-        """The locates of a snapshot's directory, as a list of ranges."""
+        """Returns the locates in a snapshot's directory as a list of ranges."""
         entries = self.site.program.lines(["show", "--types", "R", snapshot])
         return layout.ranges_of([int(entry.split()[2]) for entry in entries])

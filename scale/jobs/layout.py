@@ -1,4 +1,4 @@
-"""Parts of the locates, and the bytes of their snapshots laid together to those of the whole: see docs/FORMATS.md, "Snapshots"."""
+"""Splits the locates into parts, and merges the snapshots of the parts into the complete one: see docs/FORMATS.md, "Snapshots"."""
 from .program import Failure, Refusal
 
 LAST_LOCATE = 65535
@@ -16,21 +16,21 @@ EMPTY = end_block(1)
 
 
 def parts_of(count, locates):
-    """All locates, in this many ranges: those up to `locates` are shared alike, and the last range has all above them too."""
+    """Returns all locates in this many ranges. Those up to `locates` are split evenly; the last range also contains all above."""
     ends = [locates * part // count for part in range(1, count)] + [LAST_LOCATE]
     begins = [0] + [end + 1 for end in ends[:-1]]
     return tuple(f"{begin}-{end}" for begin, end in zip(begins, ends))
 
 
 def are_whole(parts):
-    """Whether these ranges have every locate once, in ascending order."""
+    """Returns whether these ranges contain every locate once, in ascending order."""
     bounds = [tuple(map(int, part.split("-"))) for part in parts]
     begins = [0] + [last + 1 for _, last in bounds]
     return begins == [first for first, _ in bounds] + [LAST_LOCATE + 1] and all(first <= last for first, last in bounds)
 
 
 def ranges_of(locates):
-    """Rising locates as a list of ranges, such as `1-40,77`."""
+    """Returns ascending locates as a list of ranges, such as `1-40,77`."""
     if not locates:
         raise Refusal("no stocks")
     ranges = []
@@ -43,13 +43,13 @@ def ranges_of(locates):
 
 
 def event_of(snapshot):
-    """The block of the system event that a snapshot begins with, if it does."""
+    """Returns the block of the system event that a snapshot begins with, or no bytes."""
     block = snapshot.read(EVENT_LENGTH)
     return block if block.startswith(EVENT_START) else b""
 
 
 def copy_body(part, event, number, whole):
-    """Copies what a part has between its event and its end, which have to be those of the whole."""
+    """Copies a part without its event and its end, which must be the same as in the complete snapshot."""
     with open(part, "rb") as snapshot:
         if event_of(snapshot) != event:
             raise Failure(f"{part.name} has another system event")
@@ -61,7 +61,8 @@ def copy_body(part, event, number, whole):
 
 
 def lay_together(parts, number, made):
-    """Writes the complete snapshot out of parts in ascending order: their event, the rest of each, and one End of Snapshot."""
+    """Writes the complete snapshot from parts in ascending order: the event, the messages of each part, and one End of
+    Snapshot."""
     with open(parts[0], "rb") as snapshot:
         event = event_of(snapshot)
     with open(made, "wb") as whole:

@@ -1,4 +1,4 @@
-"""Which jobs a number of days comes to, which of them wait for which, and what has become of their results."""
+"""Which jobs a set of days needs, which of them wait for others, and the state of their results."""
 from typing import NamedTuple
 
 from .kinds import END, Check, Merge, Snapshots, Table
@@ -6,7 +6,7 @@ from .layout import parts_of
 
 
 class Wanted(NamedTuple):
-    """What is wanted of each day."""
+    """What to make of each day."""
 
     points: tuple = (END,)
     parts: int = 1
@@ -17,7 +17,7 @@ class Wanted(NamedTuple):
 
 
 def plan_of_day(site, day, wanted):
-    """The jobs of a day, in order, each with those that have to be done before it."""
+    """Returns the jobs of a day in order, each with the jobs that it waits for."""
     if wanted.parts == 1:
         whole = Snapshots(site, day, wanted.points)
         plan = {whole: ()}
@@ -34,7 +34,7 @@ def plan_of_day(site, day, wanted):
 
 
 def plan_of(site, days, wanted):
-    """The jobs of all days: those that wait for none first, and then those that wait for them, round by round."""
+    """Returns the jobs of all days, round by round: first the jobs that wait for none, then those that wait for them, and so on."""
     plan = {}
     for day in days:
         plan |= plan_of_day(site, day, wanted)
@@ -46,8 +46,8 @@ def round_of(job, plan):
 
 
 def report(plan):
-    """Lines about the results that are refused or missing, and one that counts them all; and the status: 3 if any is missing, 1 if any is
-    refused, otherwise 0. Files are looked at by their size alone: the job of each has just read it."""
+    """Returns a line for each refused or missing result, a line that counts all results, and the status: 3 if one is missing, otherwise 1
+    if one is refused, otherwise 0. Checks only the size of each file, because its job has just read it."""
     lines, refused, missing, count = [], 0, 0, 0
     for result in (result for job in plan for result in job.results()):
         manifest = result.manifest()

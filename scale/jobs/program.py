@@ -1,4 +1,5 @@
-"""The program over a day file, which is plain or comes out of a decompressor through a pipe, and what the statuses of both mean."""
+"""Runs the program over a day file, which is plain or comes from a decompressor through a pipe, and interprets the statuses of
+both."""
 import ctypes
 import functools
 import hashlib
@@ -10,20 +11,20 @@ UNPACKERS = {".gz": ("gzip", "-dc"), ".zst": ("zstd", "-dcq")}
 DONE, REFUSED = 0, 1
 PR_SET_PDEATHSIG = 1
 
-# Loaded here, so that little is left to do between the fork and the program.
+# Loaded here, so that there is little left to do between the fork and the start of the program.
 libc = ctypes.CDLL(None)
 
 
 class Refusal(Exception):
-    """An answer: the program refuses the file, and would do so at each try, on each machine."""
+    """A final answer: the program refuses the file, and would do so in each try, on each machine."""
 
 
 class Failure(Exception):
-    """No answer, but a device, memory, a decompressor or a signal: worth another try."""
+    """No answer: a device, memory, a decompressor or a signal failed. Another try may succeed."""
 
 
 def end_with_parent():
-    """Has the kernel end this process when the one that started it ends, however that happens."""
+    """Makes the kernel end this process when its parent ends for any reason."""
     libc.prctl(PR_SET_PDEATHSIG, signal.SIGKILL)
 
 
@@ -39,7 +40,7 @@ def first_line(said):
 
 
 def judge(process, said):
-    """Raises what the status of the program means. A refusal is the line of the program without its name."""
+    """Raises the meaning of the program's status. The text of a refusal is the program's line without its name."""
     line = first_line(said).removeprefix("itchsnap: ")
     if process.returncode == REFUSED:
         raise Refusal(line)
@@ -50,14 +51,14 @@ def judge(process, said):
 
 
 def finish_unpacking(process, source):
-    """Waits for a decompressor. It may be ended by SIGPIPE, where the program had read what it wanted, and by nothing else."""
+    """Waits for a decompressor. Fails if it failed, unless SIGPIPE ended it because the program stopped reading early."""
     _, said = process.communicate()
     if process.returncode not in (0, -signal.SIGPIPE):
         raise Failure(f"{source.name} is not read to its end: {first_line(said) or process.args[0]} ({process.returncode})")
 
 
 def first_bytes(source, count):
-    """The first bytes of a file, unpacked. Fails where a decompressor does before it has as many."""
+    """Returns the first bytes of a file, unpacked. Fails if a decompressor fails before it has produced that many."""
     if source.suffix not in UNPACKERS:
         with open(source, "rb") as file:
             return file.read(count)
@@ -72,19 +73,19 @@ def first_bytes(source, count):
 
 
 def has_no_messages(source):
-    """Whether a day file ends where it begins: with nothing, or with a block of length 0."""
+    """Returns whether a day file is empty or begins with a block of length 0, which ends it."""
     return first_bytes(source, 2) in (b"", b"\0\0")
 
 
 class Program:
-    """The program `itchsnap` in a file."""
+    """The program `itchsnap` at a path."""
 
     def __init__(self, path):
         self.path = Path(path).absolute()
 
     @functools.cached_property
     def identity(self):
-        """The line of its version, and the SHA-256 of its file."""
+        """Returns its version line and the SHA-256 of its file."""
         try:
             digest = hashlib.sha256(self.path.read_bytes()).hexdigest()
             version = subprocess.run([self.path, "--version"], capture_output=True, text=True, check=True).stdout.strip()
@@ -93,10 +94,10 @@ class Program:
         return {"version": version, "sha256": digest}
 
     def write(self, words, source, output):
-        """Runs the program over a file, which is its last word, and writes what it prints to another.
+        """Runs the program over a file, which becomes its last argument, and writes its output to another file.
 
-        Raises `Failure` where the decompressor failed, whatever the program made of what it was given, and otherwise `Refusal` or
-        `Failure` as the program ended.
+        Raises `Failure` if the decompressor failed, whatever the program made of its input, and otherwise `Refusal` or `Failure` by
+        the status of the program.
         """
         unpacker = UNPACKERS.get(source.suffix)
         unpacking = unpacker and start([*unpacker, source], stdout=subprocess.PIPE)
@@ -111,7 +112,7 @@ class Program:
         judge(running, said)
 
     def lines(self, words):
-        """The lines that the program prints."""
+        """Returns the lines that the program prints."""
         running = start([self.path, *words], stdin=subprocess.DEVNULL, stdout=subprocess.PIPE)
         printed, said = running.communicate()
         judge(running, said)

@@ -1,8 +1,8 @@
-"""What a job leaves: a file that is put in place whole, and next to it a manifest of what it was made of.
+"""The result of a job: a complete file, renamed into place, and next to it a manifest of what it was made from.
 
-A result is there if its manifest says that it was made of the same day, point, part and program, and if the file has the SHA-256 of
-the manifest. The file is put in place first, so a job that ends in between leaves a result that is not there yet. A refused day has a
-manifest too, with the reason in place of a file. Jobs may thus be done any number of times, by anyone, at once too.
+A result exists if its manifest names the same day, point, part and program, and its file has the SHA-256 in the manifest. The file is
+put in place first, so a job that is interrupted between the two leaves a result that does not count yet. A refused day has a manifest
+with the reason and no file. So anyone may run a job any number of times, even at the same time.
 """
 import contextlib
 import hashlib
@@ -22,7 +22,7 @@ A_DAY = 24 * 60 * 60
 
 @dataclass(frozen=True)
 class Day:
-    """A day file, known by its name without `.itch` and the suffix of its compression."""
+    """A day file. Its name is the file name without `.itch` and the suffix of the compression."""
 
     path: Path
 
@@ -32,7 +32,8 @@ class Day:
         return (self.path.stem if packed else self.path.name).removesuffix(".itch")
 
     def identity(self):
-        """What stands for its bytes, which are too many to read once more: a file that was replaced has another size or time."""
+        """Returns what identifies the contents: size and time, because the file is too large to be read again. A replaced file
+        differs in one of them."""
         found = self.path.stat()
         return {"file": self.path.name, "bytes": found.st_size, "modified_ns": found.st_mtime_ns}
 
@@ -43,7 +44,7 @@ def digest_of(path):
 
 
 def place(made, path):
-    """Gives a file the name of another, once all of it is on the disk."""
+    """Renames a file after flushing it to disk."""
     with open(made, "rb") as file:
         os.fsync(file)
     os.replace(made, path)
@@ -51,7 +52,7 @@ def place(made, path):
 
 @contextlib.contextmanager
 def attempt(folder):
-    """A folder for what one try writes. A try that is killed leaves its folder, which a later one removes after a day."""
+    """Yields a folder for the output of one try. If a try is killed, its folder remains until a later try removes it after a day."""
     folder.mkdir(parents=True, exist_ok=True)
     for left in folder.glob(f"{ATTEMPT}*"):
         with contextlib.suppress(FileNotFoundError):
@@ -65,7 +66,7 @@ def attempt(folder):
 
 
 class Result:
-    """A result, which may be there or not."""
+    """A result, which may or may not exist."""
 
     def __init__(self, out, day, name, **made_of):
         self.day, self.path = day, out / day.name / name
@@ -79,7 +80,7 @@ class Result:
         return self.path.with_name(f"{self.path.name}.json")
 
     def manifest(self):
-        """Its manifest, if it is of this result and the file has its size; otherwise nothing."""
+        """Returns the manifest, if it describes this result and the file has the size in it. Otherwise returns nothing."""
         try:
             manifest = json.loads(self.manifest_path.read_bytes())
             of_this = manifest["made_of"] == self.made_of
@@ -89,14 +90,14 @@ class Result:
         return manifest if of_this and whole else None
 
     def found(self):
-        """Its manifest, if the result is there."""
+        """Returns the manifest, if the result exists."""
         manifest = self.manifest()
         if manifest and "refused" not in manifest and digest_of(self.path) != manifest["result"].get("sha256"):
             return None
         return manifest
 
     def settle(self, answer, room):
-        """Puts a file in place as this result, or says that the day is refused. Returns the manifest. A failure is raised."""
+        """Puts a file in place as this result, or records that the day is refused. Returns the manifest. Raises a failure."""
         if isinstance(answer, Failure):
             raise answer
         if self.day.identity() != self.made_of["day"]:

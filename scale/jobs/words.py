@@ -1,4 +1,4 @@
-"""The words of `scale/job`."""
+"""The command line of `scale/job`."""
 import argparse
 import dataclasses
 import functools
@@ -32,13 +32,13 @@ def matching(pattern, what):
 
 
 def points(text):
-    """Points, each once, in the order in which they are named."""
+    """Returns the points in the order given, without repetitions."""
     read = matching(POINT, "point of a day: end, a number of messages, or a time such as 10:30")
     return tuple(dict.fromkeys(two_digits(read(point)) for point in text.split(",")))
 
 
 def two_digits(point):
-    """A point with two digits for the hour, as the files of its results are called: 9:30 is 09:30."""
+    """Returns a point with a two-digit hour, as result files are named: 9:30 becomes 09:30."""
     return f"0{point}" if point[1:2] == ":" else point
 
 
@@ -46,10 +46,10 @@ locates = matching(LOCATES, "list of locates")
 
 
 def parts(text):
-    """Parts that can be laid together to the whole."""
+    """Returns parts that can be merged into the complete snapshot."""
     ranges = tuple(matching(RANGE, "range of locates")(part) for part in text.split(","))
     if not are_whole(ranges):
-        raise argparse.ArgumentTypeError("these parts do not have every locate once, in rising order")
+        raise argparse.ArgumentTypeError("these parts do not contain every locate once, in ascending order")
     return ranges
 
 
@@ -66,56 +66,56 @@ def positive(text):
 
 def add_site(words):
     default = os.environ.get("ITCHSNAP") or TOP / "release/itchsnap"
-    words.add_argument("--out", type=absolute, required=True, metavar="DIR", help="the folder of the results")
+    words.add_argument("--out", type=absolute, required=True, metavar="DIR", help="the folder for the results")
     words.add_argument("--program", type=Path, default=default, metavar="FILE",
-                       help="the program; if left out, that of the variable ITCHSNAP, or the released one of this checkout")
+                       help="the program [env: ITCHSNAP] [default: the released one of this checkout]")
 
 
 def add_points(words):
     words.add_argument("--points", type=points, default=(END,), metavar="P1,P2,..",
-                       help="`end`, numbers of messages, or times such as 10:30; the end if left out")
+                       help="`end`, numbers of messages, or times such as 10:30 [default: end]")
 
 
 def add_plan(words):
     """The words for what is wanted of many days, which the adapters have too."""
     add_site(words)
-    add_points(words)
+    Adds the options that say what to make of many days. The adapters take them too.
     words.add_argument("--parts", type=positive, default=1, metavar="K", help="split each day by locates into K parts, and check it")
     words.add_argument("--locates", type=positive, default=12000, metavar="N",
-                       help="the locates up to N are shared alike; 12000 if left out")
+                       help="split the locates up to N evenly [default: 12000]")
     words.add_argument("--ended", action="store_true", help="check that each day ends with End of Messages")
     words.add_argument("--tables", action="store_true", help="write tables of the price levels too")
-    words.add_argument("--stock", metavar="LIST", help="the stocks of the tables; all if left out")
+    words.add_argument("--stock", metavar="LIST", help="the stocks in the tables [default: all]")
     words.add_argument("days", type=absolute, nargs="+", metavar="DAY", help="a day file: plain, .gz or .zst")
 
 
 def reader():
     # Options cannot be abbreviated, so only --help and -h print usage where an adapter expects the lines of a plan.
     exact = functools.partial(argparse.ArgumentParser, allow_abbrev=False)
-    words = exact(description="Does a job over a day file, or says which jobs a number of days comes to.")
+    Options cannot be abbreviated, so only --help and -h print usage where an adapter expects the lines of a plan.
     words.add_argument("--with-parent", action="store_true", help="end when the process that started this one ends")
     commands = words.add_subparsers(dest="command", required=True, parser_class=exact)
     of_a_day = {kind: commands.add_parser(kind.kind, help=kind.__doc__) for kind in (Snapshots, Check, Merge, Table)}
     add_points(of_a_day[Snapshots])
-    of_a_day[Snapshots].add_argument("--part", type=locates, metavar="LIST", help="of these locates alone")
-    of_a_day[Check].add_argument("--expect", type=int, metavar="N", help="refuse a day that has not N messages")
-    of_a_day[Merge].add_argument("--parts", type=parts, required=True, metavar="A-B,C-D,..", help="the parts, in rising order")
+    of_a_day[Snapshots].add_argument("--part", type=locates, metavar="LIST", help="only these locates")
+    of_a_day[Check].add_argument("--expect", type=int, metavar="N", help="refuse a day that does not have exactly N messages")
+    of_a_day[Merge].add_argument("--parts", type=parts, required=True, metavar="A-B,C-D,..", help="the parts, in ascending order")
     of_a_day[Check].add_argument("--ended", action="store_true", help="refuse a day that does not end with End of Messages")
     add_points(of_a_day[Table])
-    of_a_day[Table].add_argument("--stock", metavar="LIST", help="the stocks of the table; all if left out")
+    of_a_day[Table].add_argument("--stock", metavar="LIST", help="the stocks in the table [default: all]")
     for kind, command in of_a_day.items():
         add_site(command)
         command.add_argument("day", type=absolute, metavar="DAY", help="a day file: plain, .gz or .zst")
         command.set_defaults(kind=kind)
-    plan = commands.add_parser("plan", help="a line for each job of these days, for a shell")
-    plan.add_argument("--round", type=positive, metavar="N", help="only the jobs that wait for jobs of N - 1 rounds")
-    for command in plan, commands.add_parser("report", help="which results of these days are refused or missing"):
+    plan = commands.add_parser("plan", help="print a shell command for each job of these days")
+    plan.add_argument("--round", type=positive, metavar="N", help="only the jobs of round N, which wait for those of earlier rounds")
+    for command in plan, commands.add_parser("report", help="list the refused and missing results of these days"):
         add_plan(command)
     return words
 
 
 def plan_for(words, fault):
-    """The plan that words ask for; `fault` ends the program with a line."""
+    """Returns the plan for the command line. `fault` exits with a one-line message."""
     wanted = Wanted(**{name: getattr(words, name) for name in Wanted._fields})
     if wanted.parts > 1 and wanted.points != (END,):
         fault("--parts is for the end of a day alone: at another point a part takes as long as the whole")
@@ -137,7 +137,7 @@ def perform(words):
     options = {field.name: getattr(words, field.name) for field in dataclasses.fields(words.kind) if hasattr(words, field.name)}
     options |= {"site": Site(words.out, Program(words.program)), "day": Day(words.day)}
     for line in words.kind(**options).perform():
-        # In one piece, since other jobs may write to the same pipe.
+        # Written in one piece, because other jobs may write to the same pipe.
         sys.stdout.write(f"{line}\n")
         sys.stdout.flush()
 
