@@ -77,9 +77,9 @@ def add_points(words):
 
 
 def add_plan(words):
-    """The words for what is wanted of many days, which the adapters have too."""
+    """Adds the options that say what to make of many days. The adapters take them too."""
     add_site(words)
-    Adds the options that say what to make of many days. The adapters take them too.
+    add_points(words)
     words.add_argument("--parts", type=positive, default=1, metavar="K", help="split each day by locates into K parts, and check it")
     words.add_argument("--locates", type=positive, default=12000, metavar="N",
                        help="split the locates up to N evenly [default: 12000]")
@@ -92,7 +92,7 @@ def add_plan(words):
 def reader():
     # Options cannot be abbreviated, so only --help and -h print usage where an adapter expects the lines of a plan.
     exact = functools.partial(argparse.ArgumentParser, allow_abbrev=False)
-    Options cannot be abbreviated, so only --help and -h print usage where an adapter expects the lines of a plan.
+    words = exact(description="Runs a job over a day file, lists the jobs for a number of days, or reports on their results.")
     words.add_argument("--with-parent", action="store_true", help="end when the process that started this one ends")
     commands = words.add_subparsers(dest="command", required=True, parser_class=exact)
     of_a_day = {kind: commands.add_parser(kind.kind, help=kind.__doc__) for kind in (Snapshots, Check, Merge, Table)}
