@@ -1,9 +1,9 @@
-/* bench.c: how long the calls take on a day file.
+/* bench.c: measures how long the calls take on a day file.
  *
  *   bench DAY          three rounds of: the whole file at once, the time of each message, message by message, all blocks in one call,
  *                      look-ups, all price levels, each message decoded alone, and calls that are refused at once
- *   bench DAY FIRST    three rounds of a joiner: it takes the snapshot of so many messages of the file, and then all of the file as the
- *                      feed, in order, and in windows of 1,000 messages of which the last comes first */
+ *   bench DAY FIRST    three rounds of a joiner: it takes the snapshot of the first FIRST messages of the file, and then the entire file
+ *                      as the feed, in order, and in windows of 1,000 messages of which the last comes first */
 #define _POSIX_C_SOURCE 199309L
 #include "itchsnap.h"
 
@@ -33,7 +33,7 @@ typedef struct {
     size_t next;
 } block;
 
-/* Whether a block with a payload is at the place. */
+/* Returns whether there is a block with a payload at this place. */
 static bool block_at(const uint8_t *day, size_t len, size_t at, block *found) {
     if (len - at < 2) {
         return false;
@@ -60,7 +60,7 @@ static uint64_t apply_all(itchsnap_handle *market, const uint8_t *day, size_t le
     return count;
 }
 
-/* How many messages can be decoded. */
+/* Returns how many messages can be decoded. */
 static uint64_t decode_all(const uint8_t *day, size_t len) {
     uint64_t count = 0;
     block it;
@@ -70,7 +70,7 @@ static uint64_t decode_all(const uint8_t *day, size_t len) {
     return count;
 }
 
-/* How many messages have their fields written, one by one. */
+/* Returns how many messages can be written as fields, one by one. */
 static uint64_t decode_fields(const uint8_t *day, size_t len) {
     uint64_t count = 0;
     itchsnap_message message;
@@ -81,7 +81,7 @@ static uint64_t decode_fields(const uint8_t *day, size_t len) {
     return count;
 }
 
-/* How many messages blocks have, of which those of some types are written as rows, many at a time. */
+/* Returns how many messages blocks contain, and writes those of some types as rows, many at a time. */
 static uint64_t decode_rows(const uint8_t *day, size_t len, const char *types) {
     static itchsnap_row rows[4096];
     static const uint16_t no_locates[1];
@@ -92,7 +92,7 @@ static uint64_t decode_rows(const uint8_t *day, size_t len, const char *types) {
     return done.count;
 }
 
-/* The price levels of all locates of the directory. */
+/* Lists the price levels of all locates in the directory. */
 static uint64_t list_levels(itchsnap_handle *market) {
     static uint16_t locates[65536];
     static itchsnap_price_level levels[65536];
@@ -201,7 +201,8 @@ static void join(itchsnap_handle *joiner, const uint8_t *day, size_t len, uint64
     }
 }
 
-/* Delivers the file as a feed, in windows of so many messages of which the last comes first, and returns how many messages that was. */
+/* Delivers the file as a feed, in windows of a given number of messages, of which the last comes first. Returns the number of
+   messages. */
 static uint64_t deliver(itchsnap_handle *joiner, const uint8_t *day, size_t len, size_t window) {
     static block held[WINDOW];
     uint64_t number = 1;

@@ -2,7 +2,7 @@
  *
  *   demo DAY SNAPSHOT    writes the snapshot of the day file DAY to SNAPSHOT, and what it finds to standard output
  *
- * It makes each snapshot in every way that there is, and ends with status 1 where two of them differ. */
+ * It makes each snapshot in every possible way, and ends with status 1 if two of them differ. */
 #include "itchsnap.h"
 
 #include <inttypes.h>
@@ -16,7 +16,7 @@
 /* A list of no locates. */
 static const uint16_t no_locates[1];
 
-/* Ends the program where something is not as it must be. */
+/* Ends the program if a condition does not hold. */
 static void must(bool holds, const char *what) {
     if (!holds) {
         fprintf(stderr, "demo: %s\n", what);
@@ -55,7 +55,7 @@ static void write_file(const char *path, buffer snapshot) {
     must(fclose(file) == 0, "cannot write the output");
 }
 
-/* A payload of a file of blocks, and how many bytes its block takes; none at the end, or before an empty block. */
+/* A payload of a file of blocks, and the number of bytes of its block: none at the end, or before an empty block. */
 typedef struct {
     const uint8_t *bytes;
     size_t len;
@@ -75,7 +75,7 @@ static bool next_payload(buffer file, size_t *at, payload *found) {
     return true;
 }
 
-/* Applies all messages of a day file, and returns how many there are. */
+/* Applies all messages of a day file, and returns their number. */
 static uint64_t apply_all(itchsnap_handle *market, buffer day) {
     uint64_t count = 0;
     size_t at = 0;
@@ -94,7 +94,8 @@ static uint64_t apply_all(itchsnap_handle *market, buffer day) {
     return count;
 }
 
-/* Each message of a day file by its fields, and the same messages as rows, three at a time: those of all types, and those of new orders. */
+/* Decodes each message of a day file into its fields, and decodes the same messages as rows, three at a time: first all types, then only
+   new orders. */
 static void decode_all(buffer day, uint64_t count) {
     const uint8_t types[] = "AF";
     uint64_t orders = 0, number = 0;
@@ -125,7 +126,7 @@ static void decode_all(buffer day, uint64_t count) {
     must(done.code == ITCHSNAP_OK && done.count == count && done.rows == 0, "the number of messages");
 }
 
-/* The snapshot of the market of a handle: the length first, and then the bytes. */
+/* Returns the snapshot of a handle's market: asks for the length first, and then for the bytes. */
 static buffer snapshot_of(itchsnap_handle *handle, uint64_t next) {
     uint8_t none;
     itchsnap_written written = itchsnap_snapshot(handle, next, &none, 0);
@@ -160,7 +161,7 @@ static void print_book(itchsnap_handle *market, uint16_t locate) {
     }
 }
 
-/* The levels and the orders of a locate, listed, are those that are looked up one after another. */
+/* Checks that the lists of a locate's levels and orders equal the results of single look-ups. */
 static void list(itchsnap_handle *market, uint16_t locate) {
     itchsnap_order none;
     size_t count = itchsnap_orders(market, locate, &none, 0).len, at = 0;
@@ -191,7 +192,7 @@ static void list(itchsnap_handle *market, uint16_t locate) {
     free(orders);
 }
 
-/* All blocks of a day file at once, in two pieces, leave the same market, whose directory has these locates. */
+/* Checks that applying all blocks of a day file at once, in two pieces, gives the same market, whose directory has these locates. */
 static void apply_blocks(buffer day, uint64_t count, buffer snapshot) {
     itchsnap_handle market = ITCHSNAP_NONE;
     must(itchsnap_market_new(&market).code == ITCHSNAP_OK, "a new market");
@@ -217,7 +218,8 @@ static void apply_blocks(buffer day, uint64_t count, buffer snapshot) {
     itchsnap_free(&market);
 }
 
-/* The whole file at once: the same count, the same snapshot, and the same market as itself. Before a time, the part of it that ends there. */
+/* Passes the entire file at once: the count and the snapshot are the same, and it compares equal to itself. Before a given time, the
+   snapshot is that of the part that ends there. */
 static void whole_file(buffer day, uint64_t count, buffer snapshot) {
     itchsnap_outcome checked = itchsnap_check(day.bytes, day.len);
     must(checked.code == ITCHSNAP_OK && checked.count == count, "check");
@@ -236,7 +238,7 @@ static void whole_file(buffer day, uint64_t count, buffer snapshot) {
     free(whole.bytes);
 }
 
-/* Two parts by locates, of a market and of a file, are the same bytes. */
+/* Checks that parts by locates, of a market and of a file, are the same bytes. */
 static void parts(itchsnap_handle *market, buffer day, uint64_t next, size_t most) {
     uint16_t locates[] = {1, 7};
     buffer one = buffer_of(most);
@@ -249,7 +251,7 @@ static void parts(itchsnap_handle *market, buffer day, uint64_t next, size_t mos
     free(other.bytes);
 }
 
-/* A snapshot loaded is the same snapshot again. */
+/* Checks that loading a snapshot and writing it again gives the same bytes. */
 static void load(buffer snapshot, uint64_t next) {
     itchsnap_handle market = ITCHSNAP_NONE;
     itchsnap_loaded loaded = itchsnap_market_load(&market, snapshot.bytes, snapshot.len);
@@ -260,8 +262,8 @@ static void load(buffer snapshot, uint64_t next) {
     itchsnap_free(&market);
 }
 
-/* A joiner that gets the feed from its last message to its first, and in between the snapshot of no message, is where the
- * market is. */
+/* Checks that a joiner that receives the feed from its last message to its first, and then the snapshot of an empty market, ends in the
+ * same market. */
 static void join(buffer day, uint64_t count, buffer snapshot) {
     itchsnap_handle empty = ITCHSNAP_NONE;
     itchsnap_handle joiner = ITCHSNAP_NONE;
@@ -296,7 +298,8 @@ static void join(buffer day, uint64_t count, buffer snapshot) {
     itchsnap_free(&empty);
 }
 
-/* A joiner for some locates that gets the snapshot of no message, and then the feed in its order, has the market cut down to them. */
+/* Checks that a joiner for some locates that receives the snapshot of an empty market, and then the feed in order, ends in the part of the
+   market at them. */
 static void join_some(itchsnap_handle *market, buffer day, uint64_t count, size_t most) {
     uint16_t locates[] = {1, 7};
     const uint8_t end[] = "G                   1";
@@ -319,7 +322,7 @@ static void join_some(itchsnap_handle *market, buffer day, uint64_t count, size_
     itchsnap_free(&joiner);
 }
 
-/* A client and a server, each fed the other's packets, without a socket. */
+/* Feeds a client and a server each other's packets, without a socket. */
 static void talk(buffer day) {
     itchsnap_login login;
     memcpy(&login, "desk  secret              ", sizeof login);
@@ -351,7 +354,7 @@ static void talk(buffer day) {
     itchsnap_free(&server);
 }
 
-/* Calls in the wrong order, and on the wrong handles, are refused. */
+/* Checks that calls in the wrong order, and on the wrong handles, are refused. */
 static void misuse(void) {
     itchsnap_handle handle = ITCHSNAP_NONE;
     uint8_t byte = 'S';

@@ -1,5 +1,5 @@
 #!/usr/bin/env python3
-"""Writes a small day file to standard output: orders of three stocks from 9:30 to 16:00, the same at each run.
+"""Writes a small day file to standard output: orders of three stocks from 9:30 to 16:00, the same in each run.
 
     day.py > small.itch
 """
@@ -30,7 +30,7 @@ class Book:
         self.orders = {}
 
     def change(self, time, reference):
-        """The next messages of the stock: those of a price that moves, of an order that goes, or of a new one."""
+        """Returns the next messages of the stock: those of a price change, of a deleted order, or of a new one."""
         chance = self.rng.random()
         if chance < 0.03:
             return self.move(time)
@@ -45,7 +45,7 @@ class Book:
         return [block(b"A", self.locate, time, fields)]
 
     def move(self, time):
-        """The middle moves by a tick, and the orders that it reaches are executed."""
+        """Moves the middle by one tick, and executes the orders that it reaches."""
         self.middle += self.rng.choice((-TICK, TICK))
         reached = [it for it, (side, price, _) in self.orders.items() if (price - self.middle) * side <= 0]
         return [block(b"E", self.locate, time, struct.pack(">QIQ", it, self.orders.pop(it)[2], it)) for it in reached]

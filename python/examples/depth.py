@@ -1,9 +1,9 @@
 #!/usr/bin/env python3
-"""Draws the depth of a book as a picture in SVG: how many shares are bid at a price or above it, and offered at a price or below it.
+"""Draws the depth of a book as an SVG picture: how many shares are bid at or above each price, and offered at or below it.
 
     depth.py DAY STOCK [--until TIME] [--prices N] > depth.svg
 
-The best N prices of each side are drawn, 40 where nothing else is said. Needs matplotlib.
+Draws the best N prices of each side [default: 40]. Needs matplotlib.
 """
 import argparse
 import itertools
@@ -14,12 +14,12 @@ from matplotlib.figure import Figure
 
 from sundrekk import Day
 
-# The name of a side, its colour, and how far the last of its prices is drawn: each is drawn up to the next one.
+# The name of a side, its colour, and how far its last price is drawn. Each price is drawn up to the next one.
 SIDES = {"B": ("bids", "tab:blue", -0.01), "S": ("asks", "tab:orange", 0.01)}
 
 
 def draw(axes, side, levels):
-    """Draws the levels of a side, from the best one on, each as high as its shares and those of the better ones are together."""
+    """Draws the levels of a side, best first. The height at each level is the sum of its shares and those of all better levels."""
     name, colour, width = SIDES[side]
     prices = [level.price / 10_000 for level in levels]
     shares = list(itertools.accumulate(level.shares for level in levels))
@@ -27,7 +27,7 @@ def draw(axes, side, levels):
 
 
 def picture(stock, levels):
-    """A picture of these levels, which have two sides at most."""
+    """Returns a picture of these levels, which have at most two sides."""
     figure = Figure(figsize=(7.2, 4), layout="constrained")
     axes = figure.add_subplot(title=f"{stock}: depth of the book", xlabel="price in dollars", ylabel="shares at this price or a better one")
     axes.xaxis.set_major_formatter("{x:.4f}")
@@ -50,7 +50,7 @@ def main():
     sides = ([level for level in levels if level.side == side][:given.prices] for side in SIDES)
     if not (best := [*itertools.chain(*sides)]):
         sys.exit(f"depth: no orders of {given.stock}")
-    # Texts stay texts, and the same book is the same picture.
+    # Texts stay texts, and the same book always gives the same picture.
     matplotlib.rc("svg", fonttype="none", hashsalt="depth")
     picture(given.stock, best).savefig(sys.stdout.buffer, format="svg", metadata={"Date": None})
 

@@ -1,10 +1,10 @@
 #!/usr/bin/env python3
-"""Prints the best bid and ask of some stocks at each minute of a day, and their spread, as comma-separated values.
+"""Prints the best bid, the best ask and the spread of some stocks at each minute of a day, as comma-separated values.
 
     spread.py DAY STOCK .. [--begin 09:30] [--end 16:00]
 
-The line of a minute has the market before the first message at that minute or later. Prices are in dollars. A field is empty where a
-side has no order, and the spread of a crossed book is negative.
+The line for a minute shows the market before the first message at that minute or later. Prices are in dollars. A field is empty if
+its side has no orders. The spread of a crossed book is negative.
 """
 import argparse
 import sys
@@ -20,14 +20,14 @@ def dollars(ten_thousandths):
 
 
 def quote(market, locate):
-    """The best bid, the best ask and the spread of a locate."""
+    """Returns the best bid, the best ask and the spread of a locate."""
     bid, ask = (market.next_price(locate, side) for side in "BS")
     spread = None if bid is None or ask is None else ask - bid
     return ["" if price is None else dollars(price) for price in (bid, ask, spread)]
 
 
 def locates_of(market, stocks):
-    """The locates of these stocks in the directory, which has come before the first minute."""
+    """Returns the locates of these stocks in the directory, which precedes the first minute."""
     found = {stock: locate for locate, stock in market.stocks().items()}
     unknown = [stock for stock in stocks if stock not in found]
     if unknown:

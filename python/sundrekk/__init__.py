@@ -9,9 +9,9 @@
         print(level.side, level.price / 10_000, level.shares, level.orders)
     morning.levels.to_pandas()
 
-Day files, snapshots, payloads and packets are any buffers of bytes, such as `bytes`, a `memoryview` or an `mmap`, and none is copied.
-Prices are integers of a ten-thousandth of a dollar; times of the day are nanoseconds since midnight; moments of sessions are
-milliseconds. What is refused raises `Refused`, which has the `Reason`.
+Functions that read day files, snapshots, payloads or packets accept any buffer of bytes, such as `bytes`, a `memoryview` or an `mmap`, and do not
+copy it. Prices are integers in ten-thousandths of a dollar. Times of the day are nanoseconds since midnight; times of sessions are milliseconds.
+Rejected input raises `Refused`; its `reason` says why.
 """
 from . import kinds
 from .columns import Columns

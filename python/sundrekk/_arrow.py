@@ -1,4 +1,4 @@
-"""Record batches over Arrow's C stream interface, which pyarrow, polars, DuckDB and others take."""
+"""Record batches over Arrow's C stream interface, which pyarrow, polars, DuckDB and others read."""
 from __future__ import annotations
 
 import ctypes as c
@@ -43,14 +43,14 @@ class Batch(NamedTuple):
 
 
 class Source:
-    """What a stream has: the name and the format of each column, and the batches."""
+    """The contents of a stream: the name and the format of each column, and the batches."""
 
     def __init__(self, fields: Sequence[Tuple[str, str]], batches: Iterator[Batch]) -> None:
         self.fields, self.batches = fields, batches
         self.error = c.create_string_buffer(b"")
 
 
-# What a structure refers to, by its `private_data`, until whoever took the structure releases it.
+# Everything that a structure refers to, keyed by its `private_data`, until the consumer releases the structure.
 _lent: Dict[int, Any] = {}
 _numbers = itertools.count(1)
 
@@ -62,7 +62,7 @@ def _lend(it: Any) -> int:
 
 
 def _release(it: Any, nothing: Any) -> None:
-    """Releases a structure, and those of its children that were not taken out of it."""
+    """Releases a structure, and those of its children that were not moved out of it."""
     for at in range(it.n_children):
         child = it.children[at]
         if child.contents.release:
@@ -99,7 +99,7 @@ def _describe(out: Any, form: str, name: str, children: List[Any]) -> None:
 
 
 def _hold(out: Any, length: int, buffers: Sequence[bytearray], children: List[Any]) -> None:
-    """Fills in an array. It has no buffer of missing values."""
+    """Fills in an array without a buffer for missing values."""
     memory = [(c.c_uint8 * len(it)).from_buffer(it) for it in buffers]
     addresses = (c.c_void_p * (1 + len(memory)))(None, *map(c.addressof, memory))
     lent = addresses, memory, _family(children), children
@@ -122,7 +122,7 @@ def _get_next(stream: Any, out: Any) -> int:
     source, children = _lent[stream.contents.private_data], []
     try:
         batch = next(source.batches, None)
-    except Exception as error:  # no exception goes through C
+    except Exception as error:  # exceptions must not propagate into C
         source.error = c.create_string_buffer(str(error).encode())
         return FAILED
     if batch is None:
@@ -140,24 +140,24 @@ def _get_last_error(stream: Any) -> int:
     return c.addressof(_lent[stream.contents.private_data].error)
 
 
-# The destructor of a capsule gets an address, since the object is no more to be referred to.
+# The destructor of a capsule receives an address, because the object must no longer be referenced.
 _pointer_of = c.PYFUNCTYPE(c.c_void_p, c.c_void_p, c.c_char_p)(("PyCapsule_GetPointer", c.pythonapi))
 Destructor = c.PYFUNCTYPE(None, c.c_void_p)
 _capsule = c.PYFUNCTYPE(c.py_object, c.c_void_p, c.c_char_p, Destructor)(("PyCapsule_New", c.pythonapi))
-# The structures in capsules, by their address.
+# The structures in capsules, keyed by their address.
 _streams: Dict[int, Stream] = {}
 
 
 @Destructor
 def _destroy(capsule: int) -> None:
-    """Releases a stream that nobody took."""
+    """Releases a stream that no consumer took."""
     stream = _streams.pop(_pointer_of(capsule, STREAM))
     if stream.release:
         stream.release(stream)
 
 
 def stream_of(source: Source) -> Any:
-    """The capsule of a stream."""
+    """Returns a capsule with a stream."""
     stream = Stream(_get_schema, _get_next, _get_last_error, _release_stream, _lend(source))
     _streams[c.addressof(stream)] = stream
     return _capsule(c.addressof(stream), STREAM, _destroy)

@@ -1,4 +1,4 @@
-"""Memory to pass to the library, and numbers that fit."""
+"""Memory to pass to the library, and checks that numbers fit."""
 from __future__ import annotations
 
 import array
@@ -11,7 +11,7 @@ from typing import TYPE_CHECKING, Any, Iterable, Iterator, Tuple
 if TYPE_CHECKING:
     from _typeshed import ReadableBuffer
 
-# Pages that are allocated when they are written to, however many are requested. Python has the name from 3.13 on.
+# Pages that are only allocated when written to, however many are requested. Python has had this name since 3.13.
 NO_RESERVE = getattr(mmap, "MAP_NORESERVE", 0x4000)
 
 
@@ -25,15 +25,15 @@ class View(c.Structure):
 
 _get = c.PYFUNCTYPE(c.c_int, c.py_object, c.POINTER(View), c.c_int)(("PyObject_GetBuffer", c.pythonapi))
 _release = c.PYFUNCTYPE(None, c.POINTER(View))(("PyBuffer_Release", c.pythonapi))
-# The address of no bytes: the library takes no null.
+# The address to pass for no bytes: the library does not accept null.
 _nothing = c.create_string_buffer(1)
 NOWHERE = c.addressof(_nothing)
 
 
 @contextlib.contextmanager
 def bytes_of(data: ReadableBuffer) -> Iterator[Tuple[int, int]]:
-    """The address and the length of a buffer's bytes, which stay in place meanwhile. Raises TypeError if it is not a buffer, and
-    BufferError if its bytes are not contiguous."""
+    """Yields the address and the length of a buffer's bytes, which stay in place meanwhile. Raises TypeError if the object is not a
+    buffer, and BufferError if its bytes are not contiguous."""
     view = View()
     _get(data, view, 0)
     try:
@@ -44,13 +44,13 @@ def bytes_of(data: ReadableBuffer) -> Iterator[Tuple[int, int]]:
 
 @contextlib.contextmanager
 def room_for(size: int) -> Iterator[mmap.mmap]:
-    """This many bytes to write to; those that stay unwritten take no memory."""
+    """Returns this many writable bytes. Those that are never written to take no memory."""
     with mmap.mmap(-1, size, flags=mmap.MAP_PRIVATE | mmap.MAP_ANONYMOUS | NO_RESERVE) as room:
         yield room
 
 
 def number(value: int, bits: int, what: str) -> int:
-    """A number that fits into this many bits. ctypes would truncate it, and a truth value is a mistake."""
+    """Returns a number if it fits into this many bits; ctypes would truncate it. Rejects truth values, which are mistakes."""
     if isinstance(value, bool):
         raise TypeError(f"{what} is a number, and not {value}")
     value = operator.index(value)
@@ -64,13 +64,13 @@ def locate_of(value: int) -> int:
 
 
 def locates_of(values: Iterable[int]) -> Any:
-    """Locates as the library takes them."""
+    """Returns locates in the form that the library expects."""
     listed = array.array("H", [locate_of(value) for value in values])
     return (c.c_uint16 * len(listed)).from_buffer(listed)
 
 
 def is_buy(side: str) -> bool:
-    """Whether a side is that of the bids."""
+    """Returns whether a side is that of the bids."""
     if side not in ("B", "S"):
         raise ValueError(f"a side is 'B' or 'S', and not {side!r}")
     return side == "B"

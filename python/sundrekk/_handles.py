@@ -13,7 +13,7 @@ Self = TypeVar("Self", bound="Held")
 
 
 class Held:
-    """An object in the library, until it is closed. It stays on the thread that made it, and is not copied."""
+    """An object in the library, until it is closed. It stays on the thread that made it and cannot be copied."""
 
     def __init__(self) -> None:
         self._handle = _library.Handle()
@@ -21,7 +21,7 @@ class Held:
 
     @property
     def _own(self) -> _library.Handle:
-        """The handle, for a call on its thread."""
+        """Returns the handle, for a call on its thread."""
         if threading.get_ident() != self._thread:
             raise RuntimeError(f"a {type(self).__name__} stays on the thread that made it")
         return self._handle
@@ -37,7 +37,7 @@ class Held:
         self.close()
 
     def __del__(self) -> None:
-        # Where another thread collects it, its memory stays taken: a handle never leaves its thread.
+        # If another thread collects the object, its memory is not freed: a handle never leaves its thread.
         if getattr(self, "_thread", None) == threading.get_ident():
             library.free(self._handle)
 
@@ -46,12 +46,12 @@ class Held:
 
 
 def done(answer: Any) -> Any:
-    """An answer, or its refusal."""
+    """Returns an answer, or raises its refusal."""
     if answer.code != _library.OK:
         raise Refused(answer.code, getattr(answer, "detail", 0))
     return answer
 
 
 def found(answer: Any) -> Any:
-    """What a look-up found, or None."""
+    """Returns the result of a look-up, or None."""
     return None if answer.code == _library.ABSENT else done(answer)

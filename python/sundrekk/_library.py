@@ -1,4 +1,4 @@
-"""The functions of libitchsnap.so with the declarations of itchsnap.h, by their names without `itchsnap_`."""
+"""The functions of libitchsnap.so, declared as in itchsnap.h and named without `itchsnap_`."""
 from __future__ import annotations
 
 import ctypes as c
@@ -7,7 +7,7 @@ from types import SimpleNamespace
 
 INTERFACE = 1
 OK, TRUNCATED, NO_ROOM, WRONG_HANDLE, ABSENT = 0, 32, 49, 50, 52
-# The values for `snap` that mean all messages, and any time.
+# The values that mean all messages and any time to `snap`.
 ALL = 2**64 - 1
 
 
@@ -92,10 +92,10 @@ class AcceptancePacket(c.Structure):
     _fields_ = [("bytes", c.c_uint8 * 31), ("code", c.c_uint32)]
 
 
-# A pointer is an address, so a list can be written into the middle of an array.
+# Pointers are passed as addresses, so that a list can be written into the middle of an array.
 HANDLE, MEMORY, LOCATES = c.POINTER(Handle), [c.c_void_p, c.c_size_t], [c.POINTER(c.c_uint16), c.c_size_t]
 
-# Each function's result and arguments.
+# The result and the arguments of each function.
 FUNCTIONS = {
     "version": (c.c_uint32, []),
     "decode_fault": (Answer, MEMORY),

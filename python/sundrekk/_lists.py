@@ -11,24 +11,24 @@ from .tables import SIDES, Levels, Orders, Part, Stock
 
 
 def locates(handle: _library.Handle) -> List[int]:
-    """The locates of the directory, in ascending order."""
+    """Returns the locates in the directory, in ascending order."""
     out = (c.c_uint16 * (1 << 16))()
     return out[:done(library.locates(handle, out, len(out))).len]
 
 
 def stock(handle: _library.Handle, locate: int) -> Optional[str]:
-    """The stock of a locate in the directory, or None."""
+    """Returns the stock of a locate in the directory, or None."""
     name = found(library.stock(handle, locate))
     return None if name is None else bytes(name.stock).decode().rstrip(" ")
 
 
 def stocks(handle: _library.Handle) -> Dict[int, str]:
-    """The stock of each locate in the directory."""
+    """Returns the stock of each locate in the directory."""
     return {locate: stock(handle, locate) or "" for locate in locates(handle)}
 
 
 def places(directory: Mapping[int, str]) -> Dict[str, List[int]]:
-    """The locates of each stock of a directory."""
+    """Returns the locates of each stock in a directory."""
     found: Dict[str, List[int]] = {}
     for locate, name in directory.items():
         found.setdefault(name, []).append(locate)
@@ -36,7 +36,7 @@ def places(directory: Mapping[int, str]) -> Dict[str, List[int]]:
 
 
 def locate_in(directory: Mapping[str, List[int]], stock: Stock) -> int:
-    """The locate that is given, or the one that has the stock of this name."""
+    """Returns the given locate, or the locate of the stock with this name."""
     if not isinstance(stock, str):
         return _buffers.locate_of(stock)
     having = directory.get(stock, [])
@@ -46,7 +46,7 @@ def locate_in(directory: Mapping[str, List[int]], stock: Stock) -> int:
 
 
 def orders(handle: _library.Handle, locate: Optional[int]) -> Orders:
-    """The live orders of all locates, or of one."""
+    """Returns the live orders of all locates, or of one."""
     names = _named(handle, locate)
     calls = [(it,) for it in names]
     room = library.order_count(handle).count if locate is None else _items(library.orders, handle, calls)
@@ -55,17 +55,17 @@ def orders(handle: _library.Handle, locate: Optional[int]) -> Orders:
 
 
 def levels(handle: _library.Handle, locate: Optional[int]) -> Levels:
-    """The price levels of all locates, or of one."""
+    """Returns the price levels of all locates, or of one."""
     names = _named(handle, locate)
     calls = [(it, buy) for it in names for buy in (True, False)]
-    # There are no more levels than orders.
+    # There are at most as many levels as orders.
     room = library.order_count(handle).count if locate is None else _items(library.levels, handle, calls)
     array, ends = _filled(library.levels, handle, _library.PriceLevel, calls, room)
     return Levels(array, names, [Part(it, SIDES[not buy], end) for (it, buy), end in zip(calls, ends)])
 
 
 def snapshot(handle: _library.Handle, next_number: int, only: Optional[Iterable[int]]) -> bytes:
-    """The canonical snapshot, of all locates or of some."""
+    """Returns the canonical snapshot, of all locates or of some."""
     room = 64 + 200 * len(locates(handle)) + 42 * library.order_count(handle).count
     if only is None:
         return written(lambda at, size: library.snapshot(handle, next_number, at, size), room)
@@ -74,7 +74,7 @@ def snapshot(handle: _library.Handle, next_number: int, only: Optional[Iterable[
 
 
 def written(call: Callable[[int, int], Any], room: int) -> bytes:
-    """The bytes that a call writes to the address and length that it is given: in one call if there is enough room."""
+    """Returns the bytes that a call writes to the given address and length. Calls once if there is enough room."""
     while True:
         with _buffers.room_for(room) as out, _buffers.bytes_of(out) as (at, size):
             answer = call(at, size)
@@ -84,17 +84,18 @@ def written(call: Callable[[int, int], Any], room: int) -> bytes:
 
 
 def _named(handle: _library.Handle, locate: Optional[int]) -> Dict[int, str]:
-    """The stocks of all locates, or of one, by their locates."""
+    """Returns the stocks of all locates, or of one, by locate."""
     return stocks(handle) if locate is None else {locate: stock(handle, locate) or ""}
 
 
 def _items(function: Any, handle: _library.Handle, calls: List[Tuple[int, ...]]) -> int:
-    """How many items these calls list together."""
+    """Returns how many items these calls list in total."""
     return sum(function(handle, *words, _buffers.NOWHERE, 0).len for words in calls)
 
 
 def _filled(function: Any, handle: _library.Handle, kind: Any, calls: List[Tuple[int, ...]], room: int) -> Tuple[Any, List[int]]:
-    """An array of what these calls list, one after another, and where the items of each end."""
+    """Returns an array of the items that these calls list, one call after another, and the index at which the items of each call
+    end."""
     out = (kind * room)()
     start, size, at, ends = c.addressof(out), c.sizeof(kind), 0, []
     for words in calls:

@@ -10,7 +10,7 @@ from .times import first_at
 
 
 def books(blocks: memoryview, every: int, stock: Optional[Stock], part: Range) -> Iterator[Tuple[int, Levels]]:
-    """Each time of a part, from its beginning on, with the price levels of all stocks or of one."""
+    """Yields each time of a part, from its first time on, with the price levels of all stocks or of one."""
     time = part.since or _first_multiple(blocks, every)
     at: Optional[int] = 0
     with Market() as market:
@@ -22,6 +22,6 @@ def books(blocks: memoryview, every: int, stock: Optional[Stock], part: Range) -
 
 
 def _first_multiple(blocks: memoryview, every: int) -> Optional[int]:
-    """The first multiple of a distance of time that is after the first timestamp, if there is one."""
+    """Returns the first multiple of an interval after the first timestamp, if there is a timestamp."""
     first = next((it.ns for it in messages(blocks, None, None, Range(0, None)) if hasattr(it, "ns")), None)
     return None if first is None else (first // every + 1) * every

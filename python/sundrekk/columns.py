@@ -1,4 +1,4 @@
-"""The messages of one type, a column for each field."""
+"""The messages of one type, as one column per field."""
 from __future__ import annotations
 
 import ctypes as c
@@ -19,15 +19,15 @@ if TYPE_CHECKING:
     import numpy
     import pyarrow
 
-# By the letter of a field's layout: the format of a column of it in numpy and in Arrow. Texts and codes are other letters.
+# The column format of a field in numpy and in Arrow, keyed by the letter of its layout. Texts and codes have other letters.
 NUMBERS = {"Q": (">u8", "L"), "I": (">u4", "I"), "H": (">u2", "S"), "N": ("<u8", "L")}
-# The rows of a record batch.
+# The number of rows of a record batch.
 AT_ONCE = 1 << 16
 HAS_NUMPY = importlib.util.find_spec("numpy") is not None
 
 
 class Field(NamedTuple):
-    """A field: where it begins in a row, its bytes there, and its letter: that of a number (`NUMBERS`), S of a text, or c of a code."""
+    """A field: its offset in a row, its size there, and its letter: that of a number (`NUMBERS`), S for a text, or c for a code."""
 
     name: str
     offset: int
@@ -44,7 +44,7 @@ class Field(NamedTuple):
 
 
 def fields_of(letter: str) -> List[Field]:
-    """The fields of a type, in their order."""
+    """Returns the fields of a type, in order."""
     kind, layout = LAYOUTS[letter]
     found = [Field("number", 0, 8, "N"), Field("stock_locate", PAYLOAD + 1, 2, "H"), Field("tracking_number", PAYLOAD + 3, 2, "H"),
              Field("ns", 16, 8, "N")]
@@ -57,10 +57,10 @@ def fields_of(letter: str) -> List[Field]:
 
 
 class Columns:
-    """The messages of one type, as `Day.columns` returns them: a column for each field of the named tuple in `sundrekk.kinds`.
+    """The messages of one type, as `Day.columns` returns them: one column for each field of the named tuple in `sundrekk.kinds`.
 
-    `len` is the number of messages, and `columns["price"]` a numpy array of a field. pyarrow, polars, DuckDB and others read all columns as they are:
-    `pyarrow.table(columns)`, `polars.DataFrame(columns)`; that needs no numpy.
+    `len` is the number of messages, and `columns["price"]` a numpy array of a field. pyarrow, polars, DuckDB and others read all columns directly,
+    without numpy: `pyarrow.table(columns)`, `polars.DataFrame(columns)`.
     """
 
     def __init__(self, letter: str, memory: mmap.mmap, count: int) -> None:
@@ -76,15 +76,15 @@ class Columns:
         return f"<{self._count} messages of type {self.type}: {', '.join(self.fields)}>"
 
     def __getitem__(self, name: str) -> numpy.ndarray:
-        """The column of a field: numbers, or bytes of a text without its trailing spaces or of a code. Needs numpy."""
+        """Returns the column of a field: numbers, bytes of a text without its trailing spaces, or bytes of a code. Needs numpy."""
         if name not in self._made:
             field = self.fields[name]
             self._made[name] = _column(self.to_numpy()[name], field.letter)
         return self._made[name]
 
     def to_numpy(self) -> numpy.ndarray:
-        """A structured array over the memory that the library has written, without a copy, which must not be written to. Numbers are big-endian as in
-        messages, texts have their trailing spaces. Needs numpy."""
+        """Returns a read-only structured array over the memory that the library has written, without a copy. Numbers are big-endian as in messages, and texts
+        keep their trailing spaces. Needs numpy."""
         import numpy
 
         fields = self.fields.values()
@@ -95,7 +95,7 @@ class Columns:
         return rows
 
     def to_arrow(self) -> pyarrow.Table:
-        """An Arrow table. Needs pyarrow."""
+        """Returns an Arrow table. Needs pyarrow."""
         import pyarrow
 
         return pyarrow.table(self)
@@ -113,9 +113,9 @@ class Columns:
 
 
 def columns_of(letter: str, pieces: Iterable[Piece], most_bytes: int) -> Columns:
-    """The messages of a type in pieces of a day of no more bytes than these."""
+    """Yields the messages of a type, in pieces of a day of at most this many bytes."""
     most = most_bytes // (2 + DECODERS[ord(letter)][0])
-    # Pages that nothing is written to take no memory.
+    # Pages that are never written to take no memory.
     memory = mmap.mmap(-1, most * SIZE or 1, flags=mmap.MAP_PRIVATE | mmap.MAP_ANONYMOUS | NO_RESERVE)
     room, count = c.addressof(c.c_uint8.from_buffer(memory)), 0
     for piece in pieces:
@@ -126,7 +126,7 @@ def columns_of(letter: str, pieces: Iterable[Piece], most_bytes: int) -> Columns
 
 
 def _column(raw: numpy.ndarray, letter: str) -> numpy.ndarray:
-    """A column in the machine's order of bytes, and texts without their trailing spaces."""
+    """Returns a column in native byte order, with texts without their trailing spaces."""
     import numpy
 
     made = numpy.array(raw, raw.dtype.newbyteorder("="), order="C")
@@ -141,7 +141,7 @@ def _column(raw: numpy.ndarray, letter: str) -> numpy.ndarray:
 
 
 def _packed_by_numpy(rows: numpy.ndarray, fields: Iterable[Field]) -> Dict[str, List[bytearray]]:
-    """What `_packed` returns for each field, in a fraction of the time, except for codes that are not ASCII."""
+    """Returns the same as `_packed` for each field in a fraction of the time, except for codes that are not ASCII."""
     import numpy
 
     packed = {}
@@ -162,10 +162,10 @@ def _packed_by_numpy(rows: numpy.ndarray, fields: Iterable[Field]) -> Dict[str, 
 
 
 def _packed(rows: bytes, field: Field) -> List[bytearray]:
-    """The buffers of a column of a record batch."""
+    """Returns the buffers of a column of a record batch."""
     if field.letter not in NUMBERS:
         return _texts(rows, field)
-    # A number that is stored with its high byte first is turned around.
+    # A number that is stored with its high byte first is reversed.
     places = range(field.width) if field.letter == "N" else reversed(range(field.width))
     packed = bytearray(len(rows) // SIZE * field.width)
     for to, place in enumerate(places):
@@ -174,7 +174,7 @@ def _packed(rows: bytes, field: Field) -> List[bytearray]:
 
 
 def _texts(rows: bytes, field: Field) -> List[bytearray]:
-    """The ends and the characters of texts without their trailing spaces, or of codes, each byte of which is a character."""
+    """Returns the ends and the characters of texts without their trailing spaces, or of codes, each byte of which is a character."""
     texts = [rows[at:at + field.width] for at in range(field.offset, len(rows), SIZE)]
     spelled = {it: it.rstrip(b" ") if field.letter == "S" else it.decode("latin-1").encode() for it in set(texts)}
     made = [spelled[it] for it in texts]

@@ -13,9 +13,9 @@ EXECUTIONS = b"EC"
 
 
 class Execution(NamedTuple):
-    """An execution of a live order: the messages `E` and `C`. `side` is that of the order, 'B' for a bid; `price` is the price of the execution, and
-    `order_price` that of the order, in ten-thousandths of a dollar; `ns` are nanoseconds since midnight. One that is not printable is in a later
-    trade message too, and does not count towards volumes."""
+    """An execution of a live order: a message `E` or `C`. `side` is that of the order, 'B' for a bid. `price` is the price of the execution, and
+    `order_price` that of the order, in ten-thousandths of a dollar. `ns` is in nanoseconds since midnight. An execution that is not printable also
+    appears in a later trade message, and does not count towards volumes."""
 
     number: int
     ns: int
@@ -31,7 +31,7 @@ class Execution(NamedTuple):
 
 
 def executions(blocks: memoryview, stocks: Optional[Stocks], part: Range) -> Iterator[Execution]:
-    """The executions of a part of a day. Each message up to its end has to follow the order rules."""
+    """Yields the executions of a part of a day. Every message up to its end must follow the order rules."""
     begin, is_begun = 0, not part.since
     with Market() as market:
         for number, kind, at, end in places(blocks):
@@ -49,7 +49,7 @@ def executions(blocks: memoryview, stocks: Optional[Stocks], part: Range) -> Ite
 
 
 def _execution(market: Market, blocks: memoryview, at: int, end: int, number: int) -> Execution:
-    """The execution of a message, which is applied to the market."""
+    """Returns the execution of a message, and applies the message to the market."""
     message = decoded(blocks, at, end, number)
     order = market.order(message.order_reference_number)  # type: ignore[union-attr]
     market.apply(blocks[at:end])

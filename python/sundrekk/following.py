@@ -9,20 +9,20 @@ from .decoding import decoded
 from .kinds import Message
 from .sessions import ClientSession, Event
 
-# How many bytes are read at once, and how often there may be something to send.
+# How many bytes are read at once, and how often to check for something to send.
 AT_ONCE, TICK = 1 << 16, 0.2
 
 
 def follow(host: str, port: int, username: str, password: str, *, session: str = "", start: int = 1, timeout: float = 10.0) -> Iterator[Message]:
-    """The messages of a live feed over SoupBinTCP, one by one as they come, until the server ends its session.
+    """Yields the messages of a live feed over SoupBinTCP as they arrive, until the server ends its session.
 
     username, password, session: as in `ClientSession`; a blank session requests the current one.
-    start: the number of the first message, counted from 1. To continue after a lost connection, request the one after the last
-    that came.
+    start: the number of the first message, counted from 1. To continue after a lost connection, pass the number after that of the last message
+    received.
     timeout: how many seconds to wait for a connection.
 
-    Raises PermissionError where the login is rejected, ConnectionError where the connection is lost, TimeoutError where the server was silent for 15
-    seconds, and `Refused` at what is no message or no packet of a server.
+    Raises PermissionError if the login is rejected, ConnectionError if the connection is lost, TimeoutError if the server is silent for 15 seconds,
+    and `Refused` for an invalid message or server packet.
     """
     with socket.create_connection((host, port), timeout) as peer, ClientSession(username, password, session=session, start=start,
                                                                                 now_ms=_now()) as client:
@@ -43,7 +43,7 @@ def follow(host: str, port: int, username: str, password: str, *, session: str =
 
 
 def _packets(held: bytes) -> Tuple[List[memoryview], bytes]:
-    """The complete packets that these bytes begin with, without their lengths, and the bytes after them."""
+    """Returns the complete packets at the front of these bytes, without their lengths, and the bytes after them."""
     view, found, at = memoryview(held), [], 0
     while at + 2 <= len(held) and (end := at + 2 + int.from_bytes(held[at:at + 2], "big")) <= len(held):
         found.append(view[at + 2:end])
@@ -52,7 +52,7 @@ def _packets(held: bytes) -> Tuple[List[memoryview], bytes]:
 
 
 def _read(peer: socket.socket, client: ClientSession) -> bytes:
-    """What comes next, or nothing for a while. A heartbeat is sent where one is due."""
+    """Returns the bytes that arrive next, or none after a while. Sends a heartbeat if one is due."""
     event = client.tick(_now())
     if event is Event.LOST:
         raise TimeoutError("the server was silent for 15 seconds")

@@ -17,11 +17,11 @@ if TYPE_CHECKING:
 class Step(enum.IntEnum):
     """What a joiner did with a message.
 
-    KEPT: it waits.
-    APPLIED: it was applied, and then what waited, up to the message before `next_number`.
+    KEPT: it was kept, and waits.
+    APPLIED: it was applied, and then the waiting messages up to the one before `next_number`.
     OLD: the market already contains it.
-    MORE: a message of the snapshot was taken, and more follow.
-    JOINED: the snapshot has ended, and what waited was applied, up to the message before `next_number`.
+    MORE: it was a message of the snapshot, and more follow.
+    JOINED: it ended the snapshot, and the waiting messages up to the one before `next_number` were applied.
     """
 
     KEPT = 64
@@ -32,12 +32,12 @@ class Step(enum.IntEnum):
 
 
 class Joiner(Lookups):
-    """A snapshot and the messages of a live feed, in any order, lost and repeated, joined into one market.
+    """Joins a snapshot and the messages of a live feed into one market. Messages may arrive in any order, be lost and be repeated.
 
-    waiting: how many messages may wait at most.
-    only: the locates to keep; messages at others are decoded and counted, and change nothing else.
+    waiting: the maximum number of waiting messages.
+    only: the locates to keep. Messages at others are decoded and counted, but change nothing else.
 
-    Before it has joined, a look-up raises `Refused` with `Reason.WRONG_HANDLE`, and `next_number` and `snapshot` with
+    Until the two are joined, look-ups raise `Refused` with `Reason.WRONG_HANDLE`, and `next_number` and `snapshot` raise it with
     `Reason.NOT_JOINED`.
     """
 
@@ -57,32 +57,32 @@ class Joiner(Lookups):
             return _step(library.joiner_live(self._own, number(message_number, 64, "a number"), at, size))
 
     def snapshot_message(self, payload: ReadableBuffer) -> Step:
-        """Takes the next message of the snapshot; End of Snapshot comes last. Raises `Refused` with the reasons `HALTED`,
+        """Takes the next message of the snapshot, the last of which is End of Snapshot. Raises `Refused` with the reasons `HALTED`,
         `ALREADY_JOINED`, `BAD_SNAPSHOT`, `OUT_OF_MEMORY` and `TAKEN_NO_MEMORY`."""
         with bytes_of(payload) as (at, size):
             return _step(library.joiner_snapshot(self._own, at, size))
 
     def restart(self) -> None:
-        """Drops an unfinished or broken snapshot, and keeps what waits."""
+        """Drops an unfinished or broken snapshot, and keeps the waiting messages."""
         done(library.joiner_restart(self._own))
 
     def resume(self) -> Step:
-        """Applies the messages that wait, after memory was refused."""
+        """Applies the waiting messages, after a lack of memory prevented that."""
         return _step(library.joiner_resume(self._own))
 
     @property
     def next_number(self) -> int:
-        """The number of the next message of the feed, counted from 1. Raises `Refused` with `Reason.NOT_JOINED` before it has joined."""
+        """The number of the next message of the feed, counted from 1. Raises `Refused` with `Reason.NOT_JOINED` before it is known."""
         return done(library.joiner_next(self._own)).count
 
     @property
     def waiting(self) -> int:
-        """How many messages wait."""
+        """The number of waiting messages."""
         return done(library.joiner_waiting(self._own)).count
 
 
 def _step(answer: Any) -> Step:
-    """What was done, or why the message was not taken."""
+    """Returns what was done with a message, or raises the reason why it was not taken."""
     if answer.code in Step.__members__.values():
         return Step(answer.code)
     reason = Reason(answer.code)

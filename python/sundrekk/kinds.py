@@ -1,7 +1,7 @@
 """The types of messages of TotalView-ITCH 5.0, as named tuples with the standard's names.
 
-Each has its `number` in the file, counted from 1. Those with a header have its locate, its tracking number, and its timestamp as `ns`, nanoseconds since
-midnight. Prices are in ten-thousandths of a dollar. Texts come without trailing spaces, codes as the characters of their bytes.
+Each has its `number` in the file, counted from 1. Types with a header also have its locate, its tracking number, and its timestamp as `ns`,
+nanoseconds since midnight. Prices are in ten-thousandths of a dollar. Texts have no trailing spaces; codes are the characters of their bytes.
 """
 from __future__ import annotations
 
@@ -236,7 +236,7 @@ class Undecoded(NamedTuple):
 Message = Union[SystemEvent, StockDirectory, TradingAction, RegShoRestriction, OperationalHalt, ParticipantPosition, AddOrder, AttributedAddOrder,
                 OrderExecuted, OrderExecutedWithPrice, OrderCancel, OrderDelete, OrderReplace, Trade, CrossTrade, BrokenTrade, EndOfSnapshot, Undecoded]
 
-# The types with a header: each field after it in the notation of `struct`, a text in capitals.
+# The types with a header, and the fields after it in the notation of `struct`, texts in capitals.
 LAYOUTS = {
     "S": (SystemEvent, "c"), "R": (StockDirectory, "8S c c I c c 2s c c c c c I c"), "H": (TradingAction, "8S c c 4s"), "Y": (RegShoRestriction, "8S c"),
     "h": (OperationalHalt, "8S c c"), "L": (ParticipantPosition, "4S 8S c c c"), "A": (AddOrder, "Q B I 8S I"), "F": (AttributedAddOrder, "Q B I 8S I 4S"),

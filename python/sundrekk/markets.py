@@ -1,4 +1,4 @@
-"""Markets that messages are applied to, and the look-ups that they share with joiners."""
+"""Markets, to which messages are applied, and the look-ups that they share with joiners."""
 from __future__ import annotations
 
 from typing import TYPE_CHECKING, BinaryIO, Dict, Iterable, List, NamedTuple, Optional, Union
@@ -17,17 +17,18 @@ if TYPE_CHECKING:
 
 
 class Applied(NamedTuple):
-    """The result of applying a piece of a day file: the number of its messages, and of the bytes of an unfinished block at its end."""
+    """The result of applying a piece of a day file: the number of messages, and the number of bytes of an unfinished block at its
+    end."""
 
     messages: int
     unfinished: int
 
 
 class Lookups(Held):
-    """Look-ups in a market. Prices are in ten-thousandths of a dollar; a side is 'B' for bids or 'S' for asks. A locate may be
-    given by the name of its stock; a name that the directory lacks, or has at several locates, raises ValueError."""
+    """Look-ups in a market. Prices are in ten-thousandths of a dollar; a side is 'B' for bids or 'S' for asks. Instead of a locate,
+    the name of its stock may be given. A name that is not in the directory, or is there at several locates, raises ValueError."""
 
-    # The locates of each stock when the directory had this many entries. It only grows, and an entry keeps its stock.
+    # The locates of each stock when the directory had this many entries. The directory only grows, and an entry keeps its stock.
     _places: Dict[str, List[int]] = {}
     _entries = 0
 
@@ -37,15 +38,15 @@ class Lookups(Held):
         raise NotImplementedError
 
     def best(self, locate: Stock, side: str) -> Optional[Order]:
-        """The order that has priority at a locate and side, or None where there is none."""
+        """Returns the order that has priority at a locate and side, or None if there is none."""
         return self._order(found(library.best(self._own, self._locate(locate), is_buy(side))))
 
     def order(self, reference: int) -> Optional[Order]:
-        """The live order with a reference number, or None where there is none."""
+        """Returns the live order with this reference number, or None if there is none."""
         return self._order(found(library.order_by(self._own, _buffers.number(reference, 64, "a reference"))))
 
     def level(self, locate: Stock, side: str, price: int) -> Optional[Level]:
-        """The shares and the orders at a price, or None where no order has it."""
+        """Returns the shares and the number of orders at a price, or None if there are no orders."""
         locate = self._locate(locate)
         total = done(library.level(self._own, locate, is_buy(side), _buffers.number(price, 32, "a price")))
         if not total.orders:
@@ -53,41 +54,41 @@ class Lookups(Held):
         return Level(locate, self.stock(locate) or "", side, price, total.shares_high << 64 | total.shares_low, total.orders)
 
     def next_price(self, locate: Stock, side: str, after: Optional[int] = None) -> Optional[int]:
-        """The best price of a side, or the best that is worse than `after`; None where there is none."""
+        """Returns the best price of a side, or the best one that is worse than `after`; None if there is none."""
         last = _buffers.number(after or 0, 32, "a price")
         price = found(library.next_price(self._own, self._locate(locate), is_buy(side), after is not None, last))
         return None if price is None else price.price
 
     def order_count(self) -> int:
-        """The number of live orders."""
+        """Returns the number of live orders."""
         return done(library.order_count(self._own)).count
 
     def stock(self, locate: int) -> Optional[str]:
-        """The stock of a locate in the directory, without trailing spaces, or None."""
+        """Returns the stock of a locate in the directory, without trailing spaces, or None."""
         return _lists.stock(self._own, locate_of(locate))
 
     def stocks(self) -> Dict[int, str]:
-        """The directory: the stock of each locate, in ascending order of locate."""
+        """Returns the directory: the stock of each locate, in ascending order of locate."""
         return _lists.stocks(self._own)
 
     def locates(self) -> List[int]:
-        """The locates of the directory, in ascending order."""
+        """Returns the locates in the directory, in ascending order."""
         return _lists.locates(self._own)
 
     def orders(self, locate: Optional[Stock] = None) -> Orders:
-        """The live orders of all locates, or of one: bids before asks, each side by priority."""
+        """Returns the live orders of all locates, or of one: bids before asks, each side by priority."""
         return _lists.orders(self._own, None if locate is None else self._locate(locate))
 
     def levels(self, locate: Optional[Stock] = None) -> Levels:
-        """The price levels of all locates, or of one: bids before asks, the best price of each side first."""
+        """Returns the price levels of all locates, or of one: bids before asks, the best price of each side first."""
         return _lists.levels(self._own, None if locate is None else self._locate(locate))
 
     def snapshot(self, *, only: Optional[Iterable[Stock]] = None) -> Snapshot:
-        """The snapshot of the market, or of its part at some locates, with the number of the next message."""
+        """Returns the snapshot of the market, or of its part at some locates, with the number of the next message."""
         return Snapshot._canonical(_lists.snapshot(self._own, self.next_number, None if only is None else map(self._locate, only)))
 
     def _locate(self, stock: Stock) -> int:
-        """The locate that is given, or that of the stock with this name."""
+        """Returns the given locate, or that of the stock with this name."""
         if isinstance(stock, str) and (entries := library.locates(self._own, None, 0).len) != self._entries:
             self._places, self._entries = _lists.places(self.stocks()), entries
         return _lists.locate_in(self._places, stock)
@@ -101,7 +102,7 @@ class Lookups(Held):
 
 
 class Market(Lookups):
-    """A market: messages in, look-ups, tables and snapshots out. It numbers the messages that it takes, from 1 on.
+    """A market: messages in; look-ups, tables and snapshots out. It numbers the messages that it applies, starting with 1.
 
         with Market() as market:
             market.apply_blocks(blocks)
@@ -115,7 +116,7 @@ class Market(Lookups):
 
     @classmethod
     def load(cls, snapshot: Union[Snapshot, ReadableBuffer]) -> Market:
-        """The market of a snapshot, whose number is then that of the next message."""
+        """Makes the market of a snapshot. Its next message has the snapshot's number."""
         market = cls()
         market.close()
         market._next = load(market, snapshot.data if isinstance(snapshot, Snapshot) else snapshot)
@@ -126,7 +127,7 @@ class Market(Lookups):
         return self._next
 
     def apply(self, payload: ReadableBuffer) -> None:
-        """Applies the message of a payload. If it is refused, the market is as it was."""
+        """Applies the message of a payload. A refused message leaves the market unchanged."""
         with bytes_of(payload) as (at, size):
             answer = library.market_apply(self._own, at, size)
         if answer.code != _library.OK:
@@ -134,9 +135,9 @@ class Market(Lookups):
         self._next += 1
 
     def apply_blocks(self, blocks: ReadableBuffer) -> Applied:
-        """Applies the messages of a piece of a day file: blocks of two bytes with the length of a payload, and the payload. A
-        piece may end within a block: begin the next piece with the unfinished bytes. At a block of length 0 the piece ends. A
-        message that is refused leaves the market of those before it."""
+        """Applies the messages of a piece of a day file, which consists of blocks: two bytes with the length of a payload, and then
+        the payload. A piece may end within a block: begin the next piece with the unfinished bytes. A block of length 0 ends the
+        piece. If a message is refused, those before it stay applied."""
         with bytes_of(blocks) as (at, size):
             applied = library.market_apply_blocks(self._own, at, size)
         self._next += applied.count
@@ -145,9 +146,9 @@ class Market(Lookups):
         return Applied(applied.count, applied.detail if applied.code == _library.TRUNCATED else 0)
 
     def apply_file(self, file: BinaryIO, at_once: int = 1 << 20) -> int:
-        """Applies the messages of an open file, such as one of `gzip.open`, up to its end or to a block of length 0, and returns
-        how many there are. `at_once` is how many bytes are read at a time. A file that ends within a block is refused as
-        `Reason.TRUNCATED` after the messages before it."""
+        """Applies the messages of an open file, such as one of `gzip.open`, up to its end or to a block of length 0, and returns their
+        number. `at_once` is the number of bytes to read at a time. A file that ends within a block is refused as `Reason.TRUNCATED`;
+        the messages before that stay applied."""
         first, rest = self._next, b""
         while True:
             read = file.read(at_once)
@@ -159,5 +160,5 @@ class Market(Lookups):
                 return self._next - first
 
     def _numbered(self, code: int) -> Optional[int]:
-        """The number of the message that was refused, where a message was."""
+        """Returns the number of the refused message, if a message was refused."""
         return None if code == _library.WRONG_HANDLE else self._next

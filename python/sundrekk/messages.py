@@ -16,15 +16,15 @@ BEGINNING = struct.Struct(">HB")
 
 
 def fault_of(payload: ReadableBuffer) -> Optional[Refused]:
-    """The first fault of a payload that spells no message, or None."""
+    """Returns the first fault of a payload, or None if it is a valid message."""
     with bytes_of(payload) as (at, size):
         answer = library.decode_fault(at, size)
     return None if answer.code == OK else Refused(answer.code, answer.detail)
 
 
 def places(blocks: memoryview) -> Iterator[Tuple[int, int, int, int]]:
-    """The number, the type, the beginning and the end of each payload, up to the end of the blocks or to one of length 0. Raises `Refused` with
-    `Reason.TRUNCATED` at an unfinished one."""
+    """Yields the number, the type, the beginning and the end of each payload, up to the end of the blocks or to a block of length 0. Raises
+    `Refused` with `Reason.TRUNCATED` at an unfinished block."""
     unpack, at, number, size = BEGINNING.unpack_from, 0, 0, len(blocks)
     while at + 2 < size:
         length, kind = unpack(blocks, at)
@@ -39,12 +39,12 @@ def places(blocks: memoryview) -> Iterator[Tuple[int, int, int, int]]:
 
 
 def payloads(blocks: ReadableBuffer) -> Iterator[memoryview]:
-    """The payloads of blocks, up to their end or to one of length 0; none is copied. Raises `Refused` with `Reason.TRUNCATED` at an
-    unfinished one."""
+    """Yields the payloads of blocks without copying them, up to the end or to a block of length 0. Raises `Refused` with `Reason.TRUNCATED` at
+    an unfinished block."""
     view = memoryview(blocks).cast("B")
     return (view[at:end] for _, _, at, end in places(view))
 
 
 def is_ended(blocks: bytes) -> bool:
-    """Whether blocks, the last of them complete, include one of length 0."""
+    """Returns whether blocks, the last of them complete, include a block of length 0."""
     return sum(2 + len(payload) for payload in payloads(blocks)) < len(blocks)

@@ -1,4 +1,4 @@
-"""Day files that are compressed."""
+"""Compressed day files."""
 from __future__ import annotations
 
 import bz2
@@ -6,25 +6,26 @@ import gzip
 import lzma
 import subprocess
 
-# The first bytes of compressed files, and their formats.
+# The first bytes of compressed files, by format.
 READERS = {b"\x1f\x8b": gzip.decompress, b"BZh": bz2.decompress, b"\xfd7zXZ\0": lzma.decompress}
 ZSTD = b"\x28\xb5\x2f\xfd"
 
 
 def is_packed(beginning: bytes) -> bool:
-    """Whether a file that begins with these bytes is compressed. No day file does: its first block would be longer than any message."""
+    """Returns whether a file that begins with these bytes is compressed. A day file never begins with them, since its first block would
+    be longer than any message."""
     return beginning.startswith((*READERS, ZSTD))
 
 
 def unpacked(data: bytes) -> bytes:
-    """The contents of compressed bytes."""
+    """Returns the contents of compressed bytes."""
     if data.startswith(ZSTD):
         return _zstd(data)
     return next(read for beginning, read in READERS.items() if data.startswith(beginning))(data)
 
 
 def _zstd(data: bytes) -> bytes:
-    """By the module of Python 3.14, by the package zstandard, or by the command zstd, whichever is installed."""
+    """Unpacks with the module of Python 3.14, the package zstandard or the command zstd, whichever is installed."""
     try:
         from compression import zstd  # type: ignore[import-not-found]
 

@@ -1,4 +1,4 @@
-"""Iterates over the messages of a day: those of some types, of some stocks, of some time."""
+"""Iterates over the messages of a day, optionally only those of some types, stocks or times."""
 from __future__ import annotations
 
 import struct
@@ -15,17 +15,18 @@ from .times import Time, first_at, nanoseconds
 
 # The locate of a message, and the two parts of its timestamp.
 LOCATE, TIME = struct.Struct(">H"), struct.Struct(">HI")
-# The length of a block, and where the payload of a row is in the blocks.
+# The length of a block, and the offset in the blocks of a row's payload.
 LENGTH, OFFSET = struct.Struct(">H"), struct.Struct("=Q")
 DIRECTORY = ord("R")
-# Those of TotalView-ITCH 5.0, and that of End of Snapshot.
+# The types of TotalView-ITCH 5.0, and End of Snapshot.
 TYPES = {chr(kind) for kind in DECODERS} | set("VWKJINOG")
-# Every byte that a type may be, first those of which a day has most messages.
+# Every possible type byte, beginning with the most frequent ones of a day.
 ALL = bytes(dict.fromkeys([*b"ADUEXFCPQ", *range(256)]))
 
 
 class Range(NamedTuple):
-    """From the first message at `since` or later to the one before the first at `until` or later, in nanoseconds since midnight."""
+    """The messages from the first one at `since` or later up to the one before the first one at `until` or later, in nanoseconds since
+    midnight."""
 
     since: int
     until: Optional[int]
@@ -36,7 +37,7 @@ class Range(NamedTuple):
 
 
 class Span(NamedTuple):
-    """Where some blocks begin and end, the number of the last message before them, and the locates that are wanted there."""
+    """The beginning and the end of some blocks, the number of the last message before them, and the selected locates."""
 
     begin: int
     end: int
@@ -45,7 +46,7 @@ class Span(NamedTuple):
 
 
 class Stocks:
-    """Which locates have one of these stocks, by the last Stock Directory message at each."""
+    """The locates that have one of these stocks, by the last Stock Directory message at each."""
 
     def __init__(self, wanted: Union[Stock, Iterable[Stock]]) -> None:
         listed = [wanted] if isinstance(wanted, (str, int)) else list(wanted)
@@ -54,7 +55,7 @@ class Stocks:
         self._named: Set[int] = set()
 
     def pass_entry(self, blocks: memoryview, at: int) -> None:
-        """Passes the Stock Directory message whose payload begins here."""
+        """Takes note of the Stock Directory message whose payload begins here."""
         locate, = LOCATE.unpack_from(blocks, at + 1)
         has_name = bytes(blocks[at + HEADER_SIZE:at + HEADER_SIZE + 8]) in self._names
         (self._named.add if has_name else self._named.discard)(locate)
@@ -63,7 +64,7 @@ class Stocks:
         return locate in self._named or locate in self._given
 
     def spans(self, blocks: memoryview) -> Iterator[Span]:
-        """The blocks cut where the locates change that have these stocks."""
+        """Splits the blocks where the set of locates that have these stocks changes."""
         begin, before, locates = 0, 0, set(self._given)
         for at, number in _entries(blocks) if self._names else ():
             self.pass_entry(blocks, at)
@@ -74,21 +75,21 @@ class Stocks:
 
 
 def _entries(blocks: memoryview) -> Iterator[Tuple[int, int]]:
-    """Where the payload of each Stock Directory message begins, and its number."""
+    """Yields the offset of the payload and the number of each Stock Directory message."""
     for batch in _rows.batches(_rows.everywhere(blocks, b"R"), is_strict=False):
         first = len(blocks) - len(batch.blocks)
         yield from ((first + at, number) for at, number in zip(batch.numbers(1), batch.numbers(0)))
 
 
 def types_of(letters: Iterable[str]) -> bytes:
-    """The bytes of types of messages."""
+    """The bytes of message types."""
     if unknown := sorted(set(letters) - TYPES):
         raise ValueError(f"no message has the type {', '.join(map(repr, unknown))}")
     return "".join(sorted(set(letters))).encode()
 
 
 def is_late(blocks: memoryview, kind: int, at: int, end: int, time: Optional[int]) -> bool:
-    """Whether the message of a payload has a timestamp that is this time or later."""
+    """Returns whether the message of a payload has a timestamp that is this time or later."""
     if time is None or kind not in DECODERS or end - at < HEADER_SIZE:
         return False
     high, low = TIME.unpack_from(blocks, at + 5)
@@ -96,7 +97,7 @@ def is_late(blocks: memoryview, kind: int, at: int, end: int, time: Optional[int
 
 
 def pieces(blocks: memoryview, types: bytes, stocks: Optional[Stocks], part: Range) -> Iterator[Piece]:
-    """The blocks of a part, with those of its messages that are wanted."""
+    """Yields the blocks of a part, each piece with the types and the locates of its selected messages."""
     begin = first_at(blocks, part.since) if part.since else 0
     blocks = blocks if part.until is None else blocks[:first_at(blocks, part.until)]
     before = _rows.count(blocks[:begin]) if begin != 0 else 0
@@ -113,13 +114,13 @@ def pieces(blocks: memoryview, types: bytes, stocks: Optional[Stocks], part: Ran
 
 
 def messages(blocks: memoryview, types: Optional[bytes], stocks: Optional[Stocks], part: Range) -> Iterator[Message]:
-    """The messages of a part that have one of these types and one of these stocks."""
+    """Yields the messages of a part that have one of these types and one of these stocks."""
     wanted = pieces(blocks, ALL if types is None else types, stocks, part)
     return chain.from_iterable(_decoded(batch, piece.types) for piece in wanted for batch in _rows.batches(piece))
 
 
 def _decoded(batch: Batch, types: bytes) -> Iterator[Message]:
-    """The messages of rows, which are of these types."""
+    """Yields the messages of rows, which have these types."""
     decode, rows, places = _decoders(batch), batch.rows, range(PAYLOAD, PAYLOAD + batch.count * SIZE, SIZE)
     if len(types) == 1:
         return map(decode[types[0]], repeat(rows), places, batch.numbers(0), batch.numbers(2))
@@ -127,7 +128,7 @@ def _decoded(batch: Batch, types: bytes) -> Iterator[Message]:
 
 
 def _decoders(batch: Batch) -> List[Callable[[memoryview, int, int, int], Message]]:
-    """What decodes a row of each type, given the rows, where its payload begins there, its number, and its timestamp."""
+    """Returns a decoder for rows of each type, which takes the rows, the offset of the payload there, its number and its timestamp."""
 
     def other(rows: memoryview, at: int, number: int, ns: int) -> Undecoded:
         begin, = OFFSET.unpack_from(rows, at - PAYLOAD + OFFSET.size)

@@ -6,13 +6,13 @@ from typing import Optional
 
 
 class Reason(enum.IntEnum):
-    """The reasons for which a call is refused, with their codes in itchsnap.h, where each is explained.
+    """The reasons for which a call is refused, with the codes of itchsnap.h, which explains them.
 
     EMPTY to BAD_NUMBER: the payload is not a valid message, or the block is not a valid packet.
     UNKNOWN_LOCATE to UNEXPECTED_END: an order rule refuses a message.
     TRUNCATED to SHORT: a file is refused.
     OUT_OF_MEMORY to NO_NUMBER: a call is refused, such as one on a market that is closed (WRONG_HANDLE).
-    FULL to BAD_SNAPSHOT: a joiner does not take a message.
+    FULL to BAD_SNAPSHOT: a joiner refuses a message.
     UNKNOWN_TYPE to BROKEN_SESSION: a session breaks the protocol.
     """
 
@@ -62,7 +62,7 @@ class Reason(enum.IntEnum):
     BROKEN_SESSION = 101
 
 
-# The text of a reason, if it is not that of its name. `detail` is as in the header.
+# The text of a reason, if it is not its name. `detail` is as in the header.
 WORDS = {
     Reason.EMPTY: "empty message",
     Reason.WRONG_LENGTH: "wrong length: want {detail}",
@@ -85,10 +85,10 @@ class Refused(ValueError):
     only the expected length.
 
     reason: why. A reason of order rules or of a payload is the first that applies.
-    detail: as itchsnap.h specifies for the reason, such as the shares that remain; otherwise 0.
-    number: that of the message that is refused, unfinished or missing, counted from 1; None where no numbered message is.
-    cause: for a joiner that has halted or has a bad snapshot, why that message is refused.
-    file: where two day files are compared, the one that is refused, 1 or 2.
+    detail: as itchsnap.h specifies for the reason, such as the number of shares that remain; otherwise 0.
+    number: the number, counted from 1, of the message that is refused, unfinished or missing; None if no numbered message is.
+    cause: if a joiner has halted or has a bad snapshot, the reason why that message is refused.
+    file: if two day files are compared, the refused one, 1 or 2.
     """
 
     def __init__(self, reason: int, detail: int = 0, number: Optional[int] = None, cause: Optional[int] = None,

@@ -1,6 +1,6 @@
-"""The two ends of a SoupBinTCP session, without sockets: packets and times go in, and their meanings come out.
+"""The two ends of a SoupBinTCP session, without sockets: pass in packets and times; each call returns what they mean.
 
-Packets go in and out without the two bytes of their length. Times are in milliseconds since a point of the caller's choice.
+Packets are passed and returned without the two bytes of their length. Times are in milliseconds from any fixed point.
 """
 from __future__ import annotations
 
@@ -18,15 +18,15 @@ if TYPE_CHECKING:
 
 
 class Event(enum.IntEnum):
-    """The meaning of a packet or a time for a session.
+    """What a packet or a time means for a session.
 
     NOTHING: nothing.
-    ACCEPTED: the login is accepted, and messages come from `number` on.
+    ACCEPTED: the login is accepted. Messages follow, starting with `number`.
     REJECTED: the login is rejected with `code`. The session is closed.
     DATA: a message with this `number`: the bytes of the packet after its first.
     ENDED: the server has ended the session, which is closed.
     LOGGED_OUT: the client has logged out. The session is closed.
-    HEARTBEAT: a heartbeat is to be sent, and counts as sent.
+    HEARTBEAT: a heartbeat must be sent. It counts as sent.
     LOST: the other side was silent for 15,000 ms. The session is closed.
     """
 
@@ -41,7 +41,8 @@ class Event(enum.IntEnum):
 
 
 class Received(NamedTuple):
-    """The meaning of a packet. `number` is that of a message, counted from 1; `code` is 'A' or 'S', or another that a server sent."""
+    """The meaning of a packet. `number` is that of a message, counted from 1; `code` is 'A', 'S', or another code that a server
+    sent."""
 
     event: Event
     number: Optional[int] = None
@@ -54,8 +55,8 @@ class Session(Held):
     _packet: Any
 
     def receive(self, packet: ReadableBuffer, now_ms: int) -> Received:
-        """The meaning of a packet of the other side. Raises `Refused` if it is not a packet, which leaves the session as it was,
-        or if it breaks the protocol, which closes it."""
+        """Returns the meaning of a packet from the other side. Raises `Refused` if it is not a packet, which leaves the session
+        unchanged, or if it breaks the protocol, which closes the session."""
         with bytes_of(packet) as (at, size):
             act = self._packet(self._own, at, size, _moment(now_ms))
         if act.code not in Event.__members__.values():
@@ -65,7 +66,7 @@ class Session(Held):
         return Received(event, act.number if numbered else None, chr(act.detail) if event is Event.REJECTED else None)
 
     def tick(self, now_ms: int) -> Event:
-        """What to do at this time without a packet: `NOTHING`, `HEARTBEAT` or `LOST`."""
+        """Returns what to do at this time if no packet has arrived: `NOTHING`, `HEARTBEAT` or `LOST`."""
         answer = library.session_tick(self._own, _moment(now_ms))
         if answer.code not in Event.__members__.values():
             raise Refused(answer.code)
@@ -77,7 +78,7 @@ class Session(Held):
 
 
 class ClientSession(Session):
-    """A client that requests the messages from number `start` on, counted from 1; 0 requests all.
+    """A client that requests messages from number `start` on, counted from 1; 0 requests all.
 
     username: up to 6 printable characters; password, session: up to 10. A blank session requests the current one.
     """
@@ -92,7 +93,7 @@ class ClientSession(Session):
         done(library.client_new(self._own, login, number(start, 64, "a number"), _moment(now_ms)))
 
     def login(self) -> bytes:
-        """The packet to send first."""
+        """Returns the packet to send first."""
         return bytes(done(library.client_login(self._own)).bytes)
 
 
@@ -112,17 +113,17 @@ class ServerSession(Session):
         done(library.server_new(self._own, login, number(total, 64, "a number of messages"), _moment(now_ms)))
 
     def acceptance(self, start: int) -> bytes:
-        """The packet to send once a login is accepted from this number on."""
+        """Returns the packet to send when a login is accepted, with messages from this number on."""
         return bytes(done(library.server_accepted(self._own, number(start, 64, "a number"))).bytes)
 
     @staticmethod
     def data(payload: ReadableBuffer) -> bytes:
-        """The packet of a message."""
+        """Returns the packet that contains a message."""
         return b"S" + payload
 
     @staticmethod
     def rejection(code: str) -> bytes:
-        """The packet to send once a login is rejected with this code."""
+        """Returns the packet to send when a login is rejected with this code."""
         return b"J" + code.encode()
 
 

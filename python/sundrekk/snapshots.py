@@ -16,16 +16,15 @@ from .tables import Levels, Orders, Stock
 if TYPE_CHECKING:
     from _typeshed import ReadableBuffer
 
-# The block of End of Snapshot, and the digits at its end.
+# The block of End of Snapshot, and its digits at the end.
 END_BLOCK, END_DIGITS = 23, 20
 
 
 class Snapshot:
-    """The market at one message of a feed, as the canonical bytes that rebuild it.
+    """The market at one message of a feed, as the canonical bytes from which it can be rebuilt.
 
-    Two snapshots are equal if and only if their markets are the same and they were taken at the same message number.
-    `Snapshot(data)` reads a snapshot file from any buffer, whose messages may be in any order that follows the order rules, and
-    puts them into canonical order.
+    Two snapshots are equal if and only if their markets are the same and they were taken at the same message number. `Snapshot(data)` reads a
+    snapshot file from any buffer and puts it into canonical order; its messages may be in any order that follows the order rules.
     """
 
     def __init__(self, data: ReadableBuffer) -> None:
@@ -35,7 +34,7 @@ class Snapshot:
 
     @classmethod
     def _canonical(cls, data: bytes) -> Snapshot:
-        """The snapshot of bytes that the library wrote."""
+        """Makes a snapshot from bytes that the library wrote."""
         made = cls.__new__(cls)
         made._data = data
         return made
@@ -46,7 +45,7 @@ class Snapshot:
         return cls(Path(path).read_bytes())
 
     def write(self, path: Union[str, os.PathLike[str]]) -> None:
-        """Writes a snapshot file: first `PATH.part`, which is renamed when it is complete, and removed if that fails."""
+        """Writes a snapshot file. Writes to `PATH.part`, which is renamed when it is complete and removed if writing fails."""
         part = Path(f"{os.fspath(path)}.part")
         try:
             part.write_bytes(self._data)
@@ -57,7 +56,7 @@ class Snapshot:
 
     @property
     def data(self) -> bytes:
-        """The canonical bytes, End of Snapshot included."""
+        """The canonical bytes, including End of Snapshot."""
         return self._data
 
     @property
@@ -66,13 +65,14 @@ class Snapshot:
         return int(self._data[-END_DIGITS:])
 
     def same_market(self, other: Snapshot) -> bool:
-        """Whether two snapshots have the same market, whichever number each has."""
+        """Returns whether two snapshots have the same market, whatever their numbers."""
         if not isinstance(other, Snapshot):
             raise TypeError(f"a Snapshot is compared with a Snapshot, and not with {other!r}")
         return self._data[:-END_BLOCK] == other._data[:-END_BLOCK]
 
     def only(self, locates: Iterable[Stock]) -> Snapshot:
-        """The snapshot cut down to these locates, or stocks by their names. A name that no locate has, or several have, raises ValueError."""
+        """Returns the snapshot reduced to these locates, or stocks by name. A name that no locate or several locates have raises
+        ValueError."""
         with Held() as held:
             next_number = load(held, self._data)
             directory = _lists.places(_lists.stocks(held._own))

@@ -1,7 +1,7 @@
 """Orders and price levels as rows, as numpy arrays, and as frames.
 
-A table holds what the library wrote, and makes rows of it one by one. numpy, pandas and pyarrow get complete columns. Prices are
-integers of a ten-thousandth of a dollar everywhere, so that equal prices are equal: 1500500 is 150.0500.
+A table holds the data that the library wrote and makes rows one by one, as they are used. numpy, pandas and pyarrow get complete columns.
+Prices are always integers in ten-thousandths of a dollar, so that equal prices compare equal: 1500500 is 150.0500.
 """
 from __future__ import annotations
 
@@ -17,14 +17,14 @@ if TYPE_CHECKING:
     import pyarrow
 
 Row = TypeVar("Row")
-# A stock by its name, or an object that has it by its locate.
+# A stock by its name, or an object that maps locates to stocks.
 Stock = Union[str, int]
 SIDES = ("B", "S")
 
 
 class Order(NamedTuple):
-    """A live order. `side` is 'B' for a bid and 'S' for an ask; `price` is in ten-thousandths of a dollar; `shares` are those that
-    remain; `mpid` is the market participant it came with, of four characters, or None."""
+    """A live order. `side` is 'B' for a bid and 'S' for an ask. `price` is in ten-thousandths of a dollar. `shares` are the remaining
+    shares. `mpid` is the market participant with whom the order came, of four characters, or None."""
 
     locate: int
     stock: str
@@ -36,7 +36,7 @@ class Order(NamedTuple):
 
 
 class Level(NamedTuple):
-    """A price level: the shares and the number of the orders at a price of one side. `price` is in ten-thousandths of a dollar."""
+    """A price level: the total shares and the number of orders at a price of one side. `price` is in ten-thousandths of a dollar."""
 
     locate: int
     stock: str
@@ -47,7 +47,7 @@ class Level(NamedTuple):
 
 
 class Part(NamedTuple):
-    """Where the rows of a locate end, or of a side of it. They begin where those of the part before end."""
+    """Where the rows of a locate, or of one side of it, end. They begin where those of the previous part end."""
 
     locate: int
     side: str
@@ -57,8 +57,8 @@ class Part(NamedTuple):
 class Table(Sequence[Row]):
     """Rows in ascending order of locate: bids before asks, the best price first.
 
-    It is a sequence of named tuples, and `to_numpy`, `to_pandas` and `to_arrow` have the same rows. `array` is what the library wrote,
-    as a ctypes array of structures with named fields, which is a buffer too.
+    It is a sequence of named tuples; `to_numpy`, `to_pandas` and `to_arrow` return the same rows. `array` is the data that the library
+    wrote, a ctypes array of structures with named fields, and also a buffer.
     """
 
     _layout: struct.Struct
@@ -87,22 +87,22 @@ class Table(Sequence[Row]):
         return f"<{len(self)} {type(self).__name__.lower()}>"
 
     def at(self, locate: Stock) -> List[Row]:
-        """The rows of one locate, or of the locates that have the stock of this name."""
+        """Returns the rows of one locate, or of the locates whose stock has this name."""
         if isinstance(locate, str):
             return [row for place, stock in self._stocks.items() if stock == locate for row in self.at(place)]
         first, last = bisect.bisect_left(self._locates, locate), bisect.bisect_right(self._locates, locate)
         return [row for part in range(first, last) for row in self._rows(part)]
 
     def to_numpy(self) -> numpy.ndarray:
-        """The rows as a structured array."""
+        """Returns the rows as a structured array."""
         raise NotImplementedError
 
     def to_pandas(self) -> pandas.DataFrame:
-        """The rows as a frame."""
+        """Returns the rows as a frame."""
         raise NotImplementedError
 
     def to_arrow(self) -> pyarrow.Table:
-        """The rows as an Arrow table, with the columns and types of the frame. Needs pandas and pyarrow."""
+        """Returns the rows as an Arrow table, with the columns and types of the frame. Needs pandas and pyarrow."""
         import pyarrow
 
         return pyarrow.Table.from_pandas(self.to_pandas(), preserve_index=False)
@@ -116,7 +116,7 @@ class Table(Sequence[Row]):
         raise NotImplementedError
 
     def _frame(self, columns: Mapping[str, Any], buys: numpy.ndarray) -> pandas.DataFrame:
-        """A frame of these columns, after those of locate, stock and side."""
+        """Returns a frame of locate, stock and side, followed by these columns."""
         import numpy
         import pandas
 
@@ -131,7 +131,7 @@ class Table(Sequence[Row]):
 
 
 class Orders(Table[Order]):
-    """Live orders, each side of a locate in its priority.
+    """Live orders, each side of a locate in order of priority.
 
     array: structures with the fields reference, price, shares, locate, buy, attributed, mpid and code.
     """
@@ -139,15 +139,14 @@ class Orders(Table[Order]):
     _layout = struct.Struct("=QIIH??4s4x4x")
 
     def to_numpy(self) -> numpy.ndarray:
-        """A structured array over the same memory, which must not be written to: `reference`, `price` in ten-thousandths of a
-        dollar, `shares`, `locate`, `buy`, `attributed`, and `mpid`, which is of zeros where an order is not attributed. Needs
-        numpy."""
+        """Returns a read-only structured array over the same memory: `reference`, `price` in ten-thousandths of a dollar, `shares`,
+        `locate`, `buy`, `attributed`, and `mpid`, which consists of zeros if the order is not attributed. Needs numpy."""
         return _over(self.array, {"reference": "u8", "price": "u4", "shares": "u4", "locate": "u2", "buy": "?", "attributed": "?",
                                   "mpid": "S4"})
 
     def to_pandas(self) -> pandas.DataFrame:
-        """A frame with the columns locate, stock, side, price in ten-thousandths of a dollar, shares, reference and mpid. Stocks, sides and
-        participants are categories; the participant is missing where an order is not attributed. Needs numpy and pandas."""
+        """Returns a frame with the columns locate, stock, side, price in ten-thousandths of a dollar, shares, reference and mpid. Stocks,
+        sides and participants are categories; the participant is missing if the order is not attributed. Needs numpy and pandas."""
         import numpy
         import pandas
 
@@ -168,14 +167,14 @@ class Orders(Table[Order]):
 class Levels(Table[Level]):
     """Price levels, the best price of each side of a locate first.
 
-    array: structures with the fields shares_low, shares_high, orders and price. They have no locate and no side.
+    array: structures with the fields shares_low, shares_high, orders and price. They contain neither locate nor side.
     """
 
     _layout = struct.Struct("=QQQI4x")
 
     def to_numpy(self) -> numpy.ndarray:
-        """A structured array: `locate`, `buy`, `price` in ten-thousandths of a dollar, `shares` and `orders`. Raises OverflowError where
-        the shares of a level do not fit into 64 bits. Needs numpy."""
+        """Returns a structured array: `locate`, `buy`, `price` in ten-thousandths of a dollar, `shares` and `orders`. Raises OverflowError
+        if the shares of a level do not fit into 64 bits. Needs numpy."""
         import numpy
 
         raw = _over(self.array, {"shares_low": "u8", "shares_high": "u8", "orders": "u8", "price": "u4"})
@@ -189,8 +188,8 @@ class Levels(Table[Level]):
         return rows
 
     def to_pandas(self) -> pandas.DataFrame:
-        """A frame with the columns locate, stock, side, price in ten-thousandths of a dollar, shares and orders. Stocks and sides are
-        categories. Needs numpy and pandas."""
+        """Returns a frame with the columns locate, stock, side, price in ten-thousandths of a dollar, shares and orders. Stocks and sides
+        are categories. Needs numpy and pandas."""
         rows = self.to_numpy()
         return self._frame({name: rows[name] for name in ("locate", "price", "shares", "orders")}, rows["buy"])
 
@@ -200,7 +199,7 @@ class Levels(Table[Level]):
 
 
 def _over(array: Any, fields: Dict[str, str]) -> numpy.ndarray:
-    """A structured array over the memory of a ctypes array, with these of its fields, to be read."""
+    """Returns a read-only structured array over the memory of a ctypes array, with these of its fields."""
     import numpy
 
     kind = array._type_

@@ -1,4 +1,4 @@
-"""Times of the day, and the first message of a day file at one."""
+"""Times of the day, and the first message of a day file at or after a time."""
 from __future__ import annotations
 
 import datetime
@@ -16,8 +16,8 @@ TIME = re.compile(r"([01]?\d|2[0-3]):([0-5]\d)(?::([0-5]\d)(?:\.(\d{1,9}))?)?", 
 
 
 def nanoseconds(time: Time) -> int:
-    """The nanoseconds since midnight of a time: that number itself, a text such as '10:30', '9:30', '10:30:00' or '10:30:00.000000001', or a
-    `datetime.time`."""
+    """Returns the nanoseconds since midnight of a time: that number itself, a text such as '10:30', '9:30', '10:30:00' or
+    '10:30:00.000000001', or a `datetime.time`."""
     if isinstance(time, datetime.time):
         return ((time.hour * 60 + time.minute) * 60 + time.second) * 10**9 + time.microsecond * 1000
     if not isinstance(time, str):
@@ -30,7 +30,7 @@ def nanoseconds(time: Time) -> int:
 
 
 def distance(every: Union[str, int, datetime.timedelta]) -> int:
-    """The nanoseconds of a distance of time: that number itself, a text such as '30s', '1m' or '1h', or a `datetime.timedelta`."""
+    """Returns the nanoseconds of an interval: that number itself, a text such as '30s', '1m' or '1h', or a `datetime.timedelta`."""
     if isinstance(every, datetime.timedelta):
         every = (every.days * 86400 + every.seconds) * 10**9 + every.microseconds * 1000
     if isinstance(every, str):
@@ -44,7 +44,7 @@ def distance(every: Union[str, int, datetime.timedelta]) -> int:
 
 
 def first_at(blocks: memoryview, time: int, at: int = 0) -> Optional[int]:
-    """Where the block of the first message begins whose timestamp is `time` or later, or None; `at` is where to begin."""
+    """Returns the offset of the first block, from `at` on, whose message has a timestamp of `time` or later, or None."""
     with bytes_of(blocks[at:]) as (address, size):
         before = found(library.first_at(address, size, time))
     return None if before is None else at + before.count

@@ -1,4 +1,4 @@
-//! Finds libitchsnap: in the folder that `ITCHSNAP_LIB_DIR` names, in `release/` of the checkout, or where pkg-config says.
+//! Finds libitchsnap: in the directory that `ITCHSNAP_LIB_DIR` names, in `release/` of the checkout, or through pkg-config.
 
 use std::env;
 use std::path::Path;
@@ -21,7 +21,7 @@ fn main() {
     }
 }
 
-/// Links the static library of a folder, or else its shared one. Returns whether it has one.
+/// Links the static library in a directory, or else the shared one. Returns whether there is one.
 fn link_from(folder: &Path) -> bool {
     for (file, kind) in [("libitchsnap.a", "static"), ("libitchsnap.so", "dylib")] {
         let library = folder.join(file);
@@ -35,7 +35,7 @@ fn link_from(folder: &Path) -> bool {
     false
 }
 
-/// Links the installed library. Returns whether pkg-config knows one.
+/// Links the installed library. Returns whether pkg-config knows it.
 fn link_by_pkg_config() -> bool {
     let program = env::var_os("PKG_CONFIG").unwrap_or_else(|| "pkg-config".into());
     let Ok(said) = Command::new(program).args(["--libs", "itchsnap"]).output() else {

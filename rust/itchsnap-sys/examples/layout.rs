@@ -1,4 +1,4 @@
-//! Prints the size and the alignment of each struct, and the offset of each field, for comparison with those of the header.
+//! Prints the size and the alignment of each struct, and the offset of each field, to compare them with the header's.
 
 use itchsnap_sys::*;
 use std::mem::{align_of, offset_of, size_of};

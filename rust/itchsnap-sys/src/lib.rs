@@ -1,19 +1,21 @@
-//! The functions of `libitchsnap`, with the declarations of `itchsnap.h`: markets, snapshots, joiners and sessions for Nasdaq
-//! TotalView-ITCH 5.0, proved. The crate `itchsnap` has safe types over them.
+//! The functions of `libitchsnap`, declared as in `itchsnap.h`: markets, snapshots, joiners and
+//! sessions for Nasdaq TotalView-ITCH 5.0, proved. The crate `itchsnap` provides safe types on top
+//! of them.
 //!
-//! What the caller promises is what the header asks for:
+//! The caller must ensure what the header requires:
 //!
-//! - A pointer with a length is readable, or where it is `*mut` writable, for that many elements. It is not null, even for length 0.
+//! - A pointer with a length is readable, or writable if it is `*mut`, for that many elements. It
+//!   is not null, even for length 0.
 //! - Memory that is passed as `*mut` does not overlap with another argument of the same call.
-//! - A handle is [`ITCHSNAP_NONE`] at first. Only these functions write it. It may be moved, but never copied: to free two copies is
-//!   the one misuse of handles that is left.
+//! - A handle is initialised to [`ITCHSNAP_NONE`]. Only these functions write it. It may be moved,
+//!   but never copied: freeing two copies is the only misuse of a handle that is not detected.
 //! - A handle stays on the thread that filled it.
 //!
-//! Calls may be made in any order. A call on a handle that is empty or freed, or holds something else, returns
-//! [`ITCHSNAP_WRONG_HANDLE`] and changes nothing.
+//! Calls may be made in any order. A call on a handle that is empty or freed, or holds something
+//! else, returns [`ITCHSNAP_WRONG_HANDLE`] and changes nothing.
 //!
-//! The build finds the library in the folder that the variable `ITCHSNAP_LIB_DIR` names, in `release/` of the checkout, or where
-//! pkg-config says.
+//! The build looks for the library in the directory that the variable `ITCHSNAP_LIB_DIR` names, in
+//! `release/` of the checkout, and through pkg-config.
 #![no_std]
 #![allow(non_camel_case_types)]
 
@@ -25,24 +27,24 @@ pub const ITCHSNAP_VERSION: u32 = 1;
 /// An empty handle.
 pub const ITCHSNAP_NONE: itchsnap_handle = itchsnap_handle { at: core::ptr::null_mut(), live: false };
 
-/// The value of `after` and of `until` with which [`itchsnap_snap`] takes all messages.
+/// The value of `after` and `until` that means all messages to [`itchsnap_snap`].
 pub const ITCHSNAP_ALL: u64 = u64::MAX;
 
-/// As many bytes as the text of a code may have.
+/// The maximum length of the text of a code, in bytes.
 pub const ITCHSNAP_REASON_LEN: usize = 32;
 
 pub const ITCHSNAP_OK: u32 = 0;
 
-// A payload spells no message, or a block no packet.
+// The payload is not a valid message, or the block is not a valid packet.
 /// It has no bytes.
 pub const ITCHSNAP_EMPTY: u32 = 1;
-/// `detail`: the length that its type has.
+/// `detail`: the length that its type requires.
 pub const ITCHSNAP_WRONG_LENGTH: u32 = 2;
 /// `detail`: the offset of the byte that is not printable.
 pub const ITCHSNAP_BAD_TEXT: u32 = 3;
 /// `detail`: the offset of the byte that is neither B nor S.
 pub const ITCHSNAP_BAD_SIDE: u32 = 4;
-/// A field has no number; detail: its offset in a packet.
+/// A field is not a number; detail: its offset in a packet.
 pub const ITCHSNAP_BAD_NUMBER: u32 = 5;
 
 // An order rule refuses a message.
@@ -58,7 +60,7 @@ pub const ITCHSNAP_TOO_MANY_SHARES: u32 = 22;
 pub const ITCHSNAP_UNEXPECTED_END: u32 = 23;
 
 // A file is refused.
-/// An unfinished block; detail: the bytes of it that are there.
+/// An unfinished block; detail: how many of its bytes are present.
 pub const ITCHSNAP_TRUNCATED: u32 = 32;
 pub const ITCHSNAP_TOO_MANY_MESSAGES: u32 = 33;
 /// A read failed: proved never to happen, since all files are in memory.
@@ -67,40 +69,41 @@ pub const ITCHSNAP_UNREAD: u32 = 34;
 pub const ITCHSNAP_NO_END: u32 = 35;
 /// A message after End of Snapshot.
 pub const ITCHSNAP_AFTER_END: u32 = 36;
-/// Fewer messages than are wanted.
+/// Fewer messages than requested.
 pub const ITCHSNAP_SHORT: u32 = 37;
 
 // A call is refused.
 pub const ITCHSNAP_OUT_OF_MEMORY: u32 = 48;
-/// The caller's memory is too short, and is as it was; len: what is needed. Rows: it is full.
+/// The caller's memory is too short, and unchanged; len: the length needed. Rows: the memory is
+/// full.
 pub const ITCHSNAP_NO_ROOM: u32 = 49;
-/// The handle does not hold what the call is about.
+/// The handle does not hold the kind of object that the call needs.
 pub const ITCHSNAP_WRONG_HANDLE: u32 = 50;
 /// The handle that a call would fill already holds something.
 pub const ITCHSNAP_IN_USE: u32 = 51;
 /// No such order, price, stock or message.
 pub const ITCHSNAP_ABSENT: u32 = 52;
-/// The joiner has not joined.
+/// The joiner has not joined yet.
 pub const ITCHSNAP_NOT_JOINED: u32 = 53;
 /// A sequence number that is not from 1 to 10^19.
 pub const ITCHSNAP_NO_NUMBER: u32 = 54;
 
 // What a joiner did.
-/// The message waits.
+/// The message was kept, and waits.
 pub const ITCHSNAP_KEPT: u32 = 64;
-/// It was applied, and then what waited, up to the message before number.
+/// It was applied, and then the waiting messages up to the one before number.
 pub const ITCHSNAP_APPLIED: u32 = 65;
 /// The market already contains it.
 pub const ITCHSNAP_OLD: u32 = 66;
-/// A message of the snapshot was taken, and more follow.
+/// It was a message of the snapshot, and more follow.
 pub const ITCHSNAP_MORE: u32 = 67;
-/// The snapshot has ended, and what waited was applied, up to the message before number.
+/// It ended the snapshot, and the waiting messages up to the one before number were applied.
 pub const ITCHSNAP_JOINED: u32 = 68;
 
-// What a joiner did not take.
-/// No more messages may wait; number: how many do.
+// A joiner refuses a message.
+/// No more messages may wait; number: how many are waiting.
 pub const ITCHSNAP_FULL: u32 = 72;
-/// Other bytes wait under this number.
+/// A message with this number and other bytes is waiting.
 pub const ITCHSNAP_CONFLICT: u32 = 73;
 /// The number is 0 or above 10^19 - 1.
 pub const ITCHSNAP_BAD_MESSAGE_NUMBER: u32 = 74;
@@ -108,13 +111,13 @@ pub const ITCHSNAP_BAD_MESSAGE_NUMBER: u32 = 74;
 pub const ITCHSNAP_HALTED: u32 = 75;
 /// A message of a snapshot after joining.
 pub const ITCHSNAP_ALREADY_JOINED: u32 = 76;
-/// Memory was refused after the message was taken: itchsnap_joiner_resume continues.
+/// Out of memory after the message was taken: continue with itchsnap_joiner_resume.
 pub const ITCHSNAP_TAKEN_NO_MEMORY: u32 = 77;
 /// The snapshot's message at place number is refused: cause and detail say why.
 pub const ITCHSNAP_BAD_SNAPSHOT: u32 = 78;
 
-// What a session does.
-/// The login is accepted, and messages come from number on.
+// What happened in a session.
+/// The login is accepted, and messages follow, starting with number.
 pub const ITCHSNAP_ACCEPTED: u32 = 80;
 /// The login is rejected; detail: the code, A or S. The session is closed.
 pub const ITCHSNAP_REJECTED: u32 = 81;
@@ -124,7 +127,7 @@ pub const ITCHSNAP_DATA: u32 = 82;
 pub const ITCHSNAP_ENDED: u32 = 83;
 /// The client has logged out. The session is closed.
 pub const ITCHSNAP_LOGGED_OUT: u32 = 84;
-/// A heartbeat is to be sent.
+/// A heartbeat must be sent.
 pub const ITCHSNAP_HEARTBEAT: u32 = 85;
 /// The other side was silent for too long. The session is closed.
 pub const ITCHSNAP_LOST: u32 = 86;
@@ -158,9 +161,9 @@ pub struct itchsnap_written {
     pub code: u32,
 }
 
-/// The fields of a message, by the names of the standard. Those that its type does not have are 0.
-/// Prices have four implied decimals. Texts are padded with spaces. A code field has the byte of
-/// the message.
+/// The fields of a message, named as in the standard. Fields that its type does not have are 0.
+/// Prices have four implied decimals. Texts are padded with spaces. A code field contains the byte
+/// of the message.
 #[repr(C)]
 #[derive(Clone, Copy, Debug, Default, PartialEq, Eq)]
 pub struct itchsnap_message {
@@ -219,7 +222,7 @@ pub struct itchsnap_message {
 pub struct itchsnap_row {
     /// Its number, counted from 1.
     pub number: u64,
-    /// Where its payload begins in the blocks; the two bytes before have its length.
+    /// Where its payload begins in the blocks; the two bytes before that contain its length.
     pub offset: u64,
     /// In nanoseconds since midnight; 0 if it has no header, or is not decoded.
     pub timestamp: u64,
@@ -227,15 +230,15 @@ pub struct itchsnap_row {
     pub payload: [u8; 48],
 }
 
-/// What a call returns.
+/// The result of a call.
 #[repr(C)]
 #[derive(Clone, Copy, Debug)]
 pub struct itchsnap_decoded {
-    /// The number of the last message that was passed.
+    /// The number of the last message consumed.
     pub count: u64,
-    /// The rows that were written.
+    /// The number of rows written.
     pub rows: usize,
-    /// The bytes of the blocks that were passed.
+    /// The number of bytes of the blocks consumed.
     pub len: usize,
     pub detail: u64,
     pub code: u32,
@@ -249,31 +252,30 @@ pub struct itchsnap_handle {
     pub live: bool,
 }
 
-/// What a call returns.
+/// The result of a call.
 #[repr(C)]
 #[derive(Clone, Copy, Debug)]
 pub struct itchsnap_loaded {
     /// OK: the number of the first message that the snapshot does not contain.
     pub next: u64,
-    /// 1 to 5 and 16 to 23: the place of the message that is refused, counted from 1;
-    /// OUT_OF_MEMORY: of the one that memory was refused for, or 0 before the first and after the
-    /// last.
+    /// 1 to 5 and 16 to 23: the place of the refused message, counted from 1; OUT_OF_MEMORY: of the
+    /// message for which memory ran out, or 0 if that was before the first or after the last.
     pub place: u64,
     pub detail: u64,
     pub code: u32,
 }
 
-/// What a call returns.
+/// The result of a call.
 #[repr(C)]
 #[derive(Clone, Copy, Debug)]
 pub struct itchsnap_applied {
-    /// The messages that were applied.
+    /// The number of messages applied.
     pub count: u64,
     pub detail: u64,
     pub code: u32,
 }
 
-/// What a call returns.
+/// The result of a call.
 #[repr(C)]
 #[derive(Clone, Copy, Debug)]
 pub struct itchsnap_order {
@@ -290,7 +292,7 @@ pub struct itchsnap_order {
     pub code: u32,
 }
 
-/// What a call returns.
+/// The result of a call.
 #[repr(C)]
 #[derive(Clone, Copy, Debug)]
 pub struct itchsnap_level_total {
@@ -301,7 +303,7 @@ pub struct itchsnap_level_total {
     pub code: u32,
 }
 
-/// What a call returns.
+/// The result of a call.
 #[repr(C)]
 #[derive(Clone, Copy, Debug)]
 pub struct itchsnap_price {
@@ -310,7 +312,7 @@ pub struct itchsnap_price {
     pub code: u32,
 }
 
-/// What a call returns.
+/// The result of a call.
 #[repr(C)]
 #[derive(Clone, Copy, Debug)]
 pub struct itchsnap_count {
@@ -330,7 +332,7 @@ pub struct itchsnap_price_level {
     pub price: u32,
 }
 
-/// What a call returns.
+/// The result of a call.
 #[repr(C)]
 #[derive(Clone, Copy, Debug)]
 pub struct itchsnap_stock_name {
@@ -339,12 +341,11 @@ pub struct itchsnap_stock_name {
     pub code: u32,
 }
 
-/// What a call returns.
+/// The result of a call.
 #[repr(C)]
 #[derive(Clone, Copy, Debug)]
 pub struct itchsnap_outcome {
-    /// The messages that were taken; the place of the one that is refused, counted from 1, is one
-    /// more.
+    /// The number of messages accepted; the place of the refused one, counted from 1, is one more.
     pub count: u64,
     /// Snapshots, OK and NO_ROOM: the bytes of the snapshot.
     pub len: usize,
@@ -352,7 +353,7 @@ pub struct itchsnap_outcome {
     pub code: u32,
 }
 
-/// What a call returns.
+/// The result of a call.
 #[repr(C)]
 #[derive(Clone, Copy, Debug)]
 pub struct itchsnap_comparison {
@@ -363,11 +364,11 @@ pub struct itchsnap_comparison {
     pub count: u64,
     pub detail: u64,
     pub code: u32,
-    /// Not OK: the file that is refused, 1 or 2.
+    /// Not OK: the refused file, 1 or 2.
     pub file: u32,
 }
 
-/// What a call returns.
+/// The result of a call.
 #[repr(C)]
 #[derive(Clone, Copy, Debug)]
 pub struct itchsnap_joined {
@@ -378,8 +379,8 @@ pub struct itchsnap_joined {
     pub cause: u32,
 }
 
-/// Texts padded with spaces: what a client logs in with, or which login a server accepts and which
-/// session it serves.
+/// Texts padded with spaces: the login of a client, or the login that a server accepts and the
+/// session that it serves.
 #[repr(C)]
 #[derive(Clone, Copy, Debug)]
 pub struct itchsnap_login {
@@ -388,7 +389,7 @@ pub struct itchsnap_login {
     pub session: [u8; 10],
 }
 
-/// What a call returns.
+/// The result of a call.
 #[repr(C)]
 #[derive(Clone, Copy, Debug)]
 pub struct itchsnap_act {
@@ -397,7 +398,7 @@ pub struct itchsnap_act {
     pub code: u32,
 }
 
-/// What a call returns.
+/// The result of a call.
 #[repr(C)]
 #[derive(Clone, Copy, Debug)]
 pub struct itchsnap_login_packet {
@@ -405,7 +406,7 @@ pub struct itchsnap_login_packet {
     pub code: u32,
 }
 
-/// What a call returns.
+/// The result of a call.
 #[repr(C)]
 #[derive(Clone, Copy, Debug)]
 pub struct itchsnap_acceptance_packet {
@@ -414,33 +415,33 @@ pub struct itchsnap_acceptance_packet {
 }
 
 unsafe extern "C" {
-    /// The version of the library that is linked: the two should be equal.
+    /// The version of the linked library. It should equal ITCHSNAP_VERSION.
     pub fn itchsnap_version() -> u32;
 
-    /// Writes the text of a code, such as "stock mismatch", and a zero byte after it to the front of
-    /// out; len counts that byte too. No text has more than ITCHSNAP_REASON_LEN bytes. Codes: OK, or
-    /// the first that fits of ABSENT (there is no such code), NO_ROOM.
+    /// Writes the text of a code, such as "stock mismatch", followed by a zero byte, to the front
+    /// of out; len includes that byte. No text has more than ITCHSNAP_REASON_LEN bytes. Codes: OK,
+    /// or the first that applies of ABSENT (there is no such code), NO_ROOM.
     pub fn itchsnap_reason_text(code: u32, out: *mut c_char, len: usize) -> itchsnap_written;
 
-    /// Whether a payload spells a message, and if not, its first fault: codes 0 to 5.
+    /// Whether a payload is a valid message and, if not, its first fault: codes 0 to 5.
     pub fn itchsnap_decode_fault(payload: *const u8, len: usize) -> itchsnap_answer;
 
-    /// Writes the fields of the message that a payload spells to out; if it spells none, out is as
-    /// it was. A type that is not one of S R H Y h L A F E C X D U P Q B and G is not decoded: of
-    /// such a message there is the type alone. Codes: 0 to 5.
+    /// Writes the fields of a payload's message to out; if it is not a valid message, out is
+    /// unchanged. Types other than S R H Y h L A F E C X D U P Q B and G are not decoded: for such
+    /// a message only the type is filled in. Codes: 0 to 5.
     pub fn itchsnap_decode(payload: *const u8, len: usize, out: *mut itchsnap_message) -> itchsnap_answer;
 
-    /// Writes the messages of blocks, as a day file has them, side by side to the front of out:
-    /// those of the listed types, such as "AF", and, if locates are listed, only those at one of
-    /// them. No order rule is applied. before is the number of the last message before the blocks.
+    /// Decodes blocks, in the format of a day file, and writes their messages one after another to
+    /// the front of out: those of the listed types, such as "AF", and, if locates are listed, only
+    /// those at one of them. No order rule is applied. before is the number of the last message
+    /// before the blocks.
     ///
-    /// OK: the bytes end after a block, or at an empty one. NO_ROOM: the message after those that
-    /// were passed is wanted, and out is full: call again with the blocks from len on, and with
-    /// count as before. TRUNCATED: the bytes end within a block, detail being its bytes that are
-    /// there; in a piece of a day file these are the beginning of the next piece. 1 to 5: the
-    /// message after those that were passed is of a listed type, and spells none. Others are not
-    /// looked into; without a type in the list, the messages are counted. Codes: 0 to 5, TRUNCATED,
-    /// TOO_MANY_MESSAGES, NO_ROOM, OUT_OF_MEMORY (then nothing was passed).
+    /// OK: the bytes end after a block, or at an empty one. NO_ROOM: the next message is selected,
+    /// but out is full. Call again with the blocks from len on, and with before set to count.
+    /// TRUNCATED: the bytes end within a block, and detail counts the bytes left over; in a piece of a day file, pass them again at the front of the next piece. 1 to 5: the next
+    /// message is of a listed type, but not valid. Messages of other types are not examined; if no
+    /// type is listed, messages are only counted. Codes: 0 to 5, TRUNCATED, TOO_MANY_MESSAGES,
+    /// NO_ROOM, OUT_OF_MEMORY (nothing was consumed).
     pub fn itchsnap_decode_blocks(
         blocks: *const u8,
         len: usize,
@@ -457,7 +458,7 @@ unsafe extern "C" {
     /// again.
     pub fn itchsnap_free(handle: *mut itchsnap_handle);
 
-    /// Fills a handle with an empty market. Codes: OK, or the first that fits of IN_USE,
+    /// Fills a handle with an empty market. Codes: OK, or the first that applies of IN_USE,
     /// OUT_OF_MEMORY.
     pub fn itchsnap_market_new(handle: *mut itchsnap_handle) -> itchsnap_answer;
 
@@ -465,25 +466,25 @@ unsafe extern "C" {
     /// follows the order rules. Codes: IN_USE, or else 0 to 36, OUT_OF_MEMORY.
     pub fn itchsnap_market_load(handle: *mut itchsnap_handle, snapshot: *const u8, len: usize) -> itchsnap_loaded;
 
-    /// Applies the message of a payload; if it is refused, the market is as it was. Codes: 0 to 23,
+    /// Applies the message of a payload; if it is refused, the market is unchanged. Codes: 0 to 23,
     /// OUT_OF_MEMORY.
     pub fn itchsnap_market_apply(handle: *mut itchsnap_handle, payload: *const u8, len: usize) -> itchsnap_answer;
 
-    /// Applies the messages of blocks, as a day file has them, in order and up to the first that is
-    /// not taken; the market left is that of the messages before it. OK: the bytes end after a
-    /// block, or at an empty one, after which nothing is read. TRUNCATED: they end within a block,
-    /// detail being its bytes that are there; in a piece of a day file these are the beginning of
-    /// the next piece. Codes: 0 to 33, OUT_OF_MEMORY.
+    /// Applies the messages of blocks, in the format of a day file, in order, up to the first that
+    /// cannot be applied; those before it stay applied. OK: the bytes end after a block, or at an
+    /// empty one, after which nothing is read. TRUNCATED: they end within a block, and detail
+    /// counts the bytes left over; in a piece of a day file, pass them again at the front of the
+    /// next piece. Codes: 0 to 33, OUT_OF_MEMORY.
     pub fn itchsnap_market_apply_blocks(handle: *mut itchsnap_handle, blocks: *const u8, len: usize) -> itchsnap_applied;
 
     /// The order that has priority at a locate and side. Codes: OK, ABSENT.
     pub fn itchsnap_best(handle: *mut itchsnap_handle, locate: u16, buy: bool) -> itchsnap_order;
 
-    /// The live order with a reference. Codes: OK, ABSENT.
+    /// The live order with this reference. Codes: OK, ABSENT.
     pub fn itchsnap_order_by(handle: *mut itchsnap_handle, reference: u64) -> itchsnap_order;
 
-    /// The shares and the orders at a price of a locate and side: 0 if no order has that price.
-    /// Codes: OK.
+    /// The total shares and the number of orders at a price of a locate and side: 0 if no order has
+    /// that price. Codes: OK.
     pub fn itchsnap_level(handle: *mut itchsnap_handle, locate: u16, buy: bool, price: u32) -> itchsnap_level_total;
 
     /// The best price of a locate and side or, if after is true, the best one that is worse than
@@ -493,7 +494,7 @@ unsafe extern "C" {
     /// The number of live orders. Codes: OK.
     pub fn itchsnap_order_count(handle: *mut itchsnap_handle) -> itchsnap_count;
 
-    /// The locates of the directory, rising.
+    /// The locates in the directory, in ascending order.
     pub fn itchsnap_locates(handle: *mut itchsnap_handle, out: *mut u16, len: usize) -> itchsnap_written;
 
     /// The live orders of a locate: bids before asks, each side by priority. The code of each is
@@ -509,15 +510,15 @@ unsafe extern "C" {
         len: usize,
     ) -> itchsnap_written;
 
-    /// The stock that a locate has in the directory. Codes: OK, ABSENT.
+    /// The stock of a locate in the directory. Codes: OK, ABSENT.
     pub fn itchsnap_stock(handle: *mut itchsnap_handle, locate: u16) -> itchsnap_stock_name;
 
-    /// Writes the canonical snapshot to the front of out, closed with next as the number of the
-    /// first message that it does not contain. A call with length 0 returns the length. Codes: OK,
-    /// or the first that fits of NO_NUMBER, TOO_MANY_MESSAGES, OUT_OF_MEMORY, NO_ROOM.
+    /// Writes the canonical snapshot to the front of out, with next as the number of the first
+    /// message that it does not contain. Call with length 0 to get the length. Codes: OK, or the
+    /// first that applies of NO_NUMBER, TOO_MANY_MESSAGES, OUT_OF_MEMORY, NO_ROOM.
     pub fn itchsnap_snapshot(handle: *mut itchsnap_handle, next: u64, out: *mut u8, len: usize) -> itchsnap_written;
 
-    /// The same for the market cut down to the locates of a list.
+    /// The same for the part of the market at the listed locates.
     pub fn itchsnap_snapshot_only(
         handle: *mut itchsnap_handle,
         next: u64,
@@ -530,21 +531,21 @@ unsafe extern "C" {
     /// Whether a day file follows the order rules. Codes: 0 to 33, OUT_OF_MEMORY.
     pub fn itchsnap_check(day: *const u8, len: usize) -> itchsnap_outcome;
 
-    /// How many bytes come before the block of the first message whose timestamp is time or later,
-    /// in nanoseconds since midnight: so long is the part of a day file before that time.
-    /// Timestamps need not rise, so each message before it is looked at; a block that spells no
-    /// message, or one without a timestamp, is passed over. Codes: OK, ABSENT (the blocks end
-    /// before, also within one, or at an empty one), OUT_OF_MEMORY.
+    /// The number of bytes before the block of the first message whose timestamp is time or later,
+    /// in nanoseconds since midnight: the length of the part of a day file before that time.
+    /// Timestamps need not be in order, so every message up to it is examined. A block that is not
+    /// a valid message, or has no timestamp, is skipped. Codes: OK, ABSENT (the blocks end before
+    /// such a message, perhaps within a block or at an empty one), OUT_OF_MEMORY.
     pub fn itchsnap_first_at(blocks: *const u8, len: usize, time: u64) -> itchsnap_count;
 
     /// Writes the canonical snapshot of a part of a day file to the front of out: of its first
-    /// messages, as many as after says, or of those before the first whose timestamp is until or
-    /// later, in nanoseconds since midnight, whichever ends first. Codes: 0 to 33, SHORT (fewer
-    /// messages than after, where none is so late), NO_ROOM, OUT_OF_MEMORY.
+    /// messages, as many as after says, or of the messages before the first whose timestamp is
+    /// until or later, in nanoseconds since midnight, whichever comes first. Codes: 0 to 33, SHORT
+    /// (fewer messages than after, and none at until or later), NO_ROOM, OUT_OF_MEMORY.
     pub fn itchsnap_snap(day: *const u8, len: usize, after: u64, until: u64, out: *mut u8, out_len: usize) -> itchsnap_outcome;
 
-    /// The same for the market cut down to the locates of a list. Still every message of the part
-    /// has to follow the order rules.
+    /// The same for the part of the market at the listed locates. Every message of the part must
+    /// still follow the order rules.
     pub fn itchsnap_snap_only(
         day: *const u8,
         len: usize,
@@ -556,67 +557,68 @@ unsafe extern "C" {
         out_len: usize,
     ) -> itchsnap_outcome;
 
-    /// Whether two day files leave the same market. The first is read wholly before the second.
-    /// Codes: 0 to 33, OUT_OF_MEMORY.
+    /// Whether two day files end in the same market. The first is read completely before the
+    /// second. Codes: 0 to 33, OUT_OF_MEMORY.
     pub fn itchsnap_compare(first: *const u8, first_len: usize, second: *const u8, second_len: usize) -> itchsnap_comparison;
 
-    /// Fills a handle with a joiner in which at most cap messages will wait. Codes: OK, or the
-    /// first that fits of IN_USE, OUT_OF_MEMORY.
+    /// Fills a handle with a joiner in which at most cap messages may wait. Codes: OK, or the first
+    /// that applies of IN_USE, OUT_OF_MEMORY.
     pub fn itchsnap_joiner_new(handle: *mut itchsnap_handle, cap: usize) -> itchsnap_answer;
 
-    /// The same for the locates of a list: messages at other locates are decoded and counted, and
-    /// change nothing else.
+    /// The same for the listed locates: messages at others are decoded and counted, but change
+    /// nothing else.
     pub fn itchsnap_joiner_new_only(handle: *mut itchsnap_handle, cap: usize, locates: *const u16, count: usize) -> itchsnap_answer;
 
     /// Takes the message with this number of the live feed; messages may come in any order. Codes:
     /// KEPT, APPLIED, OLD, OUT_OF_MEMORY (not taken), 72 to 77.
     pub fn itchsnap_joiner_live(handle: *mut itchsnap_handle, number: u64, payload: *const u8, len: usize) -> itchsnap_joined;
 
-    /// Takes a message of the snapshot; messages come in their order, End of Snapshot last. Codes:
-    /// MORE, JOINED, OUT_OF_MEMORY (not taken), 75 to 78.
+    /// Takes the next message of the snapshot, the last of which is End of Snapshot. Codes: MORE,
+    /// JOINED, OUT_OF_MEMORY (not taken), 75 to 78.
     pub fn itchsnap_joiner_snapshot(handle: *mut itchsnap_handle, payload: *const u8, len: usize) -> itchsnap_joined;
 
-    /// Drops an unfinished or broken snapshot, and keeps what waits. Codes: OK.
+    /// Drops an unfinished or broken snapshot, and keeps the waiting messages. Codes: OK.
     pub fn itchsnap_joiner_restart(handle: *mut itchsnap_handle) -> itchsnap_answer;
 
-    /// Applies the messages that wait, for use after memory was refused. Codes: APPLIED,
+    /// Applies the waiting messages, after a lack of memory prevented that. Codes: APPLIED,
     /// NOT_JOINED, OUT_OF_MEMORY, HALTED.
     pub fn itchsnap_joiner_resume(handle: *mut itchsnap_handle) -> itchsnap_joined;
 
     /// The number of the next message of the feed. Codes: OK, NOT_JOINED.
     pub fn itchsnap_joiner_next(handle: *mut itchsnap_handle) -> itchsnap_count;
 
-    /// The number of messages that wait. Codes: OK.
+    /// The number of waiting messages. Codes: OK.
     pub fn itchsnap_joiner_waiting(handle: *mut itchsnap_handle) -> itchsnap_count;
 
-    /// Fills a handle with a client's session that asks for the messages from number from on; 0
-    /// asks for all. Codes: OK, or the first that fits of BAD_TEXT, NO_NUMBER (from is above
+    /// Fills a handle with a client's session that requests the messages from number from on; 0
+    /// requests all. Codes: OK, or the first that applies of BAD_TEXT, NO_NUMBER (from is above
     /// 10^19), IN_USE, OUT_OF_MEMORY.
     pub fn itchsnap_client_new(handle: *mut itchsnap_handle, login: *const itchsnap_login, from: u64, now_ms: u64) -> itchsnap_answer;
 
     /// The login request to send first. Codes: OK.
     pub fn itchsnap_client_login(handle: *mut itchsnap_handle) -> itchsnap_login_packet;
 
-    /// What a packet of the server means. A block that is no packet of a server leaves the session
-    /// as it was. Codes: OK (nothing), ACCEPTED, REJECTED, DATA, ENDED, 1 to 5, TOO_MANY_MESSAGES,
+    /// What a packet from the server means. A block that is not a server packet leaves the session
+    /// unchanged. Codes: OK (nothing), ACCEPTED, REJECTED, DATA, ENDED, 1 to 5, TOO_MANY_MESSAGES,
     /// 96 to 100.
     pub fn itchsnap_client_packet(handle: *mut itchsnap_handle, packet: *const u8, len: usize, now_ms: u64) -> itchsnap_act;
 
-    /// Fills a handle with a server's session of total messages. Codes: OK, or the first that fits
-    /// of BAD_TEXT, TOO_MANY_MESSAGES (total is above 10^19 - 1), IN_USE, OUT_OF_MEMORY.
+    /// Fills a handle with a server's session of total messages. Codes: OK, or the first that
+    /// applies of BAD_TEXT, TOO_MANY_MESSAGES (total is above 10^19 - 1), IN_USE, OUT_OF_MEMORY.
     pub fn itchsnap_server_new(handle: *mut itchsnap_handle, config: *const itchsnap_login, total: u64, now_ms: u64) -> itchsnap_answer;
 
-    /// The packet to send once a login is accepted from this number on. Codes: OK, NO_NUMBER.
+    /// The packet to send when a login is accepted, with messages from this number on. Codes: OK,
+    /// NO_NUMBER.
     pub fn itchsnap_server_accepted(handle: *mut itchsnap_handle, next: u64) -> itchsnap_acceptance_packet;
 
-    /// What to do after a packet of the client. A block that is no packet of a client leaves the
-    /// session as it was. Codes: OK (nothing), ACCEPTED, REJECTED, LOGGED_OUT, 1 to 5, 96 to 100.
+    /// What to do after a packet from the client. A block that is not a client packet leaves the
+    /// session unchanged. Codes: OK (nothing), ACCEPTED, REJECTED, LOGGED_OUT, 1 to 5, 96 to 100.
     pub fn itchsnap_server_packet(handle: *mut itchsnap_handle, packet: *const u8, len: usize, now_ms: u64) -> itchsnap_act;
 
-    /// What either end has to do at this moment, without a packet. A heartbeat counts as sent.
+    /// What either end must do at this time if no packet has arrived. A heartbeat counts as sent.
     /// Codes: OK (nothing), HEARTBEAT, LOST.
     pub fn itchsnap_session_tick(handle: *mut itchsnap_handle, now_ms: u64) -> itchsnap_answer;
 
-    /// Records that either end sent something at this moment. Codes: OK.
+    /// Records that either end sent something at this time. Codes: OK.
     pub fn itchsnap_session_sent(handle: *mut itchsnap_handle, now_ms: u64) -> itchsnap_answer;
 }

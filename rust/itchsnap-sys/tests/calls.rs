@@ -1,17 +1,17 @@
-//! Calls of the library by its own declarations.
+//! Calls the library directly through its declarations.
 
 use itchsnap_sys::*;
 
 #[test]
 fn the_library_has_the_interface_of_the_declarations() {
-    // SAFETY: the call takes nothing.
+    // SAFETY: the call has no arguments.
     assert_eq!(unsafe { itchsnap_version() }, ITCHSNAP_VERSION);
 }
 
 #[test]
 fn an_empty_handle_is_no_market() {
     let mut handle = ITCHSNAP_NONE;
-    // SAFETY: the handle is empty, and nobody else has it.
+    // SAFETY: the handle is empty, and nothing else uses it.
     unsafe {
         assert_eq!(itchsnap_order_count(&mut handle).code, ITCHSNAP_WRONG_HANDLE);
         assert_eq!(itchsnap_market_new(&mut handle).code, ITCHSNAP_OK);
@@ -34,7 +34,7 @@ fn both_ends_of_a_session_agree_on_a_login() {
     let login = itchsnap_login { username: padded("desk"), password: padded("secret"), session: padded("") };
     let config = itchsnap_login { session: padded("DAY"), ..login };
     let (mut client, mut server) = (ITCHSNAP_NONE, ITCHSNAP_NONE);
-    // SAFETY: the handles are empty, and nobody else has them; slices are readable for their lengths.
+    // SAFETY: the handles are empty, and nothing else uses them; slices are readable for their lengths.
     unsafe {
         assert_eq!(itchsnap_client_new(&mut client, &login, 1, 0).code, ITCHSNAP_OK);
         assert_eq!(itchsnap_server_new(&mut server, &config, 5, 0).code, ITCHSNAP_OK);

@@ -10,7 +10,7 @@ use itchsnap_sys as sys;
 use crate::handle::{is_found, room};
 use crate::{Refused, Snapshot};
 
-/// The bytes of End of Snapshot with its length: but for these, no snapshot is longer than its day.
+/// The length of End of Snapshot with its length field. Apart from this, no snapshot is longer than its day.
 const END_BLOCK: usize = 23;
 
 /// A day file: the messages of a feed, in order, each after its length in two bytes.
@@ -30,7 +30,7 @@ pub struct Day<'a> {
     bytes: Cow<'a, [u8]>,
 }
 
-/// Which part of a day, and which locates of it, a snapshot is of.
+/// The part of a day, and the locates in it, for which to make a snapshot.
 #[derive(Clone, Debug, PartialEq, Eq)]
 pub struct Part<'a> {
     after: u64,
@@ -39,12 +39,12 @@ pub struct Part<'a> {
 }
 
 impl<'a> Part<'a> {
-    /// The whole day.
+    /// The entire day.
     pub fn all() -> Part<'static> {
         Part { after: sys::ITCHSNAP_ALL, until: sys::ITCHSNAP_ALL, only: None }
     }
 
-    /// Only the first messages, so many.
+    /// Only this many messages from the start.
     pub fn after(self, messages: u64) -> Part<'a> {
         Part { after: messages, ..self }
     }
@@ -54,7 +54,7 @@ impl<'a> Part<'a> {
         Part { until: nanoseconds, ..self }
     }
 
-    /// Only these locates. Still every message of the part has to follow the order rules.
+    /// Only these locates. Every message of the part must still follow the order rules.
     pub fn only<'b>(self, locates: &'b [u16]) -> Part<'b> {
         Part { after: self.after, until: self.until, only: Some(locates) }
     }
@@ -66,7 +66,7 @@ impl<'a> Day<'a> {
         Ok(Day { bytes: Cow::Owned(fs::read(path)?) })
     }
 
-    /// A day whose bytes are in memory, such as those of a mapped file. They are not copied.
+    /// Makes a day of bytes in memory, such as those of a mapped file. They are not copied.
     pub fn of(bytes: &'a [u8]) -> Day<'a> {
         Day { bytes: Cow::Borrowed(bytes) }
     }
@@ -76,12 +76,12 @@ impl<'a> Day<'a> {
         &self.bytes
     }
 
-    /// The payload of each message, in order, up to the end, to an empty block or to an unfinished one.
+    /// Iterates over the payloads of the messages, in order, up to the end of the file or to an empty or unfinished block.
     pub fn messages(&self) -> Messages<'_> {
         messages(&self.bytes)
     }
 
-    /// The number of messages, if all of them follow the order rules.
+    /// Returns the number of messages, if all of them follow the order rules.
     pub fn check(&self) -> Result<u64, Refused> {
         let bytes = self.as_bytes();
         // SAFETY: the slice is readable for its length, and its pointer is not null.
@@ -89,7 +89,7 @@ impl<'a> Day<'a> {
         counted(&outcome).map(|()| outcome.count)
     }
 
-    /// The canonical snapshot of the market after a part of the day.
+    /// Returns the canonical snapshot of the market after a part of the day.
     pub fn snapshot(&self, part: &Part<'_>) -> Result<Snapshot, Refused> {
         let mut out = room(self.bytes.len() + END_BLOCK)?;
         let mut outcome = self.snapped(part, &mut out);
@@ -98,13 +98,13 @@ impl<'a> Day<'a> {
             outcome = self.snapped(part, &mut out);
         }
         counted(&outcome)?;
-        // SAFETY: the library has written as many bytes as it says, no more than there was room for.
+        // SAFETY: the library has written as many bytes as it reports, at most as many as there was room for.
         unsafe { out.set_len(outcome.len) };
         out.shrink_to_fit();
         Ok(Snapshot::canonical(out))
     }
 
-    /// Has the snapshot of a part written into the room that a vector has.
+    /// Writes the snapshot of a part into the spare capacity of a vector.
     fn snapped(&self, part: &Part<'_>, out: &mut Vec<u8>) -> sys::itchsnap_outcome {
         let (day, len) = (self.bytes.as_ptr(), self.bytes.len());
         let (to, to_len) = (out.as_mut_ptr(), out.capacity());
@@ -117,8 +117,8 @@ impl<'a> Day<'a> {
         }
     }
 
-    /// How many bytes come before the first message whose timestamp is this time or later, in nanoseconds since midnight, or `None`
-    /// if none is so late.
+    /// Returns the number of bytes before the first message whose timestamp is this time or later, in nanoseconds since midnight,
+    /// or `None` if there is no such message.
     pub fn first_at(&self, nanoseconds: u64) -> Result<Option<u64>, Refused> {
         // SAFETY: the slice is readable for its length, and its pointer is not null.
         let found = unsafe { sys::itchsnap_first_at(self.bytes.as_ptr(), self.bytes.len(), nanoseconds) };
@@ -128,8 +128,8 @@ impl<'a> Day<'a> {
         Ok(is_found(found.code).then_some(found.count))
     }
 
-    /// Where the snapshots of the markets that two days leave first differ: the place of the message, counted from 1, or `None` if
-    /// the markets are the same.
+    /// Compares the markets in which two days end. Returns the place, counted from 1, of the first message in which their snapshots
+    /// differ, or `None` if the markets are the same.
     pub fn compare(&self, other: &Day<'_>) -> Result<Option<u64>, Refused> {
         let (first, second) = (self.as_bytes(), other.as_bytes());
         // SAFETY: the slices are readable for their lengths, and their pointers are not null.
@@ -144,7 +144,7 @@ impl<'a> Day<'a> {
     }
 }
 
-/// Whether a call over a day went well; otherwise the message after those that were taken is refused.
+/// Checks the result of a call over a day. If it failed, the refused message is the one after those accepted.
 fn counted(outcome: &sys::itchsnap_outcome) -> Result<(), Refused> {
     match outcome.code {
         sys::ITCHSNAP_OK => Ok(()),

@@ -1,4 +1,4 @@
-//! A handle of the library, which is freed once.
+//! A handle of the library, which is freed exactly once.
 
 use std::cell::UnsafeCell;
 use std::mem::MaybeUninit;
@@ -9,7 +9,7 @@ use itchsnap_sys::{
 
 use crate::Refused;
 
-/// A market, a joiner, or nothing. Look-ups write to a handle too, so it is in a cell, which keeps it on its thread.
+/// A market, a joiner, or nothing. Even look-ups write to the handle, so it is in a cell, which also keeps it on its thread.
 #[derive(Debug)]
 pub(crate) struct Handle(UnsafeCell<itchsnap_handle>);
 
@@ -19,7 +19,7 @@ impl Handle {
         Handle(UnsafeCell::new(ITCHSNAP_NONE))
     }
 
-    /// Its address, for one call. No call of this crate uses it while another one does: each is over before the next begins.
+    /// Returns its address, for one call. Calls of this crate never overlap: each ends before the next uses the handle.
     pub(crate) fn at(&self) -> *mut itchsnap_handle {
         self.0.get()
     }
@@ -27,18 +27,18 @@ impl Handle {
 
 impl Drop for Handle {
     fn drop(&mut self) {
-        // SAFETY: only the library has written this handle, and nobody else has it.
+        // SAFETY: only the library has written this handle, and nothing else uses it.
         unsafe { itchsnap_free(self.at()) }
     }
 }
 
-/// Whether a look-up found something. The other code of a look-up in a market is `ABSENT`.
+/// Returns whether a look-up found something. The only other code of a look-up in a market is `ABSENT`.
 pub(crate) fn is_found(code: u32) -> bool {
     debug_assert!(code == ITCHSNAP_OK || code == ITCHSNAP_ABSENT, "a look-up returned {code}");
     code == ITCHSNAP_OK
 }
 
-/// Room for so many items, if there is memory for it.
+/// Allocates room for a number of items, if there is enough memory.
 pub(crate) fn room<T>(len: usize) -> Result<Vec<T>, Refused> {
     let mut room = Vec::new();
     match room.try_reserve_exact(len) {
@@ -47,7 +47,7 @@ pub(crate) fn room<T>(len: usize) -> Result<Vec<T>, Refused> {
     }
 }
 
-/// What a function writes that is asked for the length first: it is given memory and the length of that.
+/// Returns the items that a function writes. Calls it first for the length, and then with memory of that length.
 pub(crate) fn listed<T: Copy>(mut write: impl FnMut(*mut T, usize) -> itchsnap_written) -> Result<Vec<T>, Refused> {
     let mut nothing = MaybeUninit::<T>::uninit();
     let asked = write(nothing.as_mut_ptr(), 0);
@@ -60,7 +60,7 @@ pub(crate) fn listed<T: Copy>(mut write: impl FnMut(*mut T, usize) -> itchsnap_w
     if written.code != ITCHSNAP_OK {
         return Err(Refused::of(written.code, 0));
     }
-    // SAFETY: the library has written as many items as it says, no more than there was room for.
+    // SAFETY: the library has written as many items as it reports, at most as many as there was room for.
     unsafe { items.set_len(written.len) };
     Ok(items)
 }

@@ -9,25 +9,26 @@ use crate::{Reason, Refused, Snapshot, View};
 /// What a joiner did with a message.
 #[derive(Clone, Copy, Debug, PartialEq, Eq, Hash)]
 pub enum Step {
-    /// It waits.
+    /// It was kept, and waits.
     Kept,
-    /// It was applied, and then what waited, up to the message before `next`.
+    /// It was applied, and then the waiting messages up to the one before `next`.
     Applied {
         /// The number of the next message.
         next: u64,
     },
     /// The market already contains it.
     Old,
-    /// A message of the snapshot was taken, and more follow.
+    /// It was a message of the snapshot, and more follow.
     More,
-    /// The snapshot has ended, and what waited was applied, up to the message before `next`.
+    /// It ended the snapshot, and the waiting messages up to the one before `next` were applied.
     Joined {
         /// The number of the next message.
         next: u64,
     },
 }
 
-/// A snapshot and the messages of a live feed, in any order, lost and repeated, joined into one market.
+/// Joins a snapshot and the messages of a live feed into one market. Messages may arrive in any order, be lost and be
+/// repeated.
 ///
 /// ```
 /// use itchsnap::{Day, Joiner, Part, Step};
@@ -49,15 +50,15 @@ pub struct Joiner {
 }
 
 impl Joiner {
-    /// A joiner in which at most so many messages will wait.
+    /// Makes a joiner in which at most this many messages may wait.
     pub fn new(waiting: usize) -> Result<Joiner, Refused> {
-        // SAFETY: the handle is empty, and nobody else has it.
+        // SAFETY: the handle is empty, and nothing else uses it.
         Joiner::filled(|handle| unsafe { sys::itchsnap_joiner_new(handle, waiting) })
     }
 
-    /// The same for some locates: messages at others are decoded and counted, and change nothing else.
+    /// The same for some locates: messages at others are decoded and counted, but change nothing else.
     pub fn only(waiting: usize, locates: &[u16]) -> Result<Joiner, Refused> {
-        // SAFETY: the handle is empty, and nobody else has it; the slice is readable for its length.
+        // SAFETY: the handle is empty, and nothing else uses it; the slice is readable for its length.
         Joiner::filled(|handle| unsafe { sys::itchsnap_joiner_new_only(handle, waiting, locates.as_ptr(), locates.len()) })
     }
 
@@ -72,17 +73,17 @@ impl Joiner {
 
     /// Takes the message with this number of the live feed.
     pub fn live(&mut self, number: u64, payload: &[u8]) -> Result<Step, Refused> {
-        // SAFETY: the handle is this joiner's own; the slice is readable for its length.
+        // SAFETY: only this joiner uses the handle; the slice is readable for its length.
         step(unsafe { sys::itchsnap_joiner_live(self.handle.at(), number, payload.as_ptr(), payload.len()) })
     }
 
-    /// Takes the next message of the snapshot; End of Snapshot comes last.
+    /// Takes the next message of the snapshot, the last of which is End of Snapshot.
     pub fn snapshot_message(&mut self, payload: &[u8]) -> Result<Step, Refused> {
-        // SAFETY: the handle is this joiner's own; the slice is readable for its length.
+        // SAFETY: only this joiner uses the handle; the slice is readable for its length.
         step(unsafe { sys::itchsnap_joiner_snapshot(self.handle.at(), payload.as_ptr(), payload.len()) })
     }
 
-    /// Takes each message of a snapshot, and returns what was done with the last, which is [`Step::Joined`].
+    /// Takes each message of a snapshot, and returns the result of the last one, [`Step::Joined`].
     pub fn take(&mut self, snapshot: &Snapshot) -> Result<Step, Refused> {
         let mut last = Step::More;
         for payload in snapshot.messages() {
@@ -91,44 +92,44 @@ impl Joiner {
         Ok(last)
     }
 
-    /// Drops an unfinished or broken snapshot, and keeps what waits.
+    /// Drops an unfinished or broken snapshot, and keeps the waiting messages.
     pub fn restart(&mut self) {
-        // SAFETY: the handle is this joiner's own.
+        // SAFETY: only this joiner uses the handle.
         unsafe { sys::itchsnap_joiner_restart(self.handle.at()) };
     }
 
-    /// Applies the messages that wait, after memory was refused.
+    /// Applies the waiting messages, after a lack of memory prevented that.
     pub fn resume(&mut self) -> Result<Step, Refused> {
-        // SAFETY: the handle is this joiner's own.
+        // SAFETY: only this joiner uses the handle.
         step(unsafe { sys::itchsnap_joiner_resume(self.handle.at()) })
     }
 
-    /// The number of the next message of the feed, once the snapshot is joined.
+    /// Returns the number of the next message of the feed, if the snapshot is joined.
     pub fn next_number(&self) -> Option<u64> {
-        // SAFETY: the handle is this joiner's own.
+        // SAFETY: only this joiner uses the handle.
         let next = unsafe { sys::itchsnap_joiner_next(self.handle.at()) };
         (next.code == sys::ITCHSNAP_OK).then_some(next.count)
     }
 
-    /// How many messages wait.
+    /// Returns the number of waiting messages.
     pub fn waiting(&self) -> u64 {
-        // SAFETY: the handle is this joiner's own.
+        // SAFETY: only this joiner uses the handle.
         unsafe { sys::itchsnap_joiner_waiting(self.handle.at()) }.count
     }
 
-    /// What can be asked of the market, once the snapshot is joined.
+    /// Returns the market for look-ups, if the snapshot is joined.
     pub fn view(&self) -> Option<View<'_>> {
         self.next_number().map(|_| View::of(&self.handle))
     }
 
-    /// The snapshot of the market, with the number of the next message.
+    /// Returns the snapshot of the market, with the number of the next message.
     pub fn snapshot(&self) -> Result<Snapshot, Refused> {
         let next = self.next_number().ok_or_else(|| Refused::of(sys::ITCHSNAP_NOT_JOINED, 0))?;
         snapshot_of(&self.handle, next)
     }
 }
 
-/// What was done with a message, or why it was not taken.
+/// Returns what was done with a message, or the reason why it was not taken.
 fn step(answer: sys::itchsnap_joined) -> Result<Step, Refused> {
     let refused = Refused::of(answer.code, answer.detail);
     match answer.code {

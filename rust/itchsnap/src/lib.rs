@@ -1,7 +1,7 @@
 //! Market snapshots for Nasdaq TotalView-ITCH 5.0, over the proved library `libitchsnap`.
 //!
-//! A [`Day`] is a day file, a [`Snapshot`] the market at one message of a feed, a [`Market`] takes messages and is asked in between,
-//! and a [`Joiner`] joins a snapshot and a live feed. [`decode`] makes the fields of a message. What can be asked of a market is in [`View`]. A call that is refused returns
+//! A [`Day`] is a day file, a [`Snapshot`] the market at one message of a feed. A [`Market`] applies messages, with look-ups at any time through its
+//! [`View`], and a [`Joiner`] joins a snapshot and a live feed. [`decode`] returns the fields of a message. A call that is refused returns
 //! [`Refused`], with the [`Reason`].
 //!
 //! ```
@@ -17,9 +17,9 @@
 //! # Ok::<(), Box<dyn std::error::Error>>(())
 //! ```
 //!
-//! Prices are whole ten-thousandths of a dollar everywhere, so that equal prices are equal. Numbers of messages are counted from 1.
+//! Prices are always integers in ten-thousandths of a dollar, so that equal prices compare equal. Numbers of messages are counted from 1.
 //!
-//! Markets and joiners stay on the thread that made them, so they are neither `Send` nor `Sync`; days and snapshots are plain bytes.
+//! Markets and joiners stay on the thread that made them, so they are neither `Send` nor `Sync`. Days and snapshots are plain bytes.
 //!
 //! ```compile_fail
 //! fn elsewhere<T: Send>(_: T) {}

@@ -4,12 +4,12 @@ use itchsnap_sys as sys;
 
 use crate::Refused;
 
-/// The fields of a message, by the names of the standard. Those that its type does not have are 0. Prices are whole ten-thousandths of a
-/// dollar, texts are padded with spaces, and a code has the byte of the message.
+/// The fields of a message, named as in the standard. Fields that its type does not have are 0. Prices are in ten-thousandths of a dollar,
+/// texts are padded with spaces, and a code is the byte of the message.
 pub type Message = sys::itchsnap_message;
 
-/// The fields of the message that a payload spells, or its first fault. A type that is not one of S R H Y h L A F E C X D U P Q B and G is
-/// not decoded: of such a message there is the type alone.
+/// Returns the fields of a payload's message, or its first fault if it is not a valid message. Types other than S R H Y h L A F E C X D U
+/// P Q B and G are not decoded: for such a message only the type is filled in.
 ///
 /// ```
 /// use itchsnap::{Day, Reason, decode};

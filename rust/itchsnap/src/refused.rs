@@ -5,7 +5,7 @@ use std::fmt;
 
 use itchsnap_sys as sys;
 
-/// Declares the reasons, each with its code in `itchsnap.h` and its words.
+/// Declares the reasons, each with its code in `itchsnap.h` and its text.
 macro_rules! reasons {
     ($($(#[$doc:meta])* $name:ident = $code:ident, $words:literal;)*) => {
         /// The reasons for which a call is refused.
@@ -13,7 +13,7 @@ macro_rules! reasons {
         #[non_exhaustive]
         pub enum Reason {
             $($(#[$doc])* $name,)*
-            /// A reason that this crate does not know, by its code.
+            /// A reason that this crate does not know, with its code.
             Other(u32),
         }
 
@@ -26,7 +26,7 @@ macro_rules! reasons {
                 }
             }
 
-            /// The words of the reason, where `{}` stands for its detail.
+            /// The text of the reason, in which `{}` is replaced by its detail.
             fn words(self) -> &'static str {
                 match self {
                     $(Reason::$name => $words,)*
@@ -40,51 +40,51 @@ macro_rules! reasons {
 reasons! {
     /// The message has no bytes.
     Empty = ITCHSNAP_EMPTY, "empty message";
-    /// The message has another length than its type; `detail` is the one that its type has.
+    /// The message does not have the length of its type; `detail` is the length that its type requires.
     WrongLength = ITCHSNAP_WRONG_LENGTH, "wrong length: want {}";
     /// A byte of a text is not printable; `detail` is its offset.
     BadText = ITCHSNAP_BAD_TEXT, "bad text at {}";
     /// A side is neither B nor S; `detail` is its offset.
     BadSide = ITCHSNAP_BAD_SIDE, "bad side at {}";
-    /// A field has no number.
+    /// A field is not a number.
     BadNumber = ITCHSNAP_BAD_NUMBER, "bad number";
-    /// The directory has no such locate.
+    /// The locate is not in the directory.
     UnknownLocate = ITCHSNAP_UNKNOWN_LOCATE, "unknown locate";
-    /// The locate has another stock in the directory.
+    /// The directory lists another stock at the locate.
     StockMismatch = ITCHSNAP_STOCK_MISMATCH, "stock mismatch";
-    /// An order of no shares.
+    /// An order with no shares.
     ZeroShares = ITCHSNAP_ZERO_SHARES, "zero shares";
-    /// A live order has this reference.
+    /// A live order already has this reference.
     DuplicateReference = ITCHSNAP_DUPLICATE_REFERENCE, "duplicate reference";
     /// No live order has this reference.
     UnknownReference = ITCHSNAP_UNKNOWN_REFERENCE, "unknown reference";
     /// The order is at another locate.
     LocateMismatch = ITCHSNAP_LOCATE_MISMATCH, "locate mismatch";
-    /// More shares than remain; `detail` is how many do.
+    /// More shares than remain; `detail` is the number of shares that remain.
     TooManyShares = ITCHSNAP_TOO_MANY_SHARES, "too many shares, {} remain";
     /// End of Snapshot in a feed.
     UnexpectedEnd = ITCHSNAP_UNEXPECTED_END, "unexpected end";
-    /// The file ends within a block; `detail` is how many of its bytes are there.
+    /// The file ends within a block; `detail` is how many of its bytes are present.
     Truncated = ITCHSNAP_TRUNCATED, "truncated, {} bytes held";
-    /// There are more messages than have numbers.
+    /// There are more messages than can be numbered.
     TooManyMessages = ITCHSNAP_TOO_MANY_MESSAGES, "too many messages";
-    /// A read failed. That does not happen, since all files are in memory.
+    /// A read failed. This does not happen, since all files are in memory.
     Unread = ITCHSNAP_UNREAD, "read failed";
     /// The snapshot has no End of Snapshot.
     NoEnd = ITCHSNAP_NO_END, "no end of snapshot";
     /// A message comes after End of Snapshot.
     AfterEnd = ITCHSNAP_AFTER_END, "message after end of snapshot";
-    /// There are fewer messages than are wanted.
+    /// There are fewer messages than requested.
     Short = ITCHSNAP_SHORT, "short";
-    /// Memory was refused.
+    /// Out of memory.
     OutOfMemory = ITCHSNAP_OUT_OF_MEMORY, "out of memory";
     /// A snapshot has no such number.
     NoNumber = ITCHSNAP_NO_NUMBER, "no number";
-    /// The joiner has not joined.
+    /// The joiner has not joined yet.
     NotJoined = ITCHSNAP_NOT_JOINED, "not joined";
-    /// No more messages may wait; `number` is how many do.
+    /// No more messages may wait; `number` is how many are waiting.
     Full = ITCHSNAP_FULL, "full";
-    /// Other bytes wait under this number.
+    /// A message with this number and other bytes is waiting.
     Conflict = ITCHSNAP_CONFLICT, "conflict";
     /// The number of a message is 0 or above 10^19 - 1.
     BadMessageNumber = ITCHSNAP_BAD_MESSAGE_NUMBER, "bad message number";
@@ -92,7 +92,7 @@ reasons! {
     Halted = ITCHSNAP_HALTED, "halted";
     /// A message of a snapshot after joining.
     AlreadyJoined = ITCHSNAP_ALREADY_JOINED, "already joined";
-    /// Memory was refused after the message was taken: `resume` continues.
+    /// Out of memory after the message was taken: continue with `resume`.
     TakenNoMemory = ITCHSNAP_TAKEN_NO_MEMORY, "taken, out of memory";
     /// The snapshot's message at place `number` is refused; `cause` and `detail` say why.
     BadSnapshot = ITCHSNAP_BAD_SNAPSHOT, "bad snapshot";
@@ -111,15 +111,15 @@ reasons! {
 #[derive(Clone, Copy, Debug, PartialEq, Eq, Hash)]
 #[non_exhaustive]
 pub struct Refused {
-    /// Why. Of several reasons it is the first that applies.
+    /// The first reason that applies.
     pub reason: Reason,
-    /// What the reason says of it, such as the shares that remain; otherwise 0.
+    /// A detail of the reason, such as the number of shares that remain; otherwise 0.
     pub detail: u64,
     /// The number of the message that is refused, unfinished or missing, if a numbered message is.
     pub number: Option<u64>,
-    /// For a joiner that has halted or has a bad snapshot, why that message is refused.
+    /// If a joiner has halted or has a bad snapshot, the reason why that message is refused.
     pub cause: Option<Reason>,
-    /// Where two day files are compared, which is refused, 1 or 2.
+    /// If two day files are compared, the refused one, 1 or 2.
     pub file: Option<u32>,
 }
 
@@ -129,7 +129,7 @@ impl Refused {
         Refused { reason: Reason::of(code), detail, number: None, cause: None, file: None }
     }
 
-    /// The same of a message.
+    /// The same for a message.
     pub(crate) fn at(self, number: u64) -> Refused {
         Refused { number: Some(number), ..self }
     }

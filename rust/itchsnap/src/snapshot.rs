@@ -4,13 +4,13 @@ use std::fmt;
 
 use crate::{Market, Messages, Refused, messages};
 
-/// The block of End of Snapshot, and the digits at its end.
+/// The block of End of Snapshot, and its digits at the end.
 const END_BLOCK: usize = 23;
 const END_DIGITS: usize = 20;
 
-/// The market at one message of a feed: what rebuilds it, as canonical bytes.
+/// The market at one message of a feed, as the canonical bytes from which it can be rebuilt.
 ///
-/// Two snapshots are equal if and only if their markets are the same and they stand at the same message.
+/// Two snapshots are equal if and only if their markets are the same and they were taken at the same message number.
 ///
 /// ```
 /// use itchsnap::{Day, Part, Snapshot};
@@ -27,18 +27,18 @@ pub struct Snapshot {
 }
 
 impl Snapshot {
-    /// The snapshot of a file's bytes, whose messages may be in any order that follows the order rules; they are put into canonical
-    /// order.
+    /// Reads the bytes of a snapshot file, whose messages may be in any order that follows the order rules, and puts them into
+    /// canonical order.
     pub fn parse(bytes: &[u8]) -> Result<Snapshot, Refused> {
         Market::parse(bytes)?.snapshot()
     }
 
-    /// The snapshot of bytes that the library wrote.
+    /// Makes a snapshot from bytes that the library wrote.
     pub(crate) fn canonical(bytes: Vec<u8>) -> Snapshot {
         Snapshot { bytes }
     }
 
-    /// The canonical bytes, End of Snapshot included.
+    /// The canonical bytes, including End of Snapshot.
     pub fn as_bytes(&self) -> &[u8] {
         &self.bytes
     }
@@ -54,23 +54,23 @@ impl Snapshot {
         digits.iter().filter(|it| it.is_ascii_digit()).fold(0, |number, it| number * 10 + u64::from(it - b'0'))
     }
 
-    /// Whether two snapshots have the same market, whichever number each has.
+    /// Returns whether two snapshots have the same market, whatever their numbers.
     pub fn same_market(&self, other: &Snapshot) -> bool {
         let market = |it: &Snapshot| it.bytes.len() - END_BLOCK;
         self.bytes[..market(self)] == other.bytes[..market(other)]
     }
 
-    /// The snapshot cut down to these locates.
+    /// Returns the snapshot reduced to these locates.
     pub fn only(&self, locates: &[u16]) -> Result<Snapshot, Refused> {
         self.market()?.snapshot_only(locates)
     }
 
-    /// The market of the snapshot.
+    /// Returns the market of the snapshot.
     pub fn market(&self) -> Result<Market, Refused> {
         Market::parse(&self.bytes)
     }
 
-    /// The payload of each message, End of Snapshot last.
+    /// Iterates over the payloads of the messages, of which End of Snapshot is the last.
     pub fn messages(&self) -> Messages<'_> {
         messages(&self.bytes)
     }

@@ -1,4 +1,4 @@
-//! What can be asked of a market.
+//! Look-ups in a market.
 
 use std::fmt;
 
@@ -26,7 +26,7 @@ impl Side {
     }
 }
 
-/// A price in ten-thousandths of a dollar. It is shown in dollars, with four decimals.
+/// A price in ten-thousandths of a dollar. It is displayed in dollars, with four decimals.
 #[derive(Clone, Copy, Debug, PartialEq, Eq, Hash, PartialOrd, Ord)]
 pub struct Price(pub u32);
 
@@ -47,13 +47,13 @@ pub struct Order {
     pub side: Side,
     /// Its price.
     pub price: Price,
-    /// The shares that remain.
+    /// The remaining shares.
     pub shares: u32,
-    /// The market participant that it came with, padded with spaces.
+    /// The market participant with whom it came, padded with spaces.
     pub mpid: Option<[u8; 4]>,
 }
 
-/// The orders at a price, added up.
+/// The total of the orders at a price.
 #[derive(Clone, Copy, Debug, PartialEq, Eq, Hash)]
 pub struct Level {
     /// The price.
@@ -64,7 +64,8 @@ pub struct Level {
     pub orders: u64,
 }
 
-/// A market, for look-ups: [`Market::view`](crate::Market::view), or [`Joiner::view`](crate::Joiner::view) once it has joined.
+/// A market, for look-ups: see [`Market::view`](crate::Market::view), and [`Joiner::view`](crate::Joiner::view) after it has
+/// joined.
 ///
 /// ```
 /// use itchsnap::{Day, Part, Side};
@@ -81,27 +82,28 @@ pub struct View<'a> {
     handle: &'a Handle,
 }
 
-// SAFETY of each call below: the handle holds a market, is nobody's while the call runs, and memory is writable for its length.
+// SAFETY of each call below: the handle holds a market, nothing else uses it during the call, and memory is writable for its
+// length.
 impl<'a> View<'a> {
     pub(crate) fn of(handle: &'a Handle) -> View<'a> {
         View { handle }
     }
 
-    /// The order that has priority at a locate and side.
+    /// Returns the order that has priority at a locate and side.
     pub fn best(self, locate: u16, side: Side) -> Option<Order> {
         // SAFETY: as above.
         let found = unsafe { sys::itchsnap_best(self.handle.at(), locate, side.is_buy()) };
         is_found(found.code).then(|| order(found))
     }
 
-    /// The live order with a reference.
+    /// Returns the live order with this reference.
     pub fn order(self, reference: u64) -> Option<Order> {
         // SAFETY: as above.
         let found = unsafe { sys::itchsnap_order_by(self.handle.at(), reference) };
         is_found(found.code).then(|| order(found))
     }
 
-    /// The orders at a price, if there are any.
+    /// Returns the total of the orders at a price, if there are any.
     pub fn level(self, locate: u16, side: Side, price: Price) -> Option<Level> {
         // SAFETY: as above.
         let total = unsafe { sys::itchsnap_level(self.handle.at(), locate, side.is_buy(), price.0) };
@@ -109,7 +111,7 @@ impl<'a> View<'a> {
         (is_found(total.code) && total.orders != 0).then_some(Level { price, shares, orders: total.orders })
     }
 
-    /// The best price of a side or, with `after`, the best that is worse than that.
+    /// Returns the best price of a side or, with `after`, the best one that is worse than that.
     pub fn next_price(self, locate: u16, side: Side, after: Option<Price>) -> Option<Price> {
         let last = after.map_or(0, |it| it.0);
         // SAFETY: as above.
@@ -117,43 +119,43 @@ impl<'a> View<'a> {
         is_found(found.code).then_some(Price(found.price))
     }
 
-    /// The prices of a side, the best first.
+    /// Iterates over the prices of a side, the best first.
     pub fn prices(self, locate: u16, side: Side) -> Prices<'a> {
         Prices { view: self, locate, side, last: None, ended: false }
     }
 
-    /// The number of live orders.
+    /// Returns the number of live orders.
     pub fn order_count(self) -> u64 {
         // SAFETY: as above.
         unsafe { sys::itchsnap_order_count(self.handle.at()) }.count
     }
 
-    /// The stock of a locate in the directory, without the spaces at its end.
+    /// Returns the stock of a locate in the directory, without trailing spaces.
     pub fn stock(self, locate: u16) -> Option<String> {
         // SAFETY: as above.
         let found = unsafe { sys::itchsnap_stock(self.handle.at(), locate) };
         is_found(found.code).then(|| String::from_utf8_lossy(&found.stock).trim_end().to_string())
     }
 
-    /// The locates of the directory, rising.
+    /// Returns the locates in the directory, in ascending order.
     pub fn locates(self) -> Result<Vec<u16>, Refused> {
         // SAFETY: as above.
         listed(|out, len| unsafe { sys::itchsnap_locates(self.handle.at(), out, len) })
     }
 
-    /// The directory: each locate with its stock, by rising locate.
+    /// Returns the directory: each locate with its stock, in ascending order of locate.
     pub fn stocks(self) -> Result<Vec<(u16, String)>, Refused> {
         Ok(self.locates()?.into_iter().filter_map(|it| Some((it, self.stock(it)?))).collect())
     }
 
-    /// The live orders of a locate: bids before asks, each side by priority.
+    /// Returns the live orders of a locate: bids before asks, each side by priority.
     pub fn orders(self, locate: u16) -> Result<Vec<Order>, Refused> {
         // SAFETY: as above.
         let found = listed(|out, len| unsafe { sys::itchsnap_orders(self.handle.at(), locate, out, len) })?;
         Ok(found.into_iter().map(order).collect())
     }
 
-    /// The price levels of a side, the best first.
+    /// Returns the price levels of a side, the best first.
     pub fn levels(self, locate: u16, side: Side) -> Result<Vec<Level>, Refused> {
         // SAFETY: as above.
         let found = listed(|out, len| unsafe { sys::itchsnap_levels(self.handle.at(), locate, side.is_buy(), out, len) })?;

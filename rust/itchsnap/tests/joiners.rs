@@ -16,7 +16,7 @@ fn a_joiner_has_the_market_of_the_feed_whatever_the_order() {
     let payloads: Vec<&[u8]> = day.messages().collect();
     for after in 0..=payloads.len() {
         let mut joiner = Joiner::new(payloads.len()).unwrap();
-        // Every second message comes before the snapshot, the last first; the others follow it.
+        // Every second message arrives before the snapshot, in reverse order; the others follow it.
         for number in (1..=payloads.len()).rev().filter(|it| it % 2 == 0) {
             assert_eq!(joiner.live(number as u64, payloads[number - 1]), Ok(Step::Kept));
         }

@@ -1,4 +1,4 @@
-//! Markets: what they take, what they refuse, and what can be asked of them.
+//! Markets: messages that they accept and refuse, and look-ups.
 
 use itchsnap::{Applied, Day, Level, Market, Part, Price, Reason, Side, messages};
 
