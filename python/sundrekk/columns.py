@@ -83,8 +83,8 @@ class Columns:
         return self._made[name]
 
     def to_numpy(self) -> numpy.ndarray:
-        """Returns a read-only structured array over the memory that the library has written, without a copy. Numbers are big-endian as in messages, and texts
-        keep their trailing spaces. Needs numpy."""
+        """Returns a read-only structured array over the memory that the library has written, without a copy. Numbers are big-endian as
+        in messages, and texts keep their trailing spaces. Needs numpy."""
         import numpy
 
         fields = self.fields.values()

@@ -438,10 +438,11 @@ unsafe extern "C" {
     ///
     /// OK: the bytes end after a block, or at an empty one. NO_ROOM: the next message is selected,
     /// but out is full. Call again with the blocks from len on, and with before set to count.
-    /// TRUNCATED: the bytes end within a block, and detail counts the bytes left over; in a piece of a day file, pass them again at the front of the next piece. 1 to 5: the next
-    /// message is of a listed type, but not valid. Messages of other types are not examined; if no
-    /// type is listed, messages are only counted. Codes: 0 to 5, TRUNCATED, TOO_MANY_MESSAGES,
-    /// NO_ROOM, OUT_OF_MEMORY (nothing was consumed).
+    /// TRUNCATED: the bytes end within a block, and detail counts the bytes left over; in a piece
+    /// of a day file, pass them again at the front of the next piece. 1 to 5: the next message is
+    /// of a listed type, but not valid. Messages of other types are not examined; if no type is
+    /// listed, messages are only counted. Codes: 0 to 5, TRUNCATED, TOO_MANY_MESSAGES, NO_ROOM,
+    /// OUT_OF_MEMORY (nothing was consumed).
     pub fn itchsnap_decode_blocks(
         blocks: *const u8,
         len: usize,
