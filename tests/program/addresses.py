@@ -19,7 +19,8 @@ HOSTS = f"{FIRST} two.test\n{SECOND} two.test\n".encode()
 
 @contextlib.contextmanager
 def named(label):
-    """A folder whose file `hosts` gives the host its addresses, and the words before a command that is to know it; none where that is not possible."""
+    """Yields a folder whose file `hosts` gives the host its addresses, and the prefix with which a command sees that file. Yields None if this
+    machine cannot do that."""
     if subprocess.run([*ALONE, "true"], stderr=subprocess.DEVNULL).returncode != 0:
         print(f"skipped: {label}: no namespaces of its own here")
         yield None
@@ -29,13 +30,13 @@ def named(label):
 
 
 def command(known, program, word, feed, glimpse=None):
-    """`live`, which says where it listens, or `follow`, at ports of the host."""
+    """Runs `live`, which reports where it listens, or `follow`, at ports of the host."""
     servers = ["--feed", f"two.test:{feed}", *(["--glimpse", f"two.test:{glimpse}"] if glimpse else [])]
     return Running(*known, program, word, *servers, *(["--port", "0"] if word == "live" else []), *WORDS, listens=word == "live")
 
 
 def the_next_address_is_tried_where_one_refuses(program):
-    """By `live` and `follow`, of the server of snapshots and of that of the feed: nobody listens at the first address of either."""
+    """For `live` and `follow`, and for both the snapshot server and the feed: nothing listens at the first address."""
     day, _ = day_of(20)
     early = snapshot_after(program, day, 10)
     with named("hosts with two addresses") as known:
@@ -48,7 +49,7 @@ def the_next_address_is_tried_where_one_refuses(program):
 
 
 def after_the_last_address_comes_the_first_again(program):
-    """A feed that is lost at each address in turn is asked at the other one, from the next message on."""
+    """A feed that is lost at each address in turn is retried at the other one, from the next message on."""
     day, _ = day_of(20)
 
     def five_more(peer, login):
@@ -67,7 +68,7 @@ def after_the_last_address_comes_the_first_again(program):
 
 
 def full(address, port, held):
-    """A listener that takes no one more, so that the system answers nobody."""
+    """A listener whose queue is full, so that the system answers no further connection."""
     listener = held.enter_context(socket.socket())
     listener.bind((address, port))
     listener.listen(0)
@@ -79,7 +80,7 @@ def full(address, port, held):
 
 
 def a_snapshot_is_fetched_from_the_address_that_answers(program):
-    """With a time limit and without; where the first address refuses, and where it does not answer."""
+    """With and without a time limit; the first address refuses or does not answer."""
     rows = [("refuses", ()), ("refuses", ("--timeout", "20")), ("is silent", ("--timeout", "1"))]
     with named("a server at two addresses") as known:
         for first, words in rows if known else ():
@@ -91,7 +92,7 @@ def a_snapshot_is_fetched_from_the_address_that_answers(program):
 
 
 def a_host_whose_addresses_refuse_is_named(program):
-    """With a time limit and without, the system's reason is told."""
+    """With and without a time limit, the error line contains the system's reason."""
     with named("a host that refuses") as known, socket.socket() as bound:
         bound.bind((FIRST, 0))
         port = bound.getsockname()[1]
@@ -102,7 +103,7 @@ def a_host_whose_addresses_refuse_is_named(program):
 
 
 def the_status_port_is_at_the_first_address(program):
-    """Of the name that it is given by."""
+    """The first address of the name given to --status."""
     with named("a status port at two addresses") as known:
         if not known:
             return

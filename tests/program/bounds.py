@@ -1,5 +1,5 @@
-"""The limits of `live`, `feed` and `follow`: clients at a time, and lengths of messages and packets; and over a million waiting messages in
-a joiner of the C library.
+"""The limits of `live`, `feed` and `follow`: clients at a time, and lengths of messages and packets; and over a million waiting messages in a joiner
+of the C library.
 
 RUNS lists the runs. Each is a function that is given the program and yields the differences.
 """
@@ -16,21 +16,21 @@ from standby import waits_for
 from starts import TOP
 
 PLACES = 64
-# For how long it is looked whether one more client is accepted, and how long is waited for one that is to be.
+# How long to watch that no further client is accepted, and how long to wait for one that must be accepted.
 LOOK, SECONDS = 1, 10
-# The longest message that fits a packet.
+# The longest message that fits into a packet.
 LONGEST = 65_534
-# In place of a snapshot that was not fetched: its number is 1.
+# Stands in for a snapshot that was not fetched: its number is 1.
 END_1 = b"1"
 
 
 def block_of(length):
-    """The block of a message of this length, of a type that nobody decodes."""
+    """Returns the block of a message of this length, of a type that is not decoded."""
     return length.to_bytes(2, "big") + b"z" * length
 
 
 class Crowd:
-    """Clients that have logged in, of which some are accepted."""
+    """Clients that have logged in, of which some have been accepted."""
 
     def __init__(self, port, count, held):
         self.waiting, self.accepted = [held.enter_context(connect(port)) for _ in range(count)], []
@@ -38,7 +38,7 @@ class Crowd:
             client.sendall(LOGIN)
 
     def are_accepted(self, count):
-        """Whether this many are accepted, and no more."""
+        """Returns whether exactly this many are accepted."""
         until = time.monotonic() + SECONDS
         while len(self.accepted) < count and time.monotonic() < until:
             self.hear(0.1)
@@ -53,7 +53,8 @@ class Crowd:
 
 
 def places_differ(label, port, places):
-    """What differs where a server has this many places for clients of one address: one more is accepted once one leaves."""
+    """Yields what is wrong if a server does not have this many places for clients of one address, or does not accept another client when one
+    leaves."""
     with contextlib.ExitStack() as held:
         crowd = Crowd(port, places + 2, held)
         for count in places, places + 1:
@@ -64,7 +65,7 @@ def places_differ(label, port, places):
 
 
 def so_many_clients_have_a_place(program):
-    """Of `live`, before there is a market, and of `feed`; as many as is said, or 64."""
+    """`live` before it has a market, and `feed`: as many as given, or 64."""
     day, _ = day_of(20)
     begin = threading.Event()
 
@@ -85,7 +86,7 @@ def so_many_clients_have_a_place(program):
 
 
 def a_client_of_a_feed_takes_little_memory(program):
-    """What it hears and what it is sent, and what is read of its file: less than half a megabyte together."""
+    """The buffers to receive and to send, and the part of the file that is read, take less than half a megabyte in total."""
     day, _ = day_of(20)
     with folder_with(day=day) as folder, feeding(program, folder / "day", "--stay") as server, contextlib.ExitStack() as held:
         before = memory_of(server.process)
@@ -97,7 +98,7 @@ def a_client_of_a_feed_takes_little_memory(program):
 
 
 def a_place_of_an_address_is_free_again_once_a_client_has_all(program):
-    """One after the other, where one client of an address has a place at a time; so do one that leaves before, and one that is rejected."""
+    """Clients come one after the other, with one place per address. Clients that leave early or are rejected also free the place."""
     day, wanted = day_of(20)
     end = threading.Event()
     with Feed(plays(day, wait=end, held=ENDED)) as feed, live(program, feed.port, "--clients", "2", "--clients-per-address", "1") as server:
@@ -110,7 +111,7 @@ def a_place_of_an_address_is_free_again_once_a_client_has_all(program):
 
 
 def messages_of_each_length_are_passed_on(program):
-    """From 1 byte to as many as fit a packet: played, recorded, and followed. One that is longer ends the playing."""
+    """Messages from 1 byte to the most that fits into a packet are played, recorded and followed. A longer one ends the playing."""
     blocks = [block_of(it) for it in (1, 2, 61, 62, 63, 255, 256, 8191, 8192, 65_533, LONGEST)]
     day = b"".join(blocks)
     packets = b"".join(map(packet, blocks))
@@ -130,7 +131,7 @@ def messages_of_each_length_are_passed_on(program):
 
 
 def a_feed_is_played_from_each_number(program):
-    """Of more messages than are passed over or played in one turn, which is 4,096."""
+    """The day has more than 4,096 messages, the most that are skipped or played in one turn."""
     count = 10_000
     blocks = [block_of(1 + number % 3) for number in range(count)]
     with folder_with(day=b"".join(blocks)) as folder, feeding(program, folder / "day") as server:
@@ -140,7 +141,7 @@ def a_feed_is_played_from_each_number(program):
 
 
 def what_comes_before_a_login_may_be_of_each_length(program):
-    """Debug text and unsequenced data are passed over, as long as a packet can be. A packet of another type is a fault, whatever its length is."""
+    """Debug text and unsequenced data of any length that a packet can have are skipped. A packet of another type is a fault, whatever its length."""
     day, wanted = day_of(20)
     end = threading.Event()
     lengths = (0, 1, 44, 60, 61, 62, 63, 64, 125, 65_534)
@@ -159,7 +160,7 @@ def what_comes_before_a_login_may_be_of_each_length(program):
 
 
 def more_than_a_million_messages_wait_in_a_joiner(_program):
-    """As many as its caller said, and no more (waiting.c)."""
+    """Exactly as many as the caller allows (waiting.c)."""
     with folder_with() as folder:
         source, library = TOP / "tests/program/waiting.c", TOP / "release/libitchsnap.so"
         subprocess.run(["gcc", "-O1", "-o", folder / "waiting", source, "-I", TOP / "c", library, f"-Wl,-rpath,{library.parent}"], check=True)

@@ -18,11 +18,11 @@ from standby import waits_for
 
 OPENED = "accept4 bind connect epoll_create1 epoll_ctl getsockname listen setsockopt socket".split()
 KEPT = "flock ftruncate open rename statx sync".split()
-# A file that only holds a descriptor may be opened later.
+# A file of which only the descriptor is kept may be opened later.
 MAY_GO_UNNOTICED = [*OPENED, "open"]
 KEPT_BEFORE, LOST_AT, EVERY, CLIENTS = 10, 30, 40, 2
 REASON = "Input/output error (os error 5)"
-# How long a client may wait for its answer before it tries again, and a server for all that it is to do.
+# How long a client may wait for its answer before it retries, and how long a server has for everything.
 SECONDS = 10
 # This many runs are made at the same time.
 BESIDE = 8
@@ -35,7 +35,8 @@ def shim():
 
 
 def failing_in_turn(attempt, kinds):
-    """What differs where each call of each kind fails in turn. `attempt` runs the program so, and says what differs and whether a call has failed."""
+    """Makes each call of each kind fail in turn, and yields the differences. `attempt` runs the program with one failing call; it returns the
+    differences and whether a call has failed."""
     with ThreadPoolExecutor(BESIDE) as side_by_side:
         for kind in kinds:
             first, has_failed = 1, True
@@ -49,7 +50,7 @@ def failing_in_turn(attempt, kinds):
 
 
 def told_once(port):
-    """What a client is told; none where it is told nothing for too long."""
+    """Returns what a client receives, or None if it receives nothing for too long."""
     try:
         with connect(port) as peer:
             peer.settimeout(SECONDS)
@@ -62,7 +63,7 @@ def told_once(port):
 
 
 def is_told(server, wanted):
-    """Whether a client is told this, which tries again at once where its connection is closed before."""
+    """Returns whether a client receives this. If its connection is closed before, it retries at once."""
     until = time.monotonic() + SECONDS
     while (got := told_once(server.port)) not in (wanted, None) and server.process.poll() is None and time.monotonic() < until:
         time.sleep(0.02)
@@ -70,7 +71,8 @@ def is_told(server, wanted):
 
 
 def refused_to_start(server):
-    """What differs in the ending of a process that cannot start: status 3, what failed, and at what, with the system's reason."""
+    """Yields what is wrong with the end of a process that cannot start. It must be status 3, with what failed, on which object, and the system's
+    reason."""
     status, output, lines = server.ended()
     ending = "".join(it for it in lines if not it.startswith("record: dropped "))
     if (status, output) != (3, b"") or not re.fullmatch(rf"itchsnap: (cannot open|socket failed)\n  \S+: {re.escape(REASON)}\n", ending):
@@ -78,8 +80,8 @@ def refused_to_start(server):
 
 
 def unwritten(status, lines, record, kind):
-    """What differs in the ending of a server that could not cut its record or write the name of its session next to it, or sync the record or look at it:
-    nothing else ends it."""
+    """Yields what is wrong with the end of a server. Only one reason is accepted: it could not cut, sync or examine its record, or write the session
+    name next to it."""
     name = re.escape(str(record))
     wanted = rf"cannot open\n  {name}\.session"
     if kind == "ftruncate":
@@ -92,13 +94,13 @@ def unwritten(status, lines, record, kind):
 
 
 def numbered(output):
-    """Whether each line is of a connection, and each connection has one."""
+    """Returns whether the output has exactly one line for each connection."""
     numbers = [int(it) for it in re.findall(rb"^connection (\d+): .*$", output, re.M)]
     return sorted(numbers) == list(range(1, output.count(b"\n") + 1))
 
 
 class Kept:
-    """A server of one place that continues with a record, whose feed is lost once, and writes snapshots; and what it is to end with."""
+    """A server with one place that continues a record, loses its feed once and writes snapshots; and the results that it must produce."""
 
     def __init__(self, program, library):
         self.program, self.library = program, library
@@ -143,26 +145,26 @@ class Kept:
 
 
 def is_missed(written, wanted, line, folder):
-    """Whether one snapshot alone is missing, and is the one that is said not to be written."""
+    """Returns whether exactly one snapshot is missing, and is the one reported as not written."""
     missing = wanted.keys() - written.keys()
     said = f"snapshots: 1 not written, the last one {folder}/snapshots/{''.join(missing)}: {REASON}\n"
     return len(missing) == 1 and line == said and all(wanted.get(name) == data for name, data in written.items())
 
 
 def a_server_goes_on_where_a_call_at_a_socket_fails(program):
-    """Each client that comes later is served, at the one place that there is."""
+    """Each client that comes later is served, although there is only one place."""
     with shim() as library:
         yield from failing_in_turn(Kept(program, library).attempt, OPENED)
 
 
 def a_server_goes_on_where_a_call_at_a_file_fails(program):
-    """The record and the snapshots are complete, but for one snapshot that is said not to be written; or it ends, and names the record."""
+    """Either the record and the snapshots are complete, apart from a snapshot reported as not written; or the server ends and names the record."""
     with shim() as library:
         yield from failing_in_turn(Kept(program, library).attempt, KEPT)
 
 
 def a_record_that_cannot_be_looked_at_is_lost(program):
-    """It is looked at each second: the server ends, or says so and continues where the record is optional."""
+    """The server examines its record every second. If it fails, the server ends; with --record-optional it reports that and continues."""
     day, snapshot = day_of(20)
     for words in [], ["--record-optional"]:
         end = threading.Event()
@@ -185,7 +187,8 @@ def a_record_that_cannot_be_looked_at_is_lost(program):
 
 
 def what_gets_its_name_is_on_disk(program):
-    """Where nothing can be synced, no snapshot and no session file gets its name: that is said of the first, and ends the server at the second."""
+    """If nothing can be synced, no snapshot and no session file is renamed into place. For the snapshot that is reported; for the session file it
+    ends the server."""
     day, wanted = day_of(60)
     with shim() as library, folder_with() as folder:
         (folder / "fails").touch()
@@ -207,7 +210,8 @@ def what_gets_its_name_is_on_disk(program):
 
 
 def an_index_that_gets_its_name_is_on_disk(program):
-    """Where it cannot be synced without the line of an old snapshot, both stay, and that is said. Nothing is left of what was written of it."""
+    """If the index cannot be synced without the line of an old snapshot, both the line and the snapshot stay, and this is reported. No temporary file
+    is left."""
     day, _ = day_of(60)
     # One sync of the session file, one of each snapshot, and then that of the index.
     with shim() as library, folder_with() as folder, Feed(plays(day, then=ENDED)) as feed:
@@ -223,7 +227,7 @@ def an_index_that_gets_its_name_is_on_disk(program):
 
 
 def a_connection_that_cannot_be_made_has_its_own_cause(program):
-    """A call that fails is not a server that refuses."""
+    """A failed call is not reported as a refusal by the server."""
     with shim() as library, folder_with() as folder, Feed(plays(day_of(20)[0], then=ENDED)) as feed:
         words = "--feed", f"127.0.0.1:{feed.port}", "--port", "0", *WORDS, "--log", "text"
         environment = {"LD_PRELOAD": str(library), "FAIL": "connect:1", "FAILED": str(folder / "failed")}
@@ -253,7 +257,7 @@ def a_feed_goes_on_where_a_call_fails(program):
 
 
 def a_follower_goes_on_where_a_call_fails(program):
-    """It has each message once."""
+    """The output contains each message once."""
     day, _ = day_of(30)
     early, wanted = snapshot_after(program, day, 10), b"".join(split(day)[10:])
 

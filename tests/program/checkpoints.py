@@ -20,7 +20,7 @@ OFFSETS = [sum(map(len, DAY[:count])) for count in range(len(DAY) + 1)]
 
 @contextlib.contextmanager
 def folder_of(program, *words, day=b"".join(DAY)):
-    """A folder with a day, and the snapshots that `snap` writes of it with these words."""
+    """Yields a folder with a day, and the snapshots that `snap` writes of it with these arguments."""
     with tempfile.TemporaryDirectory() as name:
         folder = Path(name)
         (folder / "day.itch").write_bytes(day)
@@ -53,7 +53,7 @@ def a_line_without_a_timestamp_is_for_numbers_only(program):
             for time in ("00:00:00.000000002", "00:00:00.000000009"):
                 wanted = 0, snapped(folder, program, "--until", time), b""
                 yield from differs((timestamp, time), ended_in(folder, program, "at", "d", "day.itch", time), wanted)
-            # With the line, the messages before are not read: here they are zeros, which would be refused otherwise.
+            # The line makes `at` skip the earlier messages. Here they are zeros, which would be refused if read.
             index.write_text(json.dumps({"messages": 3, "offset": OFFSETS[3], **timestamp}) + "\n")
             (folder / "rest.itch").write_bytes(bytes(OFFSETS[3]) + b"".join(DAY[3:]))
             wanted = 0, snapped(folder, program, "--after", "5"), b""
@@ -78,7 +78,7 @@ def a_feed_that_ends_before_its_checkpoint_is_refused(program):
         hint = "day.itch.gz: this is a gzip file: zcat day.itch.gz | itchsnap at .. - .."
         got = ended_in(folder, program, "at", "d", "day.itch.gz", "00:00:00.000000006")
         yield from differs("gzip", got, refused("beyond the end of the feed", hint))
-        # An offset that no file has.
+        # An offset beyond the end of any file.
         (folder / "d/index.jsonl").write_text(json.dumps({"messages": 4, "offset": 2 ** 63, "timestamp": 5}) + "\n")
         got = ended_in(folder, program, "at", "d", "day.itch", "5")
         yield from differs("2^63", got, refused("beyond the end of the feed", "day.itch: it ends before the checkpoint in d"))
@@ -127,7 +127,7 @@ def partial_snapshots_answer_for_their_locates_only(program):
 
 
 def the_snapshots_of_another_day_are_refused(program):
-    # Enough messages that neither their first bytes nor their last ones are all of them.
+    # Enough messages that the first and the last bytes checked do not cover all of them.
     filling = [file("START_STAMPED")] * 6000
     for changed in (1, 5990):
         blocks = DAY + filling
@@ -139,7 +139,7 @@ def the_snapshots_of_another_day_are_refused(program):
             yield from differs(changed, got, refused("of another day", "d: its snapshots are of another day file than other.itch"))
             got = piped(folder, program, "at", "d", "-", "6007", feed=other)
             yield from differs(changed, got, refused("of another day", "d: its snapshots are of another day file than standard input"))
-            # An index of an earlier version says nothing of the day, and is trusted.
+            # An index of an earlier version does not describe the day, and is trusted.
             line = json.loads((folder / "d/index.jsonl").read_text())
             (folder / "d/index.jsonl").write_text(json.dumps({key: line[key] for key in ("messages", "offset", "timestamp")}) + "\n")
             yield from differs(changed, ended_in(folder, program, "at", "d", "other.itch", "6006")[0], 0)
@@ -168,14 +168,14 @@ def a_long_line_is_passed_over_and_not_held(program):
             yield f"{taken}"
         wanted = 0, snapped(folder, program, "--after", "5"), b""
         yield from differs("after", ended_in(folder, program, "at", "d", "day.itch", "5"), wanted)
-        # The rest of a line after half a megabyte belongs to that line, and is not a line of its own: the snapshot that it names does not exist.
+        # A line continues after half a megabyte; the rest is not a line of its own. The snapshot that the rest names does not exist.
         index.write_bytes(lines[0] + b" " * (1 << 19) + lines[1])
         (folder / "d/4.snap").unlink()
         yield from differs("the rest of a line", ended_in(folder, program, "at", "d", "day.itch", "5"), wanted)
 
 
 def each_read_fails_in_turn(program):
-    """Of the index, the snapshot and the day: the file is named, and nothing is written."""
+    """A read of the index, the snapshot or the day fails: the file is named, and nothing is written."""
     with folder_of(program, "--after", "2") as folder, tempfile.TemporaryDirectory() as apart:
         shim, failed = failing.build_shim(apart), Path(apart) / "failed"
         words = "at", "d", "day.itch", "5"

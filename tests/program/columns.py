@@ -1,4 +1,4 @@
-"""`show --csv` of one type of message, against a reader of its own that is written from the standard.
+"""`show --csv` of one type of message, against an independent reader that is written from the standard.
 
 RUNS lists the runs. Each is a function that is given the program and yields the differences.
 """
@@ -18,13 +18,13 @@ DAYS = range(8)
 
 
 def names_of(kind):
-    """The names of the columns of a type."""
+    """Returns the names of the columns of a type."""
     names = [it for name, sort, _ in fields_of(kind) for it in ([name, "ns"] if sort == "t" else [name])] if kind in FIELDS else ["length"]
     return ["number", "type", *names]
 
 
 def values_of(payload):
-    """The values of a message after its number and its type, as texts."""
+    """Returns the values of a message after its number and its type, as texts."""
     kind, at, found = chr(payload[0]), 1, []
     if kind not in FIELDS:
         return [str(len(payload))]
@@ -41,17 +41,17 @@ def values_of(payload):
 
 
 def field(text):
-    """A field as RFC 4180 has it, within quotation marks only if it needs them."""
+    """Returns a field as in RFC 4180, in quotation marks only if it needs them."""
     return '"' + text.replace('"', '""') + '"' if "," in text or '"' in text else text
 
 
 def wanted_of(kind, payloads):
-    """The heading and the rows of a type, of messages with their numbers."""
+    """Returns the heading and the rows of a type, for messages with their numbers."""
     return [names_of(kind), *([str(number), kind, *values_of(it)] for number, it in payloads)]
 
 
 def agreement(label, program, day, kind, payloads, *words):
-    """What differs between the program's output and the rows of these messages."""
+    """Yields the differences between the program's output and the rows of these messages."""
     status, output, error = ended(program, "show", "day.itch", "--csv", "--types", kind, *words, day=day)
     wanted = wanted_of(kind, payloads)
     yield from differs(f"{label} {kind}: status and error", (status, error), (0, b""))
@@ -76,7 +76,7 @@ def rows_of_random_days_are_those_of_another_reader(program):
 
 
 def filters_choose_the_messages_that_lines_have(program):
-    """The messages that `show` prints as lines with the same words."""
+    """The messages are those that `show` prints as lines with the same arguments."""
     for seed in DAYS:
         made, rng = Writer(seed), random.Random(seed)
         for words in (("--stock", "AAPL"), ("--only", "2,4-5"), ("--reference", str(rng.randint(1, 60))), ("--from", "40"), ("--since", "10:30"),

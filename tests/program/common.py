@@ -1,4 +1,4 @@
-"""What the modules of runs share: files of named blocks, and the program in a folder of its own."""
+"""Helpers for the modules of runs: files made of named blocks, and the program in a folder of its own."""
 import configparser
 import functools
 import os
@@ -20,18 +20,18 @@ def read_table(name):
 
 @functools.lru_cache(maxsize=1)
 def blocks():
-    """The blocks of blocks.ini, by their names."""
+    """Returns the blocks of blocks.ini, by name."""
     return {name: bytes.fromhex(digits) for name, digits in read_table("blocks.ini")["blocks"].items()}
 
 
 def file(words):
-    """The bytes of these blocks, each given by its name or in hexadecimal digits."""
+    """Returns the bytes of these blocks, each given by its name or in hexadecimal digits."""
     return b"".join(blocks()[word] if word in blocks() else bytes.fromhex(word) for word in words.split())
 
 
 def readable(sources, seconds):
-    """Those of some files and sockets that can be read, as soon as one can, or none after this many seconds. (select.select takes no number
-    above 1023.)"""
+    """Waits until some of these files and sockets are readable and returns those, or none after this many seconds. (select.select does not
+    accept descriptors above 1023.)"""
     poll = select.poll()
     numbers = {it.fileno(): it for it in sources}
     for number in numbers:
@@ -40,7 +40,7 @@ def readable(sources, seconds):
 
 
 def split(data):
-    """The blocks of these bytes, of which the last one may be cut."""
+    """Splits bytes into blocks, of which the last may be cut."""
     found, at = [], 0
     while at < len(data):
         end = at + 2 + int.from_bytes(data[at:at + 2], "big")
@@ -50,7 +50,7 @@ def split(data):
 
 
 def ended(program, *words, **files):
-    """The status and both outputs of the program in a folder with these files, `day` being `day.itch`."""
+    """Runs the program in a folder with these files, `day` being `day.itch`, and returns its status and both outputs."""
     with tempfile.TemporaryDirectory() as folder:
         for name, data in files.items():
             (Path(folder) / f"{name}.itch").write_bytes(data)
@@ -58,7 +58,7 @@ def ended(program, *words, **files):
 
 
 def ended_in(folder, program, *words, **environment):
-    """The same in this folder, with these variables."""
+    """The same in this folder, with these environment variables."""
     done = subprocess.run([program, *words], cwd=folder, env={**os.environ, **environment}, capture_output=True, stdin=subprocess.DEVNULL,
                           timeout=60)
     return done.returncode, done.stdout, done.stderr
@@ -70,8 +70,8 @@ def differs(label, got, wanted):
 
 
 def first_unmet(fails):
-    """The number of the first call that is not made. `fails` runs the program with the call of a number failing, and says whether there
-    is one."""
+    """Returns the number of the first call that is not made. `fails` runs the program with the given call failing, and returns whether
+    there was such a call."""
     low, high = 1, 1000
     while low < high:
         middle = (low + high) // 2

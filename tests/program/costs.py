@@ -14,7 +14,7 @@ from common import differs
 from living import folder_with
 
 ORDERS = 300_000
-# A process of little memory starts the program and reports its memory, since that of the starting process counts too.
+# A small process starts the program and reports its memory, because the memory of the starting process counts too.
 MEASURE = """
 import resource, subprocess, sys
 status = subprocess.run(sys.argv[1:], stdout=subprocess.DEVNULL).returncode
@@ -30,14 +30,14 @@ class Cost(NamedTuple):
 
 
 def cost(*words):
-    """What a command takes: user time and memory."""
+    """Returns the user time and the memory of a command."""
     done = subprocess.run([sys.executable, "-c", MEASURE, *words], capture_output=True, check=True, timeout=60)
     status, seconds, kilobytes = done.stdout.split()
     return Cost(int(status), float(seconds), int(kilobytes))
 
 
 def orders_apart(step):
-    """A day of orders that stay, with references so far apart."""
+    """Returns a day of orders that stay live, whose references are this far apart."""
     start, end = large.block(b"A", 1, bytes(8))[:13], b"B" + struct.pack(">I8sI", 100, large.stock(1), 10_000)
     # The length is that of the complete block.
     start = struct.pack(">H", len(start) + 8 + len(end) - 2) + start[2:]
@@ -45,7 +45,7 @@ def orders_apart(step):
 
 
 def references_far_apart_take_little_memory(program):
-    """With a page of the table of references for each order, or for each order and seven more pages next to it."""
+    """Each order needs a page of the reference table to itself, or that page and seven next to it."""
     dense, *sparse = (orders_apart(step) for step in (1, 128, 1024))
     with folder_with(dense=dense, pages=sparse[0], eighths=sparse[1]) as folder:
         least = cost(program, "snap", folder / "dense")
@@ -57,7 +57,8 @@ def references_far_apart_take_little_memory(program):
 
 
 def work(program, *words):
-    """How much a command executes: instructions, which are the same however busy the machine is, or user time where there is no valgrind."""
+    """Returns the amount of work of a command: instructions, which do not depend on the load of the machine, or user time if valgrind is not
+    installed."""
     if not shutil.which("valgrind"):
         return min(cost(program, *words).seconds for _ in range(3))
     done = subprocess.run(["valgrind", "--tool=callgrind", "--callgrind-out-file=/dev/null", program, *words], stdout=subprocess.DEVNULL,
@@ -66,7 +67,7 @@ def work(program, *words):
 
 
 def the_first_difference_takes_little_longer_than_two_checks(program):
-    """Of messages that are not decoded, as short as they can be."""
+    """The messages are as short as possible, and of a type that is not decoded."""
     with folder_with(day=b"\0\1z" * 500_000) as folder:
         one = work(program, "check", folder / "day")
         both = work(program, "compare", "--first", folder / "day", folder / "day")

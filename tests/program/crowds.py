@@ -26,7 +26,7 @@ PORT = 5100
 
 
 def told_at_a_byte_a_second(port, seconds):
-    """What a client is told that takes a byte a second, for this long at most."""
+    """Returns what a client receives that reads a byte per second, for this long at most."""
     got = b""
     with connect(port, 4096) as peer, contextlib.suppress(OSError):
         peer.sendall(LOGIN)
@@ -39,7 +39,7 @@ def told_at_a_byte_a_second(port, seconds):
 
 
 def sixty_four_clients_at_once(program):
-    """One never reads, one takes a byte a second, one sends nonsense, one logs in and leaves, and sixty have their 8 MB meanwhile."""
+    """One client never reads, one reads a byte per second, one sends nonsense, and one logs in and leaves. Meanwhile sixty receive their 8 MB."""
     fast = PLACES - 4
     with large_server(program) as (server, whole, end), contextlib.ExitStack() as held, ThreadPoolExecutor(PLACES) as clients:
         before = memory_of(server.process)
@@ -59,7 +59,7 @@ def sixty_four_clients_at_once(program):
             got = received(never)
             if len(got) == len(whole):
                 yield "a client that never read was told all"
-        # One snapshot for all, in 43 bytes for each message, and what is heard of each client.
+        # One snapshot for all, at 43 bytes per message, and the buffers of each client.
         room = 43 * len(split(whole)) + PLACES * 65_537 + (4 << 20)
         for kind, kilobytes in memory_of(server.process).items():
             if 1024 * (kilobytes - before[kind]) > room:
@@ -67,13 +67,13 @@ def sixty_four_clients_at_once(program):
         end.set()
         status, output, _ = server.ended(120)
     ends = collections.Counter(line.split(": ", 1)[1].split(" at ")[0] for line in output.decode().splitlines())
-    # One that leaves with something unread resets its connection, which is a fault of its socket.
+    # A client that leaves with unread data resets its connection, which is a socket fault.
     gone = ends.pop("left", 0) + ends.pop("fault", 0)
     yield from differs("endings", (status, gone, ends), (0, 2, collections.Counter({"accepted": fast, "cut off": 2})))
 
 
 def a_snapshot_of_a_million_messages_is_served(program):
-    """By a server that has recorded them, to two clients."""
+    """The server has recorded the messages, and serves two clients."""
     day, wanted = large.queue(1_000_000)
     with folder_with(day=day) as folder, feeding(program, folder / "day", "--stay") as feed, \
             live(program, feed.port, "--record", folder / "record", "--stay") as server:
@@ -83,7 +83,7 @@ def a_snapshot_of_a_million_messages_is_served(program):
 
 
 def is_asked_again(program, day, scripts):
-    """A feed that plays these scripts one after the other, and then all: the record has each message once."""
+    """Plays these scripts, one per connection, and then the complete feed. The record must contain each message once."""
     with tempfile.TemporaryDirectory() as folder:
         record = Path(folder, "record.itch")
         with Feed(*scripts, plays(day, then=ENDED)) as feed, live(program, feed.port, "--record", record) as server:
@@ -95,7 +95,7 @@ def is_asked_again(program, day, scripts):
 
 
 def are_asked_again(program, day, scripts):
-    """So, by servers side by side with some of the scripts each: a feed that is lost again and again is asked later each time."""
+    """Does this with parallel servers that share the scripts, because a feed that is lost again and again is retried later each time."""
     with ThreadPoolExecutor(len(scripts)) as servers:
         for found in servers.map(lambda some: [*is_asked_again(program, day, some)], [scripts[at::8] for at in range(8)]):
             yield from found
@@ -108,7 +108,7 @@ def a_feed_is_cut_at_every_byte_of_an_acceptance(program):
 
 
 def a_feed_is_cut_at_every_byte_of_a_packet(program):
-    """The packet of an added order: the messages before it are played once, and it is asked for at each connection."""
+    """The packet is that of an added order: the messages before it are played once, and it is requested again at each connection."""
     day, _ = day_of(50)
     blocks = split(day)
     place = next(place for place, block in enumerate(blocks) if block[2:3] == b"A")
@@ -117,7 +117,7 @@ def a_feed_is_cut_at_every_byte_of_a_packet(program):
 
 
 def captured(pieces):
-    """A capture of these pieces of a connection, each with whether the server sent it: Ethernet, IPv4 and TCP without checksums."""
+    """Returns a capture of a connection in these pieces, each with whether the server sent it: Ethernet, IPv4 and TCP without checksums."""
     capture = struct.pack("<IHHiIII", 0xA1B2C3D4, 2, 4, 0, 0, 1 << 18, 1)
     sent = {True: 1, False: 1}
     for is_server, data in pieces:
@@ -133,7 +133,7 @@ def captured(pieces):
 
 
 def wireshark_reads_the_packets(program):
-    """Wireshark's dissector of SoupBinTCP finds the packets of a client's session: its login, and what it is told."""
+    """Wireshark's SoupBinTCP dissector finds the packets of a client's session: its login, and everything that it receives."""
     if not (tshark := shutil.which("tshark")):
         print("skipped: what Wireshark makes of a session: no tshark here")
         return
@@ -144,7 +144,8 @@ def wireshark_reads_the_packets(program):
             time.sleep(0.05)
         said = told(server.port, LOGIN)
         end.set()
-    # The login's answer is a segment of its own: after it Wireshark's dissector begins another stream, and joins no packet to what came before.
+    # The login's answer is in a segment of its own. After it, Wireshark's dissector begins another stream, and does not reassemble packets with
+    # earlier data.
     accepted = len(acceptance(1))
     session = [(False, LOGIN), (True, said[:accepted]), (True, said[accepted:])]
     with tempfile.TemporaryDirectory() as folder:

@@ -27,35 +27,35 @@ RULES, CASES, CONFIGURATION = (DEPLOY / it for it in ("itchsnap.rules.yml", "itc
 IMAGE = DEPLOY / "Dockerfile"
 OPERATING, OUTPUT = TOP / "docs/OPERATING.md", TOP / "docs/OUTPUT.md"
 SOURCES = TOP / "crates"
-# The most exposure that systemd may find in the unit, in tenths.
+# The greatest exposure that systemd may report for the unit, in tenths.
 EXPOSURE = 20
-# A snapshot is written after every N messages.
+# A snapshot is written after every EVERY messages.
 EVERY = 50
-# Each service has an address of its own on this machine, and the ports of the file of variables.
+# Each service has its own address on this machine, with the ports of the environment file.
 NETWORKS = itertools.count(64)
 
 
 def tool(name, what):
-    """A tool, or none, in which case a line says what is left out."""
+    """Returns a tool. If it is not installed, prints what is skipped, and returns None."""
     if not (found := shutil.which(name)):
         print(f"skipped: {what}: no {name} here")
     return found
 
 
 def says(*words, **more):
-    """What a command ended with: its status, and both outputs together."""
+    """Returns the status of a command, and both outputs together."""
     done = subprocess.run([str(it) for it in words], stdin=subprocess.DEVNULL, stdout=subprocess.PIPE, stderr=subprocess.STDOUT, text=True,
                           timeout=PATIENCE, **more)
     return done.returncode, done.stdout
 
 
 def setting(name):
-    """The values of a setting of the unit, in order. A line that ends with a reverse solidus continues in the next one."""
+    """Returns the values of a setting of the unit, in order. A line that ends with a backslash continues on the next one."""
     return re.findall(rf"^{name}=(.*)$", re.sub(r"\\\n *", "", UNIT.read_text()), re.M)
 
 
 def what_systemd_says_of_the_unit(program):
-    """Nothing, where the program is installed; and its exposure is small."""
+    """With the program installed, systemd reports no problem and a low exposure."""
     if not (analyze := tool("systemd-analyze", "what systemd says of the unit")):
         return
     with folder_with() as folder:
@@ -79,7 +79,7 @@ def the_user_of_the_unit_is_made(program):
 
 
 class Service:
-    """The commands of the unit, for a feed at this port, in a folder in place of those of the system."""
+    """Runs the commands of the unit for a feed at this port, with a test folder in place of the system's."""
 
     def __init__(self, program, folder, feed):
         self.folder = folder
@@ -98,7 +98,7 @@ class Service:
         self.variables |= own
 
     def command(self, name):
-        """The words of a command of the unit, as systemd makes them."""
+        """Returns the arguments of a command of the unit, as systemd expands them."""
         (line,) = setting(name)
         for specifier, meaning in (("%S", f"{self.folder}/state"), ("/etc/itchsnap", f"{self.folder}/etc"), ("%i", "a"), ("%%", "%")):
             line = line.replace(specifier, meaning)
@@ -112,26 +112,27 @@ class Service:
         return {**self.variables, **dict(it.split("=", 1) for it in setting("Environment")), "PATH": f"{self.folder}/bin:/usr/bin:/bin"}
 
     def start(self):
-        """The server, as the unit starts it."""
+        """Starts the server as the unit does."""
         masked = "sh", "-c", 'umask "$0"; exec "$@"', *setting("UMask")
         return Running(*masked, *self.command("ExecStart"), listens=False, **self.environment())
 
     def waited(self):
-        """What the unit does before it is active: the status and the output of that."""
+        """Runs what the unit runs before it is active. Returns the status and the output."""
         return says(*self.command("ExecStartPost"), env=self.environment())
 
     def fetch(self):
-        """What a client gets: the status and both outputs."""
+        """Fetches as a client. Returns the status and both outputs."""
         return fetch(self.folder / "bin/itchsnap", self.port, "--host", self.address)
 
     def files(self):
-        """The files that the server keeps, by their names, and the modes of all files and folders."""
+        """Returns the files that the server keeps, by name, and the modes of all files and folders."""
         below = [*(self.folder / "state").rglob("*")]
         return {it.name: it for it in below if it.is_file()}, {(it.is_dir(), it.stat().st_mode & 0o777) for it in below}
 
 
 def the_unit_serves_a_feed(program):
-    """Its first server is not there. The unit is active once clients are served; stopped, it has recorded the day, and started again it continues."""
+    """The first feed server is down. The unit becomes active when clients are served. When stopped it has recorded the day, and when started again it
+    continues."""
     day, wanted = day_of(200)
     count = len(split(day))
     with folder_with() as folder, Feed(plays(day, wait=threading.Event())) as feed:
@@ -150,12 +151,12 @@ def the_unit_serves_a_feed(program):
             yield from differs(f"{attempt}: modes", modes, {(True, 0o700), (False, 0o600)})
         for messages in range(EVERY, count + 1, EVERY):
             yield from differs(f"snapshot {messages}", files[f"{messages}.snap"].read_bytes() == snapshot_after(program, day, messages), True)
-        # Each time first for the session that the feed is in.
+        # Each start first asks which session the feed is in, with a login from message 1.
         yield from differs("asked for", feed.asked(), [1, 1, 1, count + 1])
 
 
 def statuses_after_which_the_unit_is_started_again(program):
-    """Not after a wrong login, a refused message or an option that is not known; but after a port that is in use."""
+    """No restart after a wrong login, a refused message or an unknown option; a restart after a port was in use."""
     prevented = {int(it) for it in setting("RestartPreventExitStatus")[0].split()}
     day, _ = day_of(20)
     refused = day + split(day)[-1]
@@ -174,7 +175,7 @@ def statuses_after_which_the_unit_is_started_again(program):
 
 
 def system_calls(analyze, names):
-    """The system calls of these sets and calls."""
+    """Returns the system calls in these sets, and these calls."""
     said = says(analyze, "syscall-filter", *[it for it in names if it.startswith("@")])[1]
     named = {*names, *re.findall(r"^    (@?\w[\w-]*)$", said, re.M)}
     nested = {it for it in named if it.startswith("@")} - {*names}
@@ -182,7 +183,7 @@ def system_calls(analyze, names):
 
 
 def the_unit_allows_each_system_call(program):
-    """Those of a server with a record, snapshots, a status port and a client, of the shell that starts it, and of `status`."""
+    """The calls of a server with a record, snapshots, a status port and a client, of the shell that starts it, and of `status`."""
     analyze, strace = (tool(it, "the system calls that the unit allows") for it in ("systemd-analyze", "strace"))
     if not analyze or not strace:
         return
@@ -220,7 +221,8 @@ def what_prometheus_says_of_the_rules(program):
 
 
 def a_lost_feed_raises_an_alert(program):
-    """Prometheus has the rules and scrapes a server: it computes the lag, and knows of the loss and its cause. Times are a second in place of 15."""
+    """Prometheus loads the rules and scrapes a server. It computes the lag, and reports the loss of the feed and its cause. Intervals are 1 second
+    instead of 15."""
     if not (found := tool("prometheus", "the alert of a lost feed")):
         return
     day, _ = day_of(20)
@@ -237,7 +239,7 @@ def a_lost_feed_raises_an_alert(program):
         with prometheus(found, folder) as port:
             lag = waits_for(lambda: asked_of(port, "itchsnap:lag_seconds"))
             yield from differs("lag", bool(lag) and -60 <= float(lag[0]["value"][1]) < 3540, True)
-            # The day's times are not those of the clock, so the alert of the lag may be pending.
+            # The day's times are not those of the clock, so the lag alert may be pending.
             yield from differs("before", asked_of(port, 'ALERTS{alertname="ItchsnapFeedLost"}'), [])
             closing.set()
             alert = waits_for(lambda: asked_of(port, 'ALERTS{alertname="ItchsnapFeedLost", alertstate="pending"}'))
@@ -250,7 +252,8 @@ def alerts():
 
 
 def each_figure_that_is_named_is_served(program):
-    """Those of the rules, of their cases and of the page, and the states of a feed; and those that OUTPUT specifies are all that there are."""
+    """The figures named in the rules, in their test cases and on the page, and the states of a feed, are served. OUTPUT specifies all figures that
+    are served, and no others."""
     day, _ = day_of(20)
     with Feed(plays(day, wait=threading.Event())) as feed, watched(program, feed.port) as server:
         text = page(server, "/metrics")[2].decode()
@@ -269,31 +272,31 @@ def each_figure_that_is_named_is_served(program):
 
 
 def rows(title, file=OPERATING):
-    """The rows of the first table below a title of a page, each a list of its cells."""
+    """Returns the rows of the first table below a title on a page, each as a list of cells."""
     below = file.read_text().split(f"# {title}\n", 1)[1]
     table = re.search(r"(?:^\|.*\n)+", below, re.M)[0]
     return [[cell.strip() for cell in line.strip("|").split("|")] for line in table.splitlines()[2:]]
 
 
 def quoted(text):
-    """The words in backticks."""
+    """Returns the words in backticks."""
     return re.findall(r"`([^`]+)`", text)
 
 
 def texts_of(file, function):
-    """The texts in the functions of a source whose first lines begin so."""
+    """Returns the texts in all functions of a source file whose first line begins like this."""
     bodies = re.findall(rf"^( *){re.escape(function)}(.*?)^\1}}", (SOURCES / file).read_text(), re.M | re.S)
     return {text for _, body in bodies for text in re.findall(r'"([^"]*)"', body)}
 
 
 def events():
-    """The events that a log may have."""
+    """Returns the events that a log may contain."""
     files = [it.relative_to(SOURCES) for it in SOURCES.glob("*/src/**/*.rt") if re.search(r"^impl(?:<.*>)? Event for", it.read_text(), re.M)]
     return {event for file in files for event in texts_of(file, "fn name(&self)")}
 
 
 def the_page_has_each_line_of_the_log(program):
-    """Each event, each cause of a lost feed and each way in which a client may leave, and no others; so has OUTPUT the events."""
+    """The page lists exactly the events, the causes of a lost feed, and the ways in which a client may leave. OUTPUT also lists the events."""
     listed = {it for row in rows("Log lines") for it in quoted(row[0])}
     yield from differs("events", listed, events())
     causes = {it for row in rows("A lost feed") for it in quoted(row[0])}
@@ -308,7 +311,8 @@ def the_page_has_each_alert(program):
 
 
 def the_page_has_each_exit_code(program):
-    """Those that OUTPUT specifies; those that are not to be started again are those of the unit. Each error that it names is one of OUTPUT."""
+    """The page lists the exit codes that OUTPUT specifies, and `no` for exactly those after which the unit is not restarted. Each error that it names
+    is in OUTPUT."""
     specified = re.findall(r"^\| (\d+) \|", OUTPUT.read_text().split("## Exit codes", 1)[1].split("## ", 1)[0], re.M)
     listed = {row[0]: row[1] for row in rows("Exit codes")}
     yield from differs("codes", sorted({*specified} - {"141"} - listed.keys()), [])
@@ -319,7 +323,7 @@ def the_page_has_each_exit_code(program):
 
 
 def the_image_has_the_released_program(program):
-    """Its file is there, and the options in the comment of the image are those of `live`."""
+    """The file that is copied exists, and the options in the comment of the image are options of `live`."""
     text = IMAGE.read_text()
     copied = re.findall(r"^COPY (?:--\S+ )*(\S+) ", text, re.M)
     yield from differs("copied", [it for it in copied if not (TOP / "release" / it).exists()], [])
