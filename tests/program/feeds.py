@@ -19,7 +19,7 @@ from standby import waits_for
 
 
 def a_feed_is_played_from_the_number_asked(program):
-    """To each client by itself: from the first message, from a later one, and from the one after the last."""
+    """Each client is served independently: from the first message, from a later one, and from the one after the last."""
     day, _ = day_of(300)
     blocks = split(day)
     last = len(blocks)
@@ -37,7 +37,8 @@ def a_feed_is_played_from_the_number_asked(program):
 
 
 def a_feed_says_how_a_client_went(program):
-    """One that is silent, one that logs in and takes nothing, one that logs in twice, one that logs out, and one that logs out before it has logged in."""
+    """A client that is silent, one that logs in and reads nothing, one that logs in twice, one that logs out, and one that logs out before it has
+    logged in."""
     day = (b"\xea\x60" + b"z" * 60_000) * 200
     played = f"accepted from 1, {len(split(day))} packets"
     with folder_with(day=day) as folder, feeding(program, folder / "day", "--stay", "--count", "5") as server:
@@ -54,7 +55,7 @@ def a_feed_says_how_a_client_went(program):
 
 
 def a_feed_stays_with_heartbeats(program):
-    """After the last message, and to a client that asks for the one after it, until it goes."""
+    """Heartbeats follow the last message, and are all that a client receives that requests the message after it, until it leaves."""
     day, _ = day_of(20)
     blocks = split(day)
     with folder_with(day=day) as folder, feeding(program, folder / "day", "--stay", "--count", "1") as server:
@@ -70,7 +71,7 @@ def a_feed_stays_with_heartbeats(program):
 
 
 def a_feed_is_played_at_a_rate(program):
-    """200 messages at 100 per second take 2 seconds, and at ten times the clock the timestamps do."""
+    """200 messages take 2 seconds at 100 per second, and also at five times the clock, since their timestamps span 10 seconds."""
     day, _ = day_of(180)
     timed = b"".join(it[:7] + struct.pack(">Q", n * 50_000_000)[2:] + it[13:] for n, it in enumerate(split(day)))
     for words, least, data in ((("--rate", "100"), 1.99, day), (("--clock", "5"), 1.99, timed), ((), 0, day)):
@@ -94,8 +95,8 @@ def a_feed_of_no_day_file_is_refused(program):
 
 
 def all_three_in_a_row(program):
-    """A feed that is played, a live server behind it, and another one behind that: what is fetched on the way is what `snap --after` says,
-    what is followed is the end of the file, and both records are the file."""
+    """A feed that plays, a live server behind it, and another one behind that. A snapshot fetched on the way equals that of `snap --after`, the
+    followed messages are the end of the file, and both records equal the file."""
     day, wanted = day_of(3000, symbols=100)
     last = number_of(wanted)
     with folder_with(day=day) as folder, contextlib.ExitStack() as held:
@@ -136,7 +137,7 @@ def all_three_in_a_row(program):
 
 
 def a_follower_writes_at_once(program):
-    """Each message is written before the feed sends the next one, as blocks, as JSON, and after the complete snapshot."""
+    """Each message is written before the feed sends the next one: as blocks, as JSON, and after the complete snapshot."""
     day, _ = day_of(30)
     blocks, begins = split(day), 10
     early = snapshot_after(program, day, begins)
@@ -163,7 +164,7 @@ def a_follower_writes_at_once(program):
 
 
 def ended_lines(program, day):
-    """The lines of JSON of a day's messages."""
+    """Returns the JSON lines of a day's messages."""
     with folder_with(day=day) as folder:
         return ended_in(folder, program, "show", "--json", "day")[1].splitlines(keepends=True)
 
@@ -193,7 +194,7 @@ def an_address_in_use_is_a_failed_socket(program):
 
 
 def an_unknown_host_cannot_be_opened(program):
-    """Neither the feed of `follow` nor its server of snapshots."""
+    """Neither the feed of `follow` nor its snapshot server."""
     quick = {"RES_OPTIONS": "timeout:1 attempts:1", "LOCALDOMAIN": ""}
     with tempfile.TemporaryDirectory() as folder:
         for servers in (("no-such-host.invalid:9", "127.0.0.1:9"), ("127.0.0.1:9", "no-such-host.invalid:9")):

@@ -32,17 +32,17 @@ def acceptance(first):
 
 
 def packets(data, first=1):
-    """The blocks of these bytes, from one on, as packets of sequenced data."""
+    """Returns the blocks of these bytes, from number `first` on, as packets of sequenced data."""
     return b"".join(struct.pack(">H", len(it) - 1) + b"S" + it[2:] for it in split(data)[first - 1:])
 
 
 def answer(first):
-    """What a login for the messages from this one on is answered."""
+    """Returns the answer to a login for the messages from this number on."""
     return acceptance(first) + packets(SNAPSHOT, first) + ENDED
 
 
 def login_from(peer):
-    """As much of a login as a client sends."""
+    """Returns the part of a login that a client sends."""
     login = b""
     while len(login) < len(LOGIN) and (more := peer.recv(len(LOGIN) - len(login))):
         login += more
@@ -51,7 +51,7 @@ def login_from(peer):
 
 @contextlib.contextmanager
 def answering(data):
-    """A port where each client that logs in is sent these bytes, and a function that returns what the next client said."""
+    """Yields a port where each client that logs in receives these bytes, and a function that returns what the next client sent."""
     said = queue.Queue()
 
     def serve():
@@ -77,8 +77,8 @@ def answering(data):
 
 @contextlib.contextmanager
 def failing_fetch(program):
-    """A function that fetches from a port, with further words, in pieces of one byte, with a call failing, as `recv:3`. It returns
-    whether one did, and what the program ended with."""
+    """Returns a function that runs `fetch` at a port, with further arguments, in pieces of one byte, with one call failing, such as `recv:3`. It
+    returns whether a call failed, and how the program ended."""
     with tempfile.TemporaryDirectory() as name:
         shim, failed = failing.build_shim(name), Path(name) / "a call failed"
 
@@ -91,7 +91,7 @@ def failing_fetch(program):
 
 
 def each_read_of_a_fetch_fails_in_turn(program):
-    """The end of the session is not read."""
+    """The fetch ends before it reads the end of the session."""
     reads = len(answer(1)) - len(ENDED)
     with failing_fetch(program) as perform, answering(answer(1)) as (port, heard):
         error = f"itchsnap: read failed\n  127.0.0.1:{port}: {CAUSE}\n".encode()
@@ -119,8 +119,8 @@ def each_write_of_a_fetched_snapshot_fails_in_turn(program):
 
 
 def each_allocation_of_a_fetch_is_refused(program):
-    """The first three are those of the buffers, before the login. Those before the connection are the words' own: the rows of runs.ini
-    refuse them."""
+    """The first three allocations are for the buffers, before the login. Those before the connection are for the arguments; the rows of runs.ini
+    test them."""
     with failing_fetch(program) as perform, answering(answer(1)) as (port, heard):
         closed = free_port()
         first = first_unmet(lambda nth: perform(closed, f"memory:{nth}")[0])
@@ -138,7 +138,7 @@ def each_allocation_of_a_fetch_is_refused(program):
 
 
 def each_call_of_the_fetch_of_a_rest_fails_in_turn(program):
-    """The end of the session is not read, and nothing is written before all is received."""
+    """The fetch ends before it reads the end of the session, and writes nothing until everything has been received."""
     reads = len(answer(3)) - len(ENDED)
     with failing_fetch(program) as perform, answering(answer(3)) as (port, heard):
         error = f"itchsnap: read failed\n  127.0.0.1:{port}: {CAUSE}\n".encode()
@@ -153,7 +153,7 @@ def each_call_of_the_fetch_of_a_rest_fails_in_turn(program):
 
 
 def each_allocation_of_the_fetch_of_a_rest_is_refused(program):
-    """The first three are those of the buffers, before the login."""
+    """The first three allocations are for the buffers, before the login."""
     with failing_fetch(program) as perform, answering(answer(3)) as (port, heard):
         closed = free_port()
         first = first_unmet(lambda nth: perform(closed, f"memory:{nth}", *FROM_3)[0])
@@ -179,7 +179,7 @@ def day_file():
 
 
 def each_allocation_of_a_connection_ends_the_serving(program):
-    """Those of its buffers. As many are made before them as where the port is in use."""
+    """The allocations are for the buffers of a connection. Those made earlier are as many as when the port is in use."""
     with tempfile.TemporaryDirectory() as name, day_file() as day:
         shim, failed = failing.build_shim(name), Path(name) / "a call failed"
 
@@ -232,7 +232,7 @@ def what_is_no_snapshot_is_not_written(program):
 
 
 def a_rest_is_written_as_it_comes(program):
-    """No order rule is applied to it, and the number in its End of Snapshot is any."""
+    """No order rule is applied to the rest, and the number in its End of Snapshot may be any."""
     refused = file("MSFT_AT_1 BUY_1 BUY_1 END_4")
     for data, rest in ((answer(3), REST_3), (acceptance(3) + packets(refused) + b"\0\0", refused)):
         with failing_fetch(program) as perform, answering(data) as (port, heard):
@@ -258,7 +258,7 @@ def what_is_no_rest_is_not_written(program):
 
 
 def served(program, clients):
-    """Serves clients that all connect before the first one is answered: what each says, what it is answered, and its line."""
+    """Serves clients that all connect before the first one is answered. Returns what each sent and received, and its log line."""
     with day_file() as day, Server(program, day, len(clients)) as server, contextlib.ExitStack() as peers:
         connected = []
         for says, _, _ in clients:

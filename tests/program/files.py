@@ -34,11 +34,11 @@ REFUSED = {
     "AAPL MSFT BUY_1 DELETE_9": "message 4: unknown reference",
     "AAPL MSFT BUY_1 END_4": "message 4: unexpected end",
 }
-# Files, and whether they leave the same market.
+# Pairs of files, and whether both end in the same market.
 PAIRS = [
-    # Two prices, reached in two orders.
+    # Two prices, reached in different orders.
     ("AAPL BUY_1 BUY_2_HIGH BUY_3_OF_300 BUY_4_HIGH", "AAPL BUY_2_HIGH BUY_4_HIGH BUY_1 BUY_3_OF_300", True),
-    # Executions against a smaller order, timestamps and reserved bytes.
+    # Executions instead of a smaller order; other timestamps and reserved bytes.
     ("AAPL TRADING_RESERVED_0 BUY_7_OF_300 EXECUTE_7 CANCEL_7", "AAPL_LATE TRADING_RESERVED_58 BUY_7_OF_150", True),
     # The order of the directory.
     ("AAPL MSFT START", "START MSFT AAPL", True),
@@ -67,7 +67,7 @@ def each_refused_file_has_its_line(program):
 
 
 def canonical(program, data):
-    """The canonical bytes of the market that a file leaves: its snapshot without its end."""
+    """Returns the canonical bytes of the market in which a file ends: its snapshot without its end."""
     status, output, error = ended(program, "snap", "day.itch", day=data)
     if (status, error) != (0, b""):
         raise OSError(f"snap ended with {status}, {error!r}")

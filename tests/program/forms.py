@@ -9,18 +9,18 @@ import json
 from common import blocks, differs, ended
 from messages import file_of, jsons_of, lines_of
 
-# Every character that a stock may have, eight in each.
+# Every character that a stock may contain, eight per stock.
 STOCKS = [bytes(range(first, first + 8)) for first in range(0x20, 0x78, 8)] + [b"xyz{|}~ ", b'"""""""\\', b"\\\\\\\\\\\\\\\"", b",,,,,,,,", b"x,\"y\"   "]
 AAPL, BUY = "AAPL", "BUY_1"
 
 
 def day(stock):
-    """An entry with this stock, and an order of it."""
+    """Returns a directory entry with this stock, and an order in it."""
     return b"".join(blocks()[name].replace(b"AAPL    ", stock) for name in (AAPL, BUY))
 
 
 def columns(stock):
-    """What the book has of it: the values as they are to be read, each a text or a number."""
+    """Returns the book's values for the stock as they must be parsed, each a text or a number."""
     return {"locate": 1, "stock": stock.decode().rstrip(" "), "side": "B", "price": "150.0000", "shares": 100, "orders": 1}
 
 
@@ -40,7 +40,7 @@ def a_book_as_csv_is_read_for_every_stock(program):
 
 
 def a_stock_of_any_characters_is_found_by_its_name(program):
-    """But for one with a comma, which separates names."""
+    """Except for a stock with a comma, which separates names."""
     for stock in STOCKS:
         name = stock.decode().rstrip(" ")
         found = ended(program, "book", f"--stock={name}", "day.itch", day=day(stock))

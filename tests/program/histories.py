@@ -1,4 +1,4 @@
-"""`show --history` on random days, against a reader of its own: the chain of an order, by the replaces of the day.
+"""`show --history` on random days, against an independent reader: the chain of an order, by the replaces of the day.
 
 RUNS lists the runs. Each is a function that is given the program and yields the differences.
 """
@@ -21,7 +21,7 @@ NAMING = "order_reference_number", "original_order_reference_number", "new_order
 
 
 class UniqueWriter(Writer):
-    """A random day whose order reference numbers are unique, as the standard says."""
+    """A random day whose order reference numbers are unique, as in the standard."""
 
     def fresh(self):
         self.next += self.rng.choice([1, 1, 1, 7, 2 ** 40])
@@ -29,7 +29,7 @@ class UniqueWriter(Writer):
 
 
 class Chains:
-    """The messages about each order of a day, with those about the orders that it replaced and that replaced it."""
+    """The messages about each order of a day, including those about the orders that it replaced and that replaced it."""
 
     def __init__(self, payloads):
         self.first, self.lives, self.times = {}, {}, []
@@ -51,11 +51,11 @@ class Chains:
             self.lives.setdefault(self.first.setdefault(reference, reference), []).append((number, kind))
 
     def life(self, reference):
-        """The numbers and the types of an order's messages."""
+        """Returns the numbers and the types of an order's messages."""
         return self.lives[self.first[reference]]
 
     def born(self, payloads, reference):
-        """The number of the first message that names an order."""
+        """Returns the number of the first message that names an order."""
         for number, data in enumerate(payloads, 1):
             at, named = 1, []
             for name, _, width in fields_of(chr(data[0])):
@@ -72,13 +72,13 @@ def history(program, data, reference, *words):
 
 
 def some_references(made, chains):
-    """The numbers of the longest chains, and of some others."""
+    """Returns the reference numbers of the longest chains, and of some others."""
     longest = sorted({*chains.first.values()}, key=lambda it: (-len(chains.lives[it]), it))[:3]
     return [it for it in chains.first if chains.first[it] in longest] + made.rng.sample(sorted(chains.first), 6)
 
 
 def every_history_of_random_days_is_that_of_another_reader(program):
-    """As text, with names, as JSON, and as comma-separated values of one type: the lines that `show` prints of the same messages."""
+    """As text, with names, as JSON, and as comma-separated values of one type: the same lines that `show` prints for these messages."""
     for seed in SEEDS:
         made = UniqueWriter(seed)
         chains, data = Chains(made.payloads), made.day()
@@ -124,7 +124,7 @@ def a_history_has_the_orders_behind_its_messages(program):
 
 
 def a_range_cuts_a_history_and_its_other_filters_choose_from_it(program):
-    """The order has to come before the end of the range; its messages before the beginning are left out."""
+    """The order must be added before the end of the range. Its messages before the beginning are left out."""
     for seed in SEEDS:
         made = UniqueWriter(seed)
         chains, count, rng = Chains(made.payloads), len(made.payloads), made.rng
@@ -189,7 +189,7 @@ def a_long_chain_is_followed_back_from_its_last_number(program):
 
 
 def a_day_that_begins_late_has_the_rest_of_a_history(program):
-    """The first messages of an order may lie before the beginning of a file, as after `cut --from`."""
+    """The first messages of an order may precede the beginning of a file, as after `cut --from`."""
     for seed in SEEDS:
         made = UniqueWriter(seed)
         whole = Chains(made.payloads)
@@ -204,7 +204,7 @@ def a_day_that_begins_late_has_the_rest_of_a_history(program):
 
 
 def a_broken_message_before_the_order_is_a_fault_before_any_line(program):
-    """After the order it is one after the lines before, as without --history."""
+    """A broken message after the order is a fault after the lines before it, as without --history."""
     for seed in SEEDS:
         made = UniqueWriter(seed)
         chains = Chains(made.payloads)
@@ -226,7 +226,7 @@ def a_broken_message_before_the_order_is_a_fault_before_any_line(program):
 
 
 def a_file_that_cannot_be_read_twice_is_refused_by_name(program):
-    """A pipe is refused before it is opened, also by its number under /dev/fd."""
+    """A pipe is refused before it is opened, even by its number under /dev/fd."""
     made = UniqueWriter(4)
     words = "--reference", "2", "--history"
     with tempfile.TemporaryDirectory() as name:

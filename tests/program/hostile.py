@@ -1,4 +1,4 @@
-"""`live` with hostile clients, with side outputs that fail, and at feeds that refuse it once or hurry it.
+"""`live` with hostile clients, with side outputs that fail, and at feeds that refuse it once or send quickly.
 
 RUNS lists the runs. Each is a function that is given the program and yields the differences.
 """
@@ -26,14 +26,14 @@ from living import (BEAT, CLIENT_BEAT, ENDED, LOGIN, PATIENCE, REJECTED, SILENCE
 
 ACCEPTED = len(acceptance(1))
 ORDERS, SYMBOLS, RATE = 200_000, 1000, 20_000
-# How long a client may have to wait in addition, on a machine that does other work.
+# How much longer a client may have to wait on a busy machine.
 SLACK = 1
-# The descriptors that a thousand connections need here and in the server.
+# How many descriptors a thousand connections need, here and in the server.
 DESCRIPTORS = 4096
-# A client hears something each second: for how long nothing may come, on such a machine.
+# A client hears something every second. This is the longest permitted silence on a busy machine.
 PAUSE = 1.9
 
-# Clients that log in, take an acceptance, leave and come again, until the process is ended: of a port, and this many at a time.
+# Clients that log in, read an acceptance, leave and return until the process is killed. Arguments: the port, and how many at a time.
 HAMMER = """
 import socket, sys, threading
 port, count, login = int(sys.argv[1]), int(sys.argv[2]), bytes.fromhex(sys.argv[3])
@@ -53,21 +53,21 @@ for _ in range(count):
 
 
 class Market:
-    """A day of orders that stay, and of one more symbol, as the packets of a feed; and what a client is told of it, but for its end."""
+    """A day of orders that stay live and of one more symbol, as the packets of a feed; and what a client receives of it, except for its end."""
 
     def __init__(self):
         day, snapshot = large.orders(ORDERS, symbols=SYMBOLS)
         blocks = [*split(day), large.entry(SYMBOLS + 1)]
         self.count, self.packets = len(blocks), b"".join(map(packet, blocks))
         self.told = answer(snapshot[:-len(large.closing(1))] + blocks[-1])[:-len(ENDED)]
-        # An order of that symbol, which comes and goes.
+        # An order in that symbol that is added and deleted.
         reference = struct.pack(">Q", ORDERS + 1)
         fields = reference + struct.pack(">cI8sI", b"B", 100, large.stock(SYMBOLS + 1), 10_000)
         self.added = packet(large.block(b"A", SYMBOLS + 1, fields))
         self.pair = self.added + packet(large.block(b"D", SYMBOLS + 1, reference))
 
     def is_told(self, told):
-        """Whether a client is told the market after some number of messages, and nothing else but heartbeats."""
+        """Returns whether a client receives the market after some number of messages, and nothing else except heartbeats."""
         end = packet(large.closing(1))
         number = told[-len(ENDED) - 20:-len(ENDED)]
         tail = end[:-20] + number + ENDED
@@ -81,7 +81,7 @@ def market():
 
 
 class Steady:
-    """A script: the day of the market at once, and then RATE messages per second, until an event is set."""
+    """A script: sends the day of the market at once, and then RATE messages per second until an event is set."""
 
     def __init__(self):
         self.end = threading.Event()
@@ -103,7 +103,7 @@ def without_beats(told):
 
 
 class Told(NamedTuple):
-    """What a client is told that logs in, in how many seconds, and for how long nothing came at the longest."""
+    """What a client receives that logs in, how many seconds that took, and the longest silence."""
 
     data: bytes
     seconds: float
@@ -111,7 +111,7 @@ class Told(NamedTuple):
 
 
 def told_within(port, seconds=PATIENCE):
-    """What a client is told that logs in, until it is told all, or for this many seconds."""
+    """Logs in and returns what the client receives until it has everything, or within this many seconds."""
     pieces, pause = [], 0
     with connect(port) as peer:
         begun = last = time.monotonic()
@@ -130,7 +130,7 @@ def told_within(port, seconds=PATIENCE):
 
 @contextlib.contextmanager
 def busy_server(program, *words):
-    """A server of the market, whose feed continues at RATE."""
+    """Yields a server of the market whose feed continues at RATE."""
     last, steady = market().count, Steady()
     with Feed(steady) as feed, live(program, feed.port, *words) as server:
         while (got := fetch(program, server.port))[0] != 0 or number_of(got[1]) <= last:
@@ -140,7 +140,7 @@ def busy_server(program, *words):
 
 
 class Behind:
-    """How many bytes of a feed the server has not read, looked at all the time: `longest` is for how long it was more than a second's."""
+    """Watches how many bytes of a feed the server has not read. `longest` is the longest time for which that was more than one second's worth."""
 
     def __init__(self, port):
         self.port, self.longest, self.stopped = f"{port:04X}", 0, threading.Event()
@@ -176,7 +176,7 @@ class Behind:
 
 @contextlib.contextmanager
 def hammered(port, count):
-    """Clients that log in and leave without a pause meanwhile."""
+    """Meanwhile, clients log in and leave without a pause."""
     with subprocess.Popen([sys.executable, "-c", HAMMER, str(port), str(count), LOGIN.hex()]) as process:
         try:
             time.sleep(0.5)
@@ -186,7 +186,7 @@ def hammered(port, count):
 
 
 def clients_that_come_again_and_again_hinder_no_other(program):
-    """One, and then eight, log in, take an acceptance, leave and come again, beside a feed of 20,000 messages per second."""
+    """One client, and then eight, log in, read an acceptance, leave and return, while the feed sends 20,000 messages per second."""
     with busy_server(program) as (server, feed):
         alone = []
         for _ in range(3):
@@ -205,7 +205,8 @@ def clients_that_come_again_and_again_hinder_no_other(program):
 
 
 def until_closed(came, beats):
-    """How long each of these peers was served, in seconds, of the time that each one came; those of `beats` send a heartbeat every three seconds."""
+    """Returns how long each of these peers was connected, in seconds since the time at which it connected. Those in `beats` send a heartbeat every
+    three seconds."""
     closed, begun, next_beat = {}, time.monotonic(), 3
     peers = list(came)
     with selectors.DefaultSelector() as waiting:
@@ -227,8 +228,8 @@ def until_closed(came, beats):
 
 
 def a_thousand_that_never_log_in_hinder_nobody(program):
-    """Half of them say nothing, and half send heartbeats: each is closed 15 seconds after it came, or makes room for one that comes later, and a
-    client is served meanwhile."""
+    """Half of them say nothing, and half send heartbeats. Each is closed 15 seconds after it connected, or earlier to make room for a later one.
+    Meanwhile a client is served."""
     soft, hard = resource.getrlimit(resource.RLIMIT_NOFILE)
     if soft < DESCRIPTORS:
         resource.setrlimit(resource.RLIMIT_NOFILE, (min(hard, DESCRIPTORS), hard))
@@ -258,7 +259,7 @@ def a_thousand_that_never_log_in_hinder_nobody(program):
 
 
 def started_by(folder, program, before=":", output=""):
-    """The program as a shell starts it, after some commands, and with its output elsewhere."""
+    """Starts the program from a shell, after some commands, and with its output redirected."""
     path = folder / "started"
     path.write_text(f'#!/bin/bash\n{before}\nexec {shlex.quote(str(program))} "$@" {output}\n')
     path.chmod(0o755)
@@ -266,7 +267,7 @@ def started_by(folder, program, before=":", output=""):
 
 
 def goes_on_differs(program, server, wanted):
-    """A client has the complete market before long, and the process runs."""
+    """Yields what is wrong unless a client soon receives the complete market and the process is still running."""
     begun = time.monotonic()
     with contextlib.suppress(subprocess.TimeoutExpired):
         while (got := fetch(program, server.port, "--timeout", "2"))[0] == 0 and number_of(got[1]) < number_of(wanted):
@@ -278,7 +279,7 @@ def goes_on_differs(program, server, wanted):
 
 
 def in_two(day, half, goes, end):
-    """A script: this many messages of a day, and after an event the others; after another one it ends."""
+    """A script: sends this many messages of a day, the others after an event, and ends after another event."""
     blocks = [packet(block) for block in split(day)]
 
     def script(peer, login):
@@ -294,7 +295,7 @@ def in_two(day, half, goes, end):
 
 
 def snapshots_that_cannot_be_written_do_not_end_it(program):
-    """Their folder is taken away; a file may have 8 KiB, as on a full file system, which later ones exceed."""
+    """Their folder is removed; or a file may have at most 8 KiB, as on a full file system, which later snapshots exceed."""
     day, wanted = day_of(400)
     half, every = 210, 20
     for kind in "removed", "full":
@@ -316,8 +317,8 @@ def snapshots_that_cannot_be_written_do_not_end_it(program):
 
 
 def descriptors_are_left_for_the_feed_and_for_files(program):
-    """A process that may have 48 descriptors, beside 100 connections that never log in: the feed that is lost comes back, each snapshot is written, and
-    a client is served."""
+    """The process may have 48 descriptors, and 100 connections never log in. Still a lost feed is reconnected, each snapshot is written, and a client
+    is served."""
     day, wanted = day_of(400)
     half, every = 200, 20
     goes, end = threading.Event(), threading.Event()
@@ -343,7 +344,7 @@ def descriptors_are_left_for_the_feed_and_for_files(program):
 
 
 def an_output_that_nobody_takes_does_not_end_it(program):
-    """Standard output is closed; a pipe whose reader has gone away; and a pipe that nobody reads, with more lines than it has room for."""
+    """Standard output is closed, or is a pipe whose reader has gone, or a pipe that nobody reads and that is too small for the lines."""
     day, wanted = day_of(20)
     for kind in "closed", "left", "full":
         end = threading.Event()
@@ -367,7 +368,7 @@ def an_output_that_nobody_takes_does_not_end_it(program):
 
 
 def lines_that_nobody_takes_do_not_end_it(program):
-    """Standard error is a pipe that is full by the time its feed is lost."""
+    """Standard error is a pipe that is full when the feed is lost."""
     day, wanted = day_of(20)
     goes, end = threading.Event(), threading.Event()
 
@@ -395,7 +396,7 @@ def lines_that_nobody_takes_do_not_end_it(program):
 
 
 def a_feed_at_full_speed_hinders_no_client(program):
-    """One that always has more to read, of messages as short as they can be: who comes is told the snapshot within a few seconds."""
+    """The feed always has more to send, in messages as short as possible. A client that connects receives the snapshot within a few seconds."""
     end, flows, piece = threading.Event(), threading.Event(), b"\0\x02Sz" * 50_000
 
     def endless(peer, login):
@@ -404,7 +405,7 @@ def a_feed_at_full_speed_hinders_no_client(program):
             if end.is_set():
                 break
             peer.sendall(piece)
-            if count == 100:  # more than the sockets hold, so that messages were read
+            if count == 100:  # more than the sockets hold, so some messages must have been read
                 flows.set()
 
     with Feed(endless) as feed, live(program, feed.port) as server:
@@ -420,7 +421,7 @@ def a_feed_at_full_speed_hinders_no_client(program):
 
 
 def a_feed_that_refuses_a_login_once_is_asked_again(program):
-    """After a loss it may be another server, which is a message behind. Wrong words at the first login end it."""
+    """After a loss the feed may be another server, which is one message behind. Rejected credentials at the first login end it."""
     day, _ = day_of(10)
     with Feed(plays(day, until=5), sends(b"\0\x02JS"), plays(day, then=ENDED)) as feed, live(program, feed.port) as server:
         status, _, lines = server.ended()
@@ -431,7 +432,7 @@ def a_feed_that_refuses_a_login_once_is_asked_again(program):
 
 
 def a_feed_that_ends_before_any_message_is_asked_again(program):
-    """With --stay it is followed once there is a day."""
+    """With --stay it follows the feed when the feed has a day."""
     day, wanted = day_of(10)
     for ending in ENDED, acceptance(1) + ENDED:
         end = threading.Event()
@@ -443,7 +444,7 @@ def a_feed_that_ends_before_any_message_is_asked_again(program):
 
 
 def a_feed_that_begins_later_is_a_gap(program):
-    """It is told once, however often it is met, and the feed is asked again."""
+    """The gap is reported once, however often it occurs, and the feed is retried."""
     day, _ = day_of(10)
     later = sends(acceptance(5) + packet(split(day)[4]))
     with Feed(later, later, plays(day, then=ENDED)) as feed, live(program, feed.port) as server:
@@ -454,7 +455,7 @@ def a_feed_that_begins_later_is_a_gap(program):
 
 
 def a_login_is_accepted_before_there_is_a_market(program):
-    """At once, and then it is told each second that the server is there, for as long as it takes: its own silence is not counted."""
+    """The login is accepted at once. Then the client receives a heartbeat every second for as long as it takes; its own silence does not count."""
     day, wanted = day_of(50)
     begin, end = threading.Event(), threading.Event()
 

@@ -1,5 +1,5 @@
-"""Runs that would take minutes, by a faster clock (hurry.c): feeds that fail in turn, stay for a minute or stay away, names that are found
-late, and what is said once a minute.
+"""Runs that would take minutes, by a faster clock (hurry.c): feeds that fail in turn, stay for a minute or stay away, names that are resolved late,
+and what is logged once a minute.
 
 RUNS lists the runs. Each is a function that is given the program and yields the
 differences. `hurried.py PROGRAM SHIM`, in a user and a network namespace of its own, prints what differs where two feeds fail in turn.
@@ -25,13 +25,13 @@ from living import (BEAT, CLIENT_BEAT, ENDED, LOGIN, PATIENCE, SESSION, SILENCE,
 from scraping import figures
 
 TIMES = 20
-# How often the other feed is asked at least, how many failures there are, and how many messages are sent before each.
+# How often the other feed must be tried at least, how many failures there are, and how many messages are sent before each.
 CHANGES, TURNS, EACH = 200, 210, 3
 APART = ["unshare", "--user", "--map-root-user", "--net", "--mount"]
 NETWORKS = {"a": "10.87.1", "b": "10.87.2"}
 PORT = 5000
 NEW_NETWORK = 0x40000000
-# The longest pause of a feed that fails, in seconds, and how often it fails in a minute and some pauses more.
+# The longest pause before a failed feed is retried, in seconds, and how often it fails in a minute plus some pauses.
 LONGEST_PAUSE, FAILURES = 5, 21
 
 
@@ -40,8 +40,8 @@ def hurried(shim):
 
 
 def two_feeds_in_two_namespaces_fail_in_turn(program):
-    """They close the connection, reset it, or their network is gone: each time the other one is asked, in the same session and from the same message,
-    and the record is the day."""
+    """They close the connection, reset it, or their network is down. Each time the other one is tried, with the same session and from the next
+    message, and the record equals the day."""
     if not shutil.which("ip") or subprocess.run([*APART, "true"], stderr=subprocess.DEVNULL).returncode != 0:
         print("skipped: feeds in network namespaces: no namespaces of their own here")
         return
@@ -57,7 +57,7 @@ def ip(*words):
 
 
 def lay_networks():
-    """A namespace for each feed, with a link from here."""
+    """Makes a namespace for each feed, with a link from here."""
     subprocess.run(["mount", "-t", "tmpfs", "none", "/run"], check=True)
     ip("link", "set", "lo", "up")
     for name, network in NETWORKS.items():
@@ -71,7 +71,7 @@ def lay_networks():
 
 @contextlib.contextmanager
 def inside(name):
-    """This thread is in a namespace meanwhile: a socket that it makes stays there."""
+    """Moves this thread into a namespace for a while. A socket that it makes stays there."""
     libc = ctypes.CDLL(None, use_errno=True)
     with open("/proc/self/ns/net") as here, open(f"/run/netns/{name}") as there:
         if libc.setns(there.fileno(), NEW_NETWORK) != 0:
@@ -83,7 +83,7 @@ def inside(name):
 
 
 class Turns:
-    """What the two feeds do, login after login, and what they are asked: which of them, by which session, from which number."""
+    """What the two feeds do at each login, and what they were asked: which feed, which session, and from which number."""
 
     def __init__(self, day):
         self.day, self.packets, self.asked, self.arrived = day, [packet(it) for it in split(day)], [], threading.Condition()
@@ -105,7 +105,7 @@ class Turns:
         return turn
 
     def cuts_the_network(self, name, number):
-        """Until the other feed is asked."""
+        """Lasts until the other feed is tried."""
         ip("-n", name, "link", "set", "here", "down")
         with self.arrived:
             self.arrived.wait_for(lambda: len(self.asked) > number + 1, PATIENCE)
@@ -130,7 +130,8 @@ def differences(program, shim):
 
 
 def sequence_differs(asked):
-    """What differs from one login after the other: at the other feed, for the session of the first acceptance, and from where the one before came to."""
+    """Yields what is wrong with a sequence of logins. Each must be at the other feed, for the session of the first acceptance, and from the number
+    that the one before reached."""
     names = [name for name, _, _ in asked]
     if (changes := sum(one != other for one, other in zip(names, names[1:]))) < CHANGES:
         yield f"{changes} changes"
@@ -141,7 +142,7 @@ def sequence_differs(asked):
 
 
 def a_minute_of_success_makes_the_pauses_short_again(program):
-    """The feed fails so often that the pause is five seconds, stays for a minute, and fails: it is asked again after a tenth of a second."""
+    """The feed fails so often that the pause is five seconds, stays for a minute, and fails again: it is retried after a tenth of a second."""
     day, _ = day_of(20)
     times = []
 
@@ -170,7 +171,7 @@ def a_minute_of_success_makes_the_pauses_short_again(program):
 
 
 def a_feed_that_stays_away_is_asked_less_often_however_long_it_does(program):
-    """A login was accepted once, over a minute ago: the pause is still five seconds."""
+    """A login was accepted once, more than a minute ago: the pause is still five seconds."""
     day, _ = day_of(20)
     times, enough = [], threading.Event()
 
@@ -188,7 +189,7 @@ def a_feed_that_stays_away_is_asked_less_often_however_long_it_does(program):
 
 
 def a_name_that_is_found_late_leaves_the_server_its_time(program):
-    """It has fifteen seconds to answer from when it is connected to: to find its name took longer than that."""
+    """The server has fifteen seconds to answer from the time of the connection. Resolving its name took longer than that."""
     day, _ = day_of(20)
     with tempfile.TemporaryDirectory() as folder, Feed(plays(day, then=ENDED)) as feed:
         environment = {**hurried(build_shim(folder, "hurry.c")), "LOOKUP": str(1000 * (SILENCE + 5) // TIMES)}
@@ -197,7 +198,7 @@ def a_name_that_is_found_late_leaves_the_server_its_time(program):
 
 
 def each_missed_snapshot_is_counted_in_one_line(program):
-    """A line says how many were not written since the line before, once a minute."""
+    """Once a minute a line reports how many were not written since the line before."""
     day, _ = day_of(400)
     stop = threading.Event()
 
@@ -223,7 +224,7 @@ def each_missed_snapshot_is_counted_in_one_line(program):
 
 
 def lines_that_are_lost_stay_counted(program):
-    """In the status, also after the line that says how many were lost."""
+    """The status counts them, even after the line that reports how many were lost."""
     day, _ = day_of(20)
     with folder_with() as folder, Feed(plays(day, wait=threading.Event())) as feed:
         reader, writer = os.pipe()
@@ -243,7 +244,7 @@ def lines_that_are_lost_stay_counted(program):
 
 
 def lost_lines_differ(server, lines):
-    """The lines of a server are not read for a while, after the first two, which say where it listens. There is room for a page of them."""
+    """Nobody reads the log of a server for a while after the first two lines, which report where it listens. The pipe holds one page."""
     server.status, port = (int(re.search(r' on="127.0.0.1:(\d+)"', lines.readline())[1]) for _ in range(2))
     fcntl.fcntl(lines, fcntl.F_SETPIPE_SZ, 4096)
     while not (lost := figures(server)["log_lines_lost_total"]):
@@ -254,7 +255,7 @@ def lost_lines_differ(server, lines):
 
 
 def a_record_that_was_cut_is_looked_at_by_its_new_length(program):
-    """Each second, while its feed sends more: it was cut to its complete messages, and nobody else has cut it."""
+    """The record is examined every second, while the feed sends more. The server has cut it to its complete messages, and nobody else has cut it."""
     day, _ = day_of(20)
     blocks = split(day)
 
@@ -276,7 +277,7 @@ def a_record_that_was_cut_is_looked_at_by_its_new_length(program):
 
 
 def a_client_that_waited_has_its_time_after_the_answer_too(program):
-    """It waits for a market for twenty seconds, and its connection is open for fifteen more once it is told all."""
+    """The client waits for a market for twenty seconds, and after it has received everything its connection stays open for fifteen more."""
     day, snapshot = day_of(20)
     begin, accepted = threading.Event(), len(acceptance(1))
 

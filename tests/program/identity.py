@@ -17,13 +17,13 @@ YESTERDAY = recorded(split(day_of(5)[0])[0], "DAY1")
 
 
 def live_in(folder, program, port, *words, **environment):
-    """The ending of a server whose folder this is."""
+    """Returns how a server with this folder ended."""
     status, output, error = ended_in(folder, program, "live", "--feed", f"127.0.0.1:{port}", "--port", "0", *WORDS, *words, **environment)
     return status, output, b"".join(it for it in error.splitlines(True) if not it.startswith(b"listening on "))
 
 
 def a_record_of_another_day_is_refused(program):
-    """A feed that accepts the login in the name of another session: both are named, and the record stays as it is."""
+    """The feed accepts the login under the name of another session. The error names both sessions, and the record is unchanged."""
     day, _ = day_of(50)
     kept = b"".join(split(day)[:20])
     with folder_with(**recorded(kept, "DAY1")) as folder, Feed(plays(day, then=ENDED, session=b"DAY2")) as feed:
@@ -36,7 +36,7 @@ def a_record_of_another_day_is_refused(program):
 
 
 def a_feed_that_rejects_the_session_of_a_record_is_asked_for_its_own(program):
-    """Once: by a login for whichever it is. Both sessions are named then, and the record stays as it is."""
+    """It is asked once, by a login for the current session. Then the error names both sessions, and the record is unchanged."""
     day, _ = day_of(50)
     kept = b"".join(split(day)[:20])
     rejected = sends(b"\0\x02JS")
@@ -54,7 +54,7 @@ def a_feed_that_rejects_the_session_of_a_record_is_asked_for_its_own(program):
             got = live_in(folder, program, feed.port, "--record", "record")
             yield from differs("of this program", got, (1, b"", b"feed: rejected S\n" + line))
         yield from differs("the record", (folder / "record").read_bytes(), kept)
-        # If it is in the same session, or does not say, it is asked again for that of the record.
+        # If the feed is in the same session, or does not say, it is asked again for the session of the record.
         with Feed(rejected, sends(acceptance(1, b"DAY1")), rejected, plays(day, until=30, session=b"DAY1"), rejected, plays(day, then=ENDED, session=b"DAY1")) as feed:
             got = live_in(folder, program, feed.port, "--record", "record")
             yield from differs("the same", got[:2], (0, b""))
@@ -69,13 +69,13 @@ def a_feed_that_rejects_the_session_of_a_record_is_asked_for_its_own(program):
         with Feed(rejected, lambda peer, login: peer.recv(1), plays(day, then=ENDED, session=b"DAY1")) as feed:
             got = live_in(folder, program, feed.port, "--record", "record")
             yield from differs("silent", (got[:2], [session_in(it).strip() for it in feed.logins]), ((0, b""), [b"DAY1", b"", b"DAY1"]))
-        # The answer is waited for two seconds, and not for as long as a server may be silent.
+        # The server waits two seconds for the answer, not the 15 seconds of silence that it usually allows.
         if time.monotonic() - begun > SILENCE - 3:
             yield f"silent: asked again after {time.monotonic() - begun:.1f} seconds"
 
 
 def a_record_keeps_its_session(program):
-    """It is written before the first message, asked for after a restart, and clients are accepted in it."""
+    """The session is written before the first message, requested after a restart, and clients are accepted in it."""
     day, wanted = day_of(60)
     with folder_with() as folder:
         for until, asked in ((30, b""), (None, b"DAY1")):
@@ -100,7 +100,7 @@ def a_record_keeps_its_session(program):
 
 
 def a_record_without_a_session_file_is_refused(program):
-    """Unless its session is named; a name that is not the record's is refused too, and so is a file that has none."""
+    """Unless the session is given as an option. A name that is not the record's is also refused, and so is a session file without a name."""
     day, _ = day_of(20)
     kept = b"".join(split(day)[:5])
     with folder_with(record=kept) as folder, Feed(plays(day, then=ENDED, session=b"DAY1")) as feed:
@@ -122,7 +122,7 @@ def a_record_without_a_session_file_is_refused(program):
 
 
 def a_session_file_that_cannot_be_read_is_named(program):
-    """Also where the session is named: what is in the file may be another one."""
+    """Even if the session is given as an option: the file may name another one."""
     day, _ = day_of(20)
     kept = b"".join(split(day)[:5])
     with folder_with(record=kept) as folder, Feed(plays(day, then=ENDED)) as feed:
@@ -142,7 +142,7 @@ def an_empty_record_is_of_no_day(program):
 
 
 def a_snapshot_of_another_session_is_not_joined(program):
-    """By `live` and by `follow`; the option that the second line names accepts it."""
+    """By `live` and by `follow`. The option named in the second line of the error accepts it."""
     day, _ = day_of(40)
     early = snapshot_after(program, day, 10)
     with Feed(sends(answer(early, b"DAY1"))) as glimpse, Feed(plays(day, then=ENDED, session=b"DAY2")) as feed, folder_with() as folder:
@@ -159,7 +159,8 @@ def a_snapshot_of_another_session_is_not_joined(program):
 
 
 def a_feed_names_its_day(program):
-    """By its file's name, or as it is told; a server behind two days in a row serves the first one, and says that the other is another."""
+    """By the name of its file, or the name given. A server behind two consecutive days serves the first one, and reports that the other is another
+    session."""
     first, wanted = day_of(40)
     second, _ = day_of(60)
     names = {"monday.itch": b"monday", "nasdaq-totalview-20240102.itch": b"w-20240102", ".itch": b"ITCHSNAP", "tuesday.2.itch": b"tuesday", "day": b"day",
@@ -183,7 +184,7 @@ def a_feed_names_its_day(program):
 
 
 def one_process_has_a_record(program):
-    """A second one is refused, and one that ends gives it up; so with a folder of snapshots."""
+    """A second process is refused, and a process that ends releases the record. The same holds for a folder of snapshots."""
     day, _ = day_of(30)
     end = threading.Event()
     with folder_with() as folder, Feed(plays(day, wait=end, held=ENDED)) as feed:
@@ -202,7 +203,7 @@ def one_process_has_a_record(program):
 
 
 def a_record_that_is_changed_ends_it(program):
-    """Removed, replaced, cut short, or appended to while it is written: within two seconds, and its path is named."""
+    """The record is removed, replaced, cut short or appended to while it is being written. The server ends within two seconds, and names its path."""
     day, _ = day_of(30)
 
     def remove(record):
@@ -239,7 +240,8 @@ def a_record_that_is_changed_ends_it(program):
 
 
 def what_is_checked_is_gone_on_with(program):
-    """What follows the last complete message of a record is dropped, and how much that is said: zeros, a block of length 0, half a block."""
+    """Everything after the last complete message of a record is dropped, and the number of bytes is reported: zeros, a block of length 0, half a
+    block."""
     day, _ = day_of(30)
     blocks = split(day)
     kept = b"".join(blocks[:20])
@@ -255,7 +257,7 @@ def what_is_checked_is_gone_on_with(program):
 
 
 def what_is_not_cut_off_a_record_is_not_said_to_be_dropped(program):
-    """Where the cut fails the server ends, and that is all that it says; the record stays as it is."""
+    """If the cut fails, the server ends and reports nothing else. The record is unchanged."""
     day, _ = day_of(30)
     blocks = split(day)
     kept = b"".join(blocks[:20]) + blocks[20][:7]
@@ -269,7 +271,7 @@ def what_is_not_cut_off_a_record_is_not_said_to_be_dropped(program):
 
 
 def a_record_is_on_disk(program):
-    """Each second, or with each message, unless that is not asked for: a sync that fails is a write that does."""
+    """Every second, or with each message, unless the option turns that off. A failed sync counts as a failed write."""
     day, _ = day_of(30)
     with tempfile.TemporaryDirectory() as apart:
         shim = failing.build_shim(apart)
@@ -288,7 +290,7 @@ def a_record_is_on_disk(program):
 
 
 def a_record_may_be_optional(program):
-    """Then the server continues without it where it cannot be written."""
+    """If an optional record cannot be written, the server continues without it."""
     day, wanted = day_of(300)
     end = threading.Event()
     with folder_with() as folder, Feed(plays(day, until=200, wait=end), plays(day, then=ENDED)) as feed, \
@@ -302,7 +304,8 @@ def a_record_may_be_optional(program):
 
 
 def an_optional_record_needs_no_session_file(program):
-    """Where that cannot be written the server says so, and continues without the record; one that is not optional ends it."""
+    """If the session file of an optional record cannot be written, the server reports that and continues without the record. A record that is not
+    optional ends it."""
     day, wanted = day_of(30)
     with folder_with() as folder, Feed(plays(day, then=ENDED)) as feed:
         (folder / "record.session.part").mkdir()
@@ -317,7 +320,7 @@ def an_optional_record_needs_no_session_file(program):
 
 
 def a_server_names_its_session(program):
-    """`serve`, as it is told; `follow` of both ends of one session."""
+    """`serve` names the session given. `follow` checks that both servers are in the same one."""
     day, _ = day_of(20)
     with folder_with(day=day) as folder:
         served = Running(program, "serve", folder / "day", "--after", "10", "--port", "0", "--count", "2", "--session", "DAY7", *WORDS)

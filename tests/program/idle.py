@@ -13,18 +13,18 @@ from common import differs, split
 from living import ENDED, LOGIN, WORDS, Feed, Running, acceptance, answer, connect, day_of, feeding, folder_with, live, packet, plays, received
 from standby import closed_port, waits_for
 
-# The share of a processor that a server may take, even if a message is due soon, and for how long it is measured.
+# The share of a processor that a server may use, even if a message is due soon, and for how long it is measured.
 SHARE, SHARE_BEFORE_A_MESSAGE = 0.01, 0.05
 LOOK = 1
 # For how long a record is left alone.
 IDLE = 3
-# This many clients come while a call fails: more than the server has slots.
+# This many clients connect while a call fails: more than the server has slots.
 FEW, MANY = 2, 70
 
 
 def share_differs(label, server, most=SHARE):
-    """What differs where a process takes more than its share of a processor in some seconds: in each of two looks, since it may have had something
-    to do in the first one."""
+    """Yields what is wrong if a process exceeds its share of a processor. It fails only if two measurements in a row are too high, because it may
+    have had work to do in the first one."""
     shares = []
     for _ in range(2):
         used, begun = server.processor_seconds(), time.monotonic()
@@ -37,7 +37,7 @@ def share_differs(label, server, most=SHARE):
 
 @contextlib.contextmanager
 def following(program, folder):
-    """`live`, whose feed sends heartbeats, beside a client that has not logged in, and `follow` behind both."""
+    """Runs `live`, whose feed sends heartbeats and which has a client that has not logged in, and `follow` at both."""
     day, _ = day_of(20)
     end = threading.Event()
     with Feed(plays(day, wait=end)) as feed, live(program, feed.port) as server, connect(server.port):
@@ -50,7 +50,7 @@ def following(program, folder):
 
 @contextlib.contextmanager
 def without_a_feed(program, folder):
-    """`live`, whose feed ends and is lost, and one that never had one."""
+    """Runs `live` after its feed has ended and is lost, and one that never had a feed."""
     day, _ = day_of(20)
     with Feed(plays(day), lambda peer, login: None) as feed, live(program, feed.port) as lost, \
             live(program, closed_port()) as alone, Feed(plays(day, then=ENDED)) as other, live(program, other.port, "--stay") as over:
@@ -61,7 +61,7 @@ def without_a_feed(program, folder):
 
 @contextlib.contextmanager
 def before_a_market(program, folder):
-    """`live`, where a client that sends no more and one that does wait for the market, and one more for a place."""
+    """Runs `live` with a client that has shut down sending and one that has not, both waiting for the market, and a third that waits for a place."""
     day, _ = day_of(20)
     begin = threading.Event()
 
@@ -82,7 +82,7 @@ def before_a_market(program, folder):
 
 @contextlib.contextmanager
 def played(program, folder):
-    """`feed`, to a client that has all, and to one that reads nothing."""
+    """Runs `feed` with a client that has received everything, and with one that reads nothing."""
     (folder / "day").write_bytes(day_of(20)[0])
     (folder / "large").write_bytes((b"\xea\x60" + b"z" * 60_000) * 200)
     with feeding(program, folder / "day", "--stay") as all_played, feeding(program, folder / "large") as unread, \
@@ -92,7 +92,7 @@ def played(program, folder):
 
 @contextlib.contextmanager
 def paced(program, folder):
-    """`feed`, to a client whose next message is not due."""
+    """Runs `feed` with a client whose next message is not due."""
     (folder / "day").write_bytes(day_of(20)[0])
     with feeding(program, folder / "day", "--rate", "1") as server, logged_in(server):
         yield (server,)
@@ -100,7 +100,7 @@ def paced(program, folder):
 
 @contextlib.contextmanager
 def logged_in(server, room=None):
-    """A client whose login is accepted."""
+    """Yields a client whose login is accepted."""
     with connect(server.port, room) as client:
         client.sendall(LOGIN)
         received(client, len(acceptance(1)))
@@ -108,7 +108,7 @@ def logged_in(server, room=None):
 
 
 def an_idle_server_takes_next_to_no_processor_time(program):
-    """With a feed that says nothing new, without one, before there is a market, and where clients have all, or read nothing."""
+    """With a feed that says nothing new, without a feed, before there is a market, and with clients that have everything or read nothing."""
     with ThreadPoolExecutor(16) as looks, contextlib.ExitStack() as held:
         looked = []
         for scene in following, without_a_feed, before_a_market, played, paced:
@@ -121,7 +121,7 @@ def an_idle_server_takes_next_to_no_processor_time(program):
 
 
 def an_idle_server_leaves_its_record_alone(program):
-    """It is looked at once a second, and synced where something was added: here the next such call would fail, and end the server."""
+    """The record is examined once a second, and synced if something was added. Here the next such call would fail and end the server."""
     day, wanted = day_of(20)
 
     def differences(kind, most):
@@ -134,15 +134,15 @@ def an_idle_server_leaves_its_record_alone(program):
                 yield from differs(f"more than {most} calls of {kind}", ((folder / "failed").exists(), server.process.poll()), (False, None))
                 end.set()
 
-    # A sync of the session file, and one of the record; some looks at the start, and one a second.
+    # A sync of the session file, and one of the record. The record is examined several times at the start, and then once a second.
     with ThreadPoolExecutor(2) as side_by_side:
         for found in side_by_side.map(lambda row: list(differences(*row)), [("sync", 2), ("statx", 12)]):
             yield from found
 
 
 def meanwhile(program, kind, start, count):
-    """What differs where each call of a kind fails for a while: clients that come meanwhile are told nothing or all that there is, the server takes little time,
-    and afterwards the next client is told all. `start` begins the server, and says what a client is told."""
+    """Yields what is wrong while each call of a kind fails for a while. Clients that connect meanwhile receive nothing or everything, the server uses
+    little processor time, and afterwards the next client receives everything. `start` starts the server, and returns what a client receives."""
     with shim() as library, folder_with() as folder, start(program, folder, LD_PRELOAD=str(library), FAIL=f"{kind}:while",
                                                            FAILING=str(folder / "fails")) as (server, wanted):
         (folder / "fails").touch()
@@ -173,7 +173,7 @@ def a_feed(program, folder, **environment):
 
 
 def a_server_waits_while_calls_fail_and_goes_on_afterwards(program):
-    """More clients come meanwhile than there are places, and none of these is lost."""
+    """Meanwhile more clients connect than there are places, and no place is lost."""
     rows = [(kind, one_place, FEW) for kind in ("accept4", "epoll_ctl", "open", "connect", "socket")]
     rows += [("accept4", a_feed, FEW), ("epoll_ctl", a_feed, MANY), ("open", a_feed, MANY)]
     with ThreadPoolExecutor(len(rows)) as side_by_side:

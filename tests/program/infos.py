@@ -1,4 +1,4 @@
-"""`info` of random and of refused days, against a reader of its own.
+"""`info` of random and of refused days, against an independent reader.
 
 RUNS lists the runs. Each is a function that is given the program and yields the differences.
 """
@@ -28,7 +28,7 @@ def order_of(payload):
 
 
 class RandomDay:
-    """Payloads of a day that follows the order rules, from the bytes of a random generator."""
+    """Generates the payloads of a day that follows the order rules."""
 
     def __init__(self, seed):
         self.random = random.Random(seed)
@@ -118,7 +118,7 @@ class RandomDay:
 
 
 def summary(payloads):
-    """What these messages are, all of which follow the order rules: read again, by the offsets of the standard."""
+    """Returns the summary of these messages, all of which follow the order rules. They are read independently, by the offsets of the standard."""
     times, events, stocks, shares, peak = [], [], set(), {}, 0
     for number, payload in enumerate(payloads, 1):
         kind, time = chr(payload[0]), int.from_bytes(payload[5:11], "big")
@@ -161,7 +161,7 @@ def quoted(character):
 
 
 def lines(told):
-    """The same as lines of text."""
+    """Returns the same as lines of text."""
     yield from (f"{name} {told[name]}" for name in ("messages", "bytes"))
     yield from (f"{name} {told[name]['time'] if told[name] else 'none'}" for name in ("first", "last"))
     yield from (f"{name} {told[name]}" for name in ("stocks", "live", "peak"))
@@ -175,7 +175,7 @@ def block(payload):
 
 
 def is_told(program, label, data, payloads, *words):
-    """Both forms of what is told of a file, which begins with these messages, and then ends or is refused as `check` refuses it."""
+    """Checks both forms of the summary of a file that begins with these messages, and then ends or is refused as `check` refuses it."""
     checked = ended(program, "check", "day.itch", *words, day=data)
     told = summary(payloads)
     status, output, error = ended(program, "info", "day.itch", *words, day=data)
@@ -222,7 +222,7 @@ def a_day_on_standard_input_is_summarized(program):
 
 
 def each_call_of_info_may_fail(program):
-    """With a failed read or refused memory the messages before are told, or nothing is; and a failed write leaves a beginning."""
+    """If a read fails or memory runs out, the messages before are summarized, or nothing is printed. If a write fails, the output is a beginning."""
     payloads = RandomDay(3).payloads
     data = b"".join(map(block, payloads))
     with tempfile.TemporaryDirectory() as folder:

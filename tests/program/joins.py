@@ -16,20 +16,20 @@ COUNTS = range(len(DAY) + 1)
 
 
 def folder_of_a_day(folder):
-    """Writes the day, and each end of it: `N.itch` begins with the message with number N."""
+    """Writes the day, and each end of it: `N.itch` begins with message number N."""
     for first in range(1, len(DAY) + 2):
         (Path(folder) / f"{first}.itch").write_bytes(b"".join(DAY[first - 1:]))
 
 
 def snapped(folder, program, *part):
-    """The snapshot that `snap` writes of a part of the day."""
+    """Returns the snapshot that `snap` writes of a part of the day."""
     status, output, error = ended_in(folder, program, "snap", "1.itch", *part)
     assert (status, error) == (0, b""), error
     return output
 
 
 def wanted_after(held, first, count, snapshots):
-    """What a join from a snapshot of `held` messages ends with, after `count` messages of the day."""
+    """Returns how a join from a snapshot of `held` messages must end, after `count` messages of the day."""
     if first > held + 1:
         return 1, b"", f"itchsnap: gap: message {held + 1} is next, and the feed begins with {first}\n".encode()
     if held > count:
@@ -63,7 +63,7 @@ def joins_until_each_time_are_snapshots_of_the_day(program):
 
 
 def write_checkpoints(folder, program, counts):
-    """Writes the snapshots after this many messages into a folder of their own, with their index."""
+    """Writes the snapshots after these numbers of messages into a folder of their own, with their index."""
     snapshots = Path(folder) / "snapshots"
     snapshots.mkdir(exist_ok=True)
     lines = []
@@ -76,7 +76,7 @@ def write_checkpoints(folder, program, counts):
 
 
 def points():
-    """Each point of the day, as a word of `at` and as the words of `snap`."""
+    """Yields each point of the day, as the argument of `at` and as the options of `snap`."""
     for count in COUNTS:
         yield str(count), ("--after", str(count))
     for time in range(11):

@@ -13,7 +13,7 @@ EVERY = 20
 
 
 class Keeping:
-    """A server that is started again after it has ended, and what it is to have kept by then."""
+    """A server that is restarted after it has ended, and checks of what it must have kept by then."""
 
     def __init__(self, program, library, **environment):
         self.program, self.environment = program, {"LD_PRELOAD": str(library), **environment}
@@ -41,7 +41,7 @@ class Keeping:
             return differences, failed.exists()
 
     def differences(self, folder):
-        """The record is a beginning of the day, has each message that a snapshot has, and no snapshot is of anything else."""
+        """The record is a beginning of the day and contains each message of every snapshot, and no snapshot contains anything else."""
         record = (folder / "record").read_bytes() if (folder / "record").exists() else b""
         yield from differs("the record", self.day.startswith(record), True)
         for path in (folder / "snapshots").glob("*.snap"):
@@ -52,14 +52,14 @@ class Keeping:
 
 
 def the_record_has_what_each_snapshot_has(program):
-    """Wherever the process is killed, and wherever a write fails; and it continues with both when it is started again."""
+    """The process is killed at any call, or any write fails. It resumes with both when it is restarted."""
     with shim() as library:
         yield from failing_in_turn(Keeping(program, library, KILLS="1").attempt, "open write sync rename".split())
         yield from failing_in_turn(Keeping(program, library).attempt, ["write"])
 
 
 def sigterm_loses_nothing_that_a_client_was_sent(program):
-    """The record has each message of the snapshot that was fetched before, and a restart continues with it to the complete day."""
+    """The record contains each message of the snapshot that was fetched before, and a restart resumes with it to the complete day."""
     day, _ = day_of(2000)
     blocks = split(day)
     with folder_with(day=day) as folder, feeding(program, folder / "day", "--rate", "4000") as feed:
@@ -69,7 +69,7 @@ def sigterm_loses_nothing_that_a_client_was_sent(program):
                 status, snapshot, _ = fetch(program, server.port)
                 server.process.terminate()
                 ended, _, lines = server.ended()
-                # On a busy machine the day may be over before all eight were killed.
+                # On a busy machine the day may be over before all eight have been killed.
                 if ended == 0 and lines[-1].startswith("feed: ended"):
                     break
                 yield from differs(f"{nth}", (status, ended), (0, -signal.SIGTERM))

@@ -1,4 +1,4 @@
-"""Large day files, and the snapshots that they must give, made without the program."""
+"""Large day files, and their correct snapshots, made without the program."""
 import random
 import struct
 
@@ -23,15 +23,15 @@ def closing(number):
 
 
 def locates(count, seed=1):
-    """Directory entries at `count` locates, in any order, and their snapshot."""
+    """Returns directory entries at `count` locates, in any order, and their snapshot."""
     order = list(range(count))
     random.Random(seed).shuffle(order)
     return b"".join(map(entry, order)), b"".join(map(entry, range(count))) + closing(count + 1)
 
 
 def orders(count, symbols=8000, seed=1):
-    """`count` orders, all of which stay live, and their snapshot: by locate, bids from the highest price and then asks from
-    the lowest, each price in order of arrival."""
+    """Returns `count` orders, all of which stay live, and their snapshot: by locate, bids from the highest price and then asks from the
+    lowest, each price in order of arrival."""
     rng = random.Random(seed)
     entries = [entry(locate) for locate in range(1, symbols + 1)]
     day = list(entries)
@@ -52,7 +52,7 @@ def orders(count, symbols=8000, seed=1):
 
 
 def added(reference, price, side=b"B"):
-    """An order of 100 shares at locate 1."""
+    """Returns an order of 100 shares at locate 1."""
     return block(b"A", 1, struct.pack(">Q1sI8sI", reference, side, 100, stock(1), price))
 
 
@@ -61,7 +61,8 @@ def deleted(reference):
 
 
 def ladder(count):
-    """One side with `count` prices, which come in ascending order; then all but the last thousand go, the worst in the middle first."""
+    """Returns one side with `count` prices, which are added in ascending order. Then all except the last thousand are deleted, the
+    worst in the middle first."""
     day = [added(price, price) for price in range(1, count + 1)]
     gone = count - 1000
     middle = gone // 2
@@ -71,21 +72,21 @@ def ladder(count):
 
 
 def queue(count):
-    """`count` orders at one price, and their snapshot, in which they are in the same order."""
+    """Returns `count` orders at one price, and their snapshot, in which they are in the same order."""
     head, tail = added(0, 500)[:13], added(0, 500)[21:]
     day = entry(1) + b"".join([head + reference.to_bytes(8, "big") + tail for reference in range(1, count + 1)])
     return day, day + closing(2 + count)
 
 
 def far_references(count):
-    """`count` orders whose references are as far apart as numbers of 64 bits allow, and their snapshot."""
+    """Returns `count` orders whose references are as far apart as 64-bit numbers allow, and their snapshot."""
     step = (2**64 - 1) // count
     day = [added(step * place, 500) for place in range(1, count + 1)]
     return entry(1) + b"".join(day), entry(1) + b"".join(day) + closing(2 + count)
 
 
 def used_again(count):
-    """One reference that is used `count` times: each time its order is deleted, but for the last time."""
+    """Returns one reference that is used `count` times: its order is deleted each time except the last."""
     again = [added(7, price) + deleted(7) for price in range(1, count)]
     last = added(7, count)
     return entry(1) + b"".join(again) + last, entry(1) + last + closing(2 + 2 * count - 1)

@@ -17,9 +17,9 @@ LIST_FILE = b"  %s: a list has locates from 0 to 65535 and ascending ranges such
 
 
 def bad_list(cause):
-    """How a command with a bad list ends, with this second line."""
+    """Returns how a command with a bad list must end, with this second line."""
     return *BAD_LIST[:2], BAD_LIST[2] + cause
-# The arguments of a command that has a list, without the list.
+# The arguments of commands that take a list, without the list.
 COMMANDS = (
     ("snap", "no.itch", "--only", "LIST", "--output", "no/out"),
     ("snap", "day.itch", "--only", "LIST", "--output", "no/out"),
@@ -83,7 +83,7 @@ def a_list_that_is_no_text_is_no_list(program):
 
 
 def directory(count):
-    """The Stock Directory messages of this many locates, each with a stock of its own."""
+    """Returns the Stock Directory messages of this many locates, each with a stock of its own."""
     return b"".join(map(entry, range(count)))
 
 

@@ -1,4 +1,4 @@
-"""`live`: a feed that is lost and comes back, clients of all kinds, records and snapshots.
+"""`live`: a feed that is lost and reconnected, clients of all kinds, records and snapshots.
 
 RUNS lists the runs. Each is a function that is given the program and yields the differences.
 """
@@ -20,7 +20,7 @@ from living import (BEAT, CLIENT_BEAT, ENDED, LOGIN, PATIENCE, REJECTED, SILENCE
 
 
 def what_is_followed_is_served(program):
-    """Two clients at the complete market, and the end of the feed: the program ends once they are gone, and says how each ended."""
+    """Two clients are served the complete market, and the feed ends. The program ends when they have left, and reports how each ended."""
     day, wanted = day_of(300)
     end = threading.Event()
     with Feed(plays(day, wait=end, held=ENDED)) as feed, live(program, feed.port) as server:
@@ -37,7 +37,8 @@ def what_is_followed_is_served(program):
 
 
 def a_login_waits_for_a_market(program):
-    """A server that begins with a snapshot accepts a login at once, and answers it once that is complete, and not before: with heartbeats meanwhile."""
+    """A server that begins with a snapshot accepts a login at once, but answers it only when the snapshot is complete. Meanwhile it sends
+    heartbeats."""
     day, wanted = day_of(50)
     begin, end = threading.Event(), threading.Event()
 
@@ -61,8 +62,8 @@ def a_login_waits_for_a_market(program):
 
 
 def a_feed_that_is_cut_is_asked_for_the_next_message(program):
-    """It is cut within its acceptance, within a message, between two, and within the length of one. The session that it names first is
-    asked for from then on, and the record has each message once."""
+    """The feed is cut within its acceptance, within a message, between two, and within the length of one. The session that it names first is
+    requested from then on, and the record contains each message once."""
     day, wanted = day_of(100)
     blocks = split(day)
     name = b"  ITCHSNAP"
@@ -84,7 +85,7 @@ def a_feed_that_is_cut_is_asked_for_the_next_message(program):
 
 
 def a_record_is_gone_on_with(program):
-    """After a restart, with a block cut off at its end, wherever; and after the process was killed."""
+    """After a restart with an unfinished block at the end of the record, cut anywhere; and after the process was killed."""
     day, _ = day_of(60)
     blocks = split(day)
     for whole, cut in ((0, 0), (0, 1), (20, 0), (20, 1), (20, 5), (len(blocks), 0), (len(blocks) - 1, len(blocks[-1]) - 1)):
@@ -119,7 +120,7 @@ def a_killed_server_s_record_is_gone_on_with(program):
 
 
 def a_record_that_is_no_day_file_is_refused(program):
-    """It is left as it is, and nobody is asked for anything."""
+    """The record is unchanged, and no server is contacted."""
     day, _ = day_of(5)
     blocks = split(day)
     for kept, number in ((b"\0\x05hello", 1), (blocks[-1], 1), (blocks[0] + b"\0\x05hello", 2)):
@@ -134,7 +135,7 @@ def a_record_that_is_no_day_file_is_refused(program):
 
 
 def a_snapshot_is_where_it_begins(program):
-    """Its server is cut within it once, and asked for all of it again. Then all is as from the first message on."""
+    """The snapshot server is lost once in the middle, and asked for the entire snapshot again. Then everything is as from the first message on."""
     day, wanted = day_of(200)
     early, end = snapshot_after(program, day, 120), threading.Event()
     whole = answer(early)
@@ -147,7 +148,7 @@ def a_snapshot_is_where_it_begins(program):
         yield from differs("asked", (glimpse.asked(), feed.asked()), ([1, 1], [121]))
         end.set()
         server.said("feed: ended")
-        # With --stay it serves on.
+        # With --stay it keeps serving.
         yield from differs("fetched at the end", fetch(program, server.port), (0, wanted, b""))
         lines = ["glimpse: accepted\n", "glimpse: lost: closed by the server\n", "glimpse: accepted\n", "feed: joined at 121\n", "feed: accepted from 121\n",
                  f"feed: ended at {number_of(wanted)}\n"]
@@ -155,7 +156,8 @@ def a_snapshot_is_where_it_begins(program):
 
 
 def a_first_login_that_is_not_authorised_ends_it(program):
-    """At a feed, and at the server of a snapshot. Any other rejection is asked again: of a standby that is behind, or where a feed comes back."""
+    """At a feed, and at a snapshot server. Any other rejection is retried: it may come from a standby that is behind, or from a feed that is coming
+    back."""
     day, wanted = day_of(10)
     for glimpse in (False, True):
         with Feed(sends(b"\0\x02JA")) as feed:
@@ -172,7 +174,7 @@ def a_first_login_that_is_not_authorised_ends_it(program):
 
 
 def a_message_that_is_refused_ends_it(program):
-    """As a replay says it; the record has the messages before."""
+    """The error is that of a replay, and the record contains the messages before."""
     refused = (Path(__file__).resolve().parents[2] / "examples/refused.itch").read_bytes()
     with folder_with() as folder, Feed(plays(refused)) as feed, live(program, feed.port, "--record", folder / "record") as server:
         status, output, lines = server.ended()
@@ -181,7 +183,7 @@ def a_message_that_is_refused_ends_it(program):
 
 
 def a_feed_that_breaks_the_protocol_is_asked_again(program):
-    """A packet of no type, data before the acceptance, a second acceptance, a number that is later than the one asked for."""
+    """A packet of unknown type, data before the acceptance, a second acceptance, and a number later than the one requested."""
     day, _ = day_of(10)
     blocks = split(day)
     first = packet(blocks[0])
@@ -192,7 +194,7 @@ def a_feed_that_breaks_the_protocol_is_asked_again(program):
 
 
 def heartbeats_go_both_ways(program):
-    """The feed is told each second that the follower is there; one that says nothing for 15 seconds is lost."""
+    """The feed receives a heartbeat every second. A feed that says nothing for 15 seconds is lost."""
     day, _ = day_of(10)
     beats = []
 
@@ -212,7 +214,7 @@ def heartbeats_go_both_ways(program):
 
 
 def each_client_is_told_what_it_asks(program):
-    """A wrong password, a later number, no packet, a second login, a logout, one that closes, one that logs in bit by bit."""
+    """A wrong password, a later number, an invalid packet, a second login, a logout, a client that closes, and one that logs in bit by bit."""
     day, wanted = day_of(50)
     whole, end = answer(wanted), threading.Event()
     rows = [(LOGIN, whole), (LOGIN.replace(b"secret", b"wrong "), b"\0\x02JA"), (LOGIN[:-1] + b"2", b"\0\x02JS"), (b"\0\x01Q", b""),
@@ -223,7 +225,7 @@ def each_client_is_told_what_it_asks(program):
         while number_of(fetch(program, server.port)[1]) < number_of(wanted):
             fetched += 1
             time.sleep(0.05)
-        # (the line of the last one may come after its snapshot)
+        # (the line about the last client may come after its snapshot)
         server.has_lines(fetched)
         before = server.count()
         for data, said in rows:
@@ -246,8 +248,8 @@ def each_client_is_told_what_it_asks(program):
 
 
 def a_client_that_takes_nothing_hinders_no_other(program):
-    """One never reads, one says nothing at all, one is slow but takes enough, one logs out in mid-snapshot, one logs in again there:
-    the first two are cut off after 15 seconds, and meanwhile each fast one has its answer at once."""
+    """One never reads, one says nothing at all, one is slow but reads enough, one logs out in the middle of a snapshot, and one logs in again there.
+    The first two are cut off after 15 seconds, and meanwhile each fast client has its answer at once."""
     with large_server(program) as (server, whole, end), contextlib.ExitStack() as held:
         never, silent, slow = (held.enter_context(connect(server.port, room)) for room in (4096, None, 1 << 16))
         never.sendall(LOGIN)
@@ -289,7 +291,7 @@ def a_client_that_takes_nothing_hinders_no_other(program):
 
 
 def a_client_reads_to_the_end_before_it_is_closed(program):
-    """It has its complete answer although it continues sending heartbeats, and the connection is open until it closes it."""
+    """The client has its complete answer although it keeps sending heartbeats, and the connection stays open until the client closes it."""
     day, wanted = day_of(2000)
     end = threading.Event()
     with Feed(plays(day, wait=end, held=ENDED)) as feed, live(program, feed.port) as server:
@@ -307,7 +309,7 @@ def a_client_reads_to_the_end_before_it_is_closed(program):
 
 
 def a_client_that_never_closes_is_closed(program):
-    """15 seconds after it was told all: the server ends then."""
+    """It is closed 15 seconds after it has received everything. Then the server ends."""
     day, wanted = day_of(50)
     end = threading.Event()
     with Feed(plays(day, wait=end, held=ENDED)) as feed, live(program, feed.port) as server:
@@ -326,7 +328,7 @@ def a_client_that_never_closes_is_closed(program):
 
 
 def a_client_that_sends_no_more_is_told_all(program):
-    """It ends its sending half after its login, and has its snapshot, and all messages of a feed."""
+    """The client shuts down sending after its login. It still receives its snapshot, or all messages of a feed."""
     day, wanted = day_of(200)
     blocks, end = split(day), threading.Event()
     whole = acceptance(1) + b"".join(map(packet, blocks)) + ENDED
@@ -351,7 +353,7 @@ def a_client_that_sends_no_more_is_told_all(program):
 
 
 def a_client_that_leaves_before_it_is_rejected_was_rejected(program):
-    """Its rejection waits for longer each time, and it does not wait for that; by `live` and by `feed`."""
+    """A rejection is delayed longer each time, and the client does not wait for it; by `live` and by `feed`."""
     day, _ = day_of(5)
     end, wrong = threading.Event(), LOGIN.replace(b"secret", b"wrong ")
     with Feed(plays(day, wait=end, held=ENDED)) as feed, live(program, feed.port) as server, folder_with(day=day) as folder, \
@@ -368,7 +370,7 @@ def a_client_that_leaves_before_it_is_rejected_was_rejected(program):
 
 
 def a_client_that_resets_its_connection_is_a_fault(program):
-    """Before it has logged in; one that is played to has left."""
+    """That is, if it has not logged in yet. A client that is being played to is said to have left."""
     day, _ = day_of(5)
     linger = struct.pack("ii", 1, 0)
 
@@ -394,7 +396,7 @@ def a_client_that_resets_its_connection_is_a_fault(program):
 
 
 def a_server_that_was_stopped_keeps_its_feed(program):
-    """What the feed has sent meanwhile is heard first."""
+    """Data that the feed sent meanwhile is read first."""
     day, _ = day_of(10)
     end = threading.Event()
     with Feed(plays(day, wait=end, held=ENDED)) as feed, live(program, feed.port) as server:
@@ -410,7 +412,8 @@ def a_server_that_was_stopped_keeps_its_feed(program):
 
 
 def one_place_is_given_to_one_client_at_a_time(program):
-    """With one place, one that has not logged in holds none, and the second client that has waits until the first one has all."""
+    """With one place, a client that has not logged in holds none, and the second client that has logged in waits until the first one has
+    everything."""
     with large_server(program, "--clients", "1") as (server, whole, end):
         with connect(server.port), connect(server.port, 4096) as first, connect(server.port) as second:
             first.sendall(LOGIN)
@@ -455,7 +458,7 @@ def a_folder_that_is_not_there_ends_it(program):
 
 
 def a_record_that_cannot_be_written_ends_it(program):
-    """A file may have this many bytes and no more: what was written of it is kept."""
+    """A file may have this many bytes and no more. The part that was written is kept."""
     day, _ = day_of(50)
     room = 500
 

@@ -1,4 +1,4 @@
-"""What the runs of `live`, `follow` and `feed` share: a server of a feed, a command that runs meanwhile, and clients."""
+"""Helpers for the runs of `live`, `follow` and `feed`: a server of a feed, a command that runs in the background, and clients."""
 import contextlib
 import os
 import re
@@ -17,7 +17,7 @@ LOGIN = b"\0\x2fLuser  secret    " + b" " * 10 + b"1".rjust(20)
 WORDS = "--user", "user", "--pass", "secret"
 REJECTED = ["itchsnap: rejected A\n", "  not authorized: the user name or the password is not the server's\n"]
 ENDED, BEAT, CLIENT_BEAT = b"\0\x01Z", b"\0\x01H", b"\0\x01R"
-# How long a process may take to start, and to do what is waited for.
+# How long a process may take to start, and to do what a run waits for.
 PATIENCE = 60
 SILENCE = 15
 
@@ -30,12 +30,12 @@ def acceptance(first, session=SESSION):
 
 
 def packet(block):
-    """The packet of a message."""
+    """Returns the packet of a message."""
     return struct.pack(">H", len(block) - 1) + b"S" + block[2:]
 
 
 def answer(snapshot, session=SESSION):
-    """What a login for all messages is answered."""
+    """Returns the answer to a login for all messages."""
     return acceptance(1, session) + b"".join(map(packet, split(snapshot))) + ENDED
 
 
@@ -48,13 +48,13 @@ def session_in(login):
 
 
 def block_in(peer):
-    """A complete block that a peer sends, or what there is before its end."""
+    """Returns a complete block that a peer sends, or the bytes before its end."""
     block = received(peer, 2)
     return block + received(peer, int.from_bytes(block, "big")) if len(block) == 2 else block
 
 
 def received(peer, count=None):
-    """This many bytes of a peer, or all that it sends before its end."""
+    """Returns this many bytes from a peer, or all bytes that it sends before its end."""
     pieces, left = [], float("inf") if count is None else count
     while left > 0 and (piece := peer.recv(int(min(left, 1 << 16)))):
         pieces.append(piece)
@@ -63,8 +63,8 @@ def received(peer, count=None):
 
 
 class Feed:
-    """A server of a feed: each connection is one of these scripts, called with the socket and the login; the last one continues for ever.
-    `logins` has what was asked, and `closing` is set once it is to end."""
+    """A server of a feed. For each connection it calls one of these scripts with the socket and the login, and the last script for all further
+    connections. `logins` contains the requests, and `closing` is set when it must end."""
 
     def __init__(self, *scripts, address="127.0.0.1", port=0):
         self.scripts, self.logins, self.closing = scripts, [], threading.Event()
@@ -101,7 +101,8 @@ class Feed:
 
 
 def plays(day, until=None, then=b"", held=b"", wait=None, session=SESSION):
-    """A script: what is asked of these messages, up to number `until`, then these bytes. After `wait` it sends `held` and closes."""
+    """Returns a script that sends the requested part of these messages, up to number `until`, and then these bytes. After `wait` it sends `held` and
+    closes."""
     blocks = split(day)
 
     def script(peer, login):
@@ -116,12 +117,12 @@ def plays(day, until=None, then=b"", held=b"", wait=None, session=SESSION):
 
 
 def sends(data):
-    """A script: these bytes, and the end of the connection."""
+    """Returns a script that sends these bytes and ends the connection."""
     return lambda peer, login: peer.sendall(data)
 
 
 class Running:
-    """A command that says on standard error that it is there, and what becomes of it. Its words and its lines are kept."""
+    """A command that reports on standard error when it is ready, and then what happens. Keeps its arguments and its lines."""
 
     def __init__(self, program, *words, listens=True, **environment):
         self.process = subprocess.Popen([program, *map(str, words)], stdout=subprocess.PIPE, stderr=subprocess.PIPE, stdin=subprocess.DEVNULL,
@@ -146,7 +147,7 @@ class Running:
             self.output.append(piece)
 
     def said(self, pattern, seconds=PATIENCE):
-        """The line that begins so, once it is there; none where the process has ended without it."""
+        """Returns the first line with this beginning, when it is written, or None if the process ends without it."""
         def found():
             return next((line for line in self.lines if re.match(pattern, line)), None)
         with self.arrived:
@@ -154,7 +155,7 @@ class Running:
             return found()
 
     def count(self):
-        """How many lines were written so far."""
+        """Returns how many lines have been written so far."""
         return b"".join(self.output).count(b"\n")
 
     def has_lines(self, count):
@@ -178,11 +179,11 @@ class Running:
         self.process.stderr.close()
 
     def processor_seconds(self):
-        """How much time of a processor the process has taken so far."""
+        """Returns how much processor time the process has used so far."""
         return int(Path(f"/proc/{self.process.pid}/schedstat").read_text().split()[0]) / 1e9
 
     def ended(self, seconds=PATIENCE):
-        """The status, the output, and the lines of standard error but the one about the port."""
+        """Returns the status, the output, and the lines of standard error except the one about the port."""
         self.process.wait(seconds)
         for reader in self.readers:
             reader.join()
@@ -198,18 +199,18 @@ def follow(program, feed, glimpse, *words):
 
 
 def feeding(program, file, *words):
-    """A feed in the session that the feeds of this module name too."""
+    """Runs `feed` in the session that the feeds of this module also name."""
     return Running(program, "feed", file, "--port", "0", "--session", "ITCHSNAP", *WORDS, *words)
 
 
 def fetch(program, port, *words):
-    """The status and both outputs of a fetch."""
+    """Runs `fetch`, and returns its status and both outputs."""
     with tempfile.TemporaryDirectory() as folder:
         return ended_in(folder, program, "fetch", "--port", str(port), *WORDS, *words)
 
 
 def connect(port, room=None):
-    """A connection, with this much room to receive."""
+    """Connects with a receive buffer of this size."""
     peer = socket.socket()
     if room:
         peer.setsockopt(socket.SOL_SOCKET, socket.SO_RCVBUF, room)
@@ -219,7 +220,7 @@ def connect(port, room=None):
 
 
 def told(port, data):
-    """All that a client is told that says this, until its connection is closed."""
+    """Returns everything that a client receives that sends this, until its connection is closed."""
     with connect(port) as peer:
         peer.sendall(data)
         with contextlib.suppress(ConnectionError):
@@ -228,13 +229,13 @@ def told(port, data):
 
 
 def memory_of(process):
-    """The most memory that a process had so far, in kilobytes: of addresses, and of what it has written to."""
+    """Returns the peak memory of a process, in kilobytes: its address space, and the memory that it has written to."""
     status = Path(f"/proc/{process.pid}/status").read_text()
     return {kind: int(kilobytes) for kind, kilobytes in re.findall(r"^(VmPeak|VmHWM):\s+(\d+) kB$", status, re.M)}
 
 
 def without_first_beats(data):
-    """What a client is told without the heartbeats after its acceptance, which come while it waits for its snapshot."""
+    """Returns what a client received without the heartbeats after its acceptance, which it receives while it waits for its snapshot."""
     first = last = len(acceptance(1))
     while data.startswith(BEAT, last):
         last += len(BEAT)
@@ -246,7 +247,7 @@ def day_of(count, symbols=20):
 
 
 def recorded(record, session="ITCHSNAP"):
-    """A record, and the file next to it that names its session, as `folder_with` takes them."""
+    """Returns a record and the session file next to it, as arguments of `folder_with`."""
     return {"record": record, "record.session": f"{session}\n".encode()}
 
 
@@ -257,7 +258,7 @@ def snapshot_after(program, day, count):
 
 
 def number_of(snapshot):
-    """The number in the End of Snapshot of these bytes, which have one as their last block."""
+    """Returns the number in the End of Snapshot that is the last block of these bytes."""
     return int(snapshot[-20:])
 
 
@@ -271,7 +272,7 @@ def folder_with(**files):
 
 @contextlib.contextmanager
 def large_server(program, *words):
-    """A server of a market of 8 MB, more than the system holds for a client, its answer, and an event that ends its feed."""
+    """Yields a server of a market of 8 MB, more than the system buffers for a client, its answer, and an event that ends its feed."""
     day, wanted = large.orders(200_000)
     end = threading.Event()
     with folder_with() as folder, Feed(plays(day, wait=end, held=ENDED)) as feed, live(program, feed.port, "--record", folder / "record", *words) as server:

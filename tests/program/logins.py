@@ -20,14 +20,14 @@ def login_of(user, password):
 
 
 def answered(port, user, password):
-    """The type of the packet that answers a login."""
+    """Returns the type of the packet that answers a login."""
     with connect(port) as peer:
         peer.sendall(login_of(user, password))
         return received(peer, 3)[2:]
 
 
 def becomes(port, wanted, user, password):
-    """Waits until a login is answered so. A client that was rejected waits longer each time."""
+    """Waits until a login gets this answer. Each rejection is delayed longer."""
     begun = time.monotonic()
     while (got := answered(port, user, password)) != wanted and time.monotonic() < begun + PATIENCE:
         time.sleep(0.05)
@@ -39,12 +39,13 @@ def live(program, feed, *words):
 
 
 def about(server, name):
-    """The lines about a file."""
+    """Returns the lines about a file."""
     return [line for line in server.lines if str(name) in line and not line.startswith("feed: ")]
 
 
 def a_password_is_rotated_while_it_is_served(program):
-    """The old one is rejected from then on, the new one is accepted, and who was accepted before is served; also where the file is replaced."""
+    """The old password is rejected from then on, the new one is accepted, and clients accepted before are still served. This also works if the file
+    is replaced."""
     day, wanted = day_of(20)
     end = threading.Event()
     with folder_with(word=b"secret\n", next=b"third\r\n") as folder, Feed(plays(day, wait=end, held=ENDED)) as feed, \
@@ -66,7 +67,7 @@ def a_password_is_rotated_while_it_is_served(program):
 
 
 def a_feed_whose_password_is_rotated_is_asked_with_the_new_one(program):
-    """By `live`, from its own file or that of its clients, and by `follow`: the next connection has the new one."""
+    """By `live`, from its own file or that of its clients, and by `follow`: the next connection uses the new one."""
     day, _ = day_of(20)
 
     def rotating(folder):
@@ -94,7 +95,7 @@ def a_feed_whose_password_is_rotated_is_asked_with_the_new_one(program):
 
 
 def a_file_of_users_lets_each_of_them_in(program):
-    """By `live` and by `feed`: each with its own password, in either case, and with both of its passwords where it has two."""
+    """By `live` and by `feed`: each user with its own password, in upper and lower case, and with either password if it has two."""
     day, _ = day_of(20)
     end = threading.Event()
     users = b"desk:secret\r\n\r\nrisk:pass:word\r\ndesk:second\nabcdef:0123456789"
@@ -122,7 +123,7 @@ def a_file_of_users_lets_each_of_them_in(program):
 
 
 def a_file_that_is_wrong_changes_nothing(program):
-    """It is said once, and so is that it is gone; those who may log in are those of the last good one."""
+    """The fault is reported once, and so is its end. Meanwhile the users of the last good file may log in."""
     day, _ = day_of(20)
     end = threading.Event()
     reason = {b"user:secret\ndesk\n": "line 2: no colon", b"\nseven77:w\n": "line 2: bad user", b"user:secret\nuser:\n": "line 2: bad password",
@@ -149,7 +150,7 @@ def a_file_that_is_wrong_changes_nothing(program):
 
 
 def wrong_files_of_users_are_told(program):
-    """With the line, before anything else."""
+    """With the number of the line, before anything else happens."""
     rows = {"users": (b"a:b\r\nc\r\n", "line 2: no colon"), "long": (b"a:b\nseven77:p\n", "line 2: bad user"), "none": (b"\n", "no user"),
             "word": (b"a:12345678901\n", "line 1: bad password"), "blank": (b":p\n", "line 1: bad user"), "return": (b"a:b\r\r\n", "line 1: bad password")}
     with folder_with(pass_file=b"w") as folder:
@@ -174,7 +175,7 @@ def a_file_of_users_may_have_65536_bytes(program):
 
 
 def a_path_of_any_characters_is_in_the_log(program):
-    """Those that have a meaning there are spelled out: each line is still one object, with the path."""
+    """Characters with a special meaning in the log are escaped: each line is still one object, with the path."""
     day, _ = day_of(20)
     name = 'a "word"\\of\tus\n'
     for form in ("json", "text"):
@@ -190,7 +191,7 @@ def a_path_of_any_characters_is_in_the_log(program):
 
 
 def words_of_users_are_read(program):
-    """One user or a file of them, and then a login for the feed."""
+    """A single user or a file of users, and then a login for the feed."""
     with folder_with() as folder:
         base = ["live", "--feed", "h:1", "--port", "0"]
         own = ["--feed-user", "u", "--feed-pass-file", "w"]
@@ -204,7 +205,7 @@ def words_of_users_are_read(program):
 
 
 def a_password_file_may_end_in_a_carriage_return(program):
-    """Of `fetch`, `serve` and `feed`."""
+    """In `fetch`, `serve` and `feed`."""
     day, wanted = day_of(20)
     with folder_with(word=b"secret\r\n", day=day) as folder:
         words = *USER, "--pass-file", str(folder / "word")
