@@ -15,14 +15,14 @@ from costs import cost
 
 TOP = Path(__file__).resolve().parent.parent.parent
 LONGEST = 65_535
-# Codes of itchsnap.h.
+# Codes from itchsnap.h.
 OK, KEPT, JOINED, CONFLICT = 0, 64, 68, 73
 
-# What a list is, where an item is too long to be quoted.
+# How an error describes a list with an item that is too long to be quoted.
 LISTED = b"  a list has locates from 0 to 65535 and ascending ranges such as 1-40, between commas"
 
 def of_locates(snapshot, wanted):
-    """A snapshot cut down to some locates."""
+    """Returns a snapshot reduced to some locates."""
     kept, at = [], 0
     while at < len(snapshot):
         size, kind, locate = struct.unpack_from(">HcH", snapshot, at)
@@ -119,7 +119,7 @@ def the_longest_message_is_read(program):
 
 
 def the_longest_message_waits_in_a_joiner(_program):
-    """In the released C library, since the program's `join` has nothing wait."""
+    """This uses the released C library, because nothing waits in the program's `join`."""
     sys.path.insert(0, str(TOP / "python"))
     package = importlib.import_module("sundrekk._library")
     library, joiner = package.library, package.Handle()
@@ -136,18 +136,18 @@ def the_longest_message_waits_in_a_joiner(_program):
 
 
 def small_orders(locate, count, first):
-    """`count` orders of one share, from this reference on."""
+    """Returns `count` orders of one share, starting with this reference."""
     return [large.block(b"A", locate, struct.pack(">QcI8sI", first + it, b"B", 1, large.stock(locate), 1)) for it in range(count)]
 
 
 def effects(kinds, count, first):
-    """`count` messages, of these kinds by turns, each of which takes all of an order of one share, from this reference on."""
+    """Returns `count` messages, of these kinds in turn, each of which takes the only share of an order, starting with this reference."""
     fields = {b"E": struct.pack(">IQ", 1, 7), b"X": struct.pack(">I", 1), b"D": b"", b"C": struct.pack(">IQcI", 1, 8, b"Y", 1)}
     return [large.block(kind, 1, struct.pack(">Q", first + it) + fields[kind]) for it, kind in zip(range(count), kinds * count)]
 
 
 def without_effect(kinds, count):
-    """`count` messages, of these kinds by turns, that change nothing."""
+    """Returns `count` messages, of these kinds in turn, that change nothing."""
     blocks = {
         b"P": large.block(b"P", 1, struct.pack(">QcI8sIQ", 0, b"B", 1, large.stock(1), 1, 0)),
         b"B": large.block(b"B", 1, bytes(8)),
@@ -159,7 +159,7 @@ def without_effect(kinds, count):
 
 
 def three_million_live_orders_are_kept(program):
-    """In less than twice the memory of their day file."""
+    """They take less than twice the memory of their day file."""
     day, snapshot = large.queue(3_000_000)
     with tempfile.TemporaryDirectory() as folder:
         (Path(folder) / "day.itch").write_bytes(day)
@@ -170,7 +170,7 @@ def three_million_live_orders_are_kept(program):
 
 
 def different_messages_with_one_effect_take_no_time(program):
-    """Beside 100,000 live orders, so that a comparison of the markets at each of 200,000 pairs would take hours."""
+    """There are 100,000 live orders, so comparing the markets at each of 200,000 pairs would take hours."""
     count = 100_000
     market, _ = large.orders(count, symbols=2)
     fronts = market + b"".join(small_orders(1, count, count + 1))

@@ -44,17 +44,17 @@ def the_version_is_that_of_the_changes_and_the_toolchain(program):
 
 
 def ended(words, ignored):
-    """The status and the error of a command whose output nobody reads, where SIGPIPE has its default or is ignored."""
+    """Returns the status and the error of a command whose output nobody reads, with SIGPIPE at its default or ignored."""
     read, write = os.pipe()
     os.close(read)
-    # A process that another thread is just starting may still have the end that is closed here.
+    # A process that another thread is starting may still hold the end that is closed here.
     closed = select.poll()
     closed.register(write, 0)
     closed.poll(60_000)
     with os.fdopen(write, "wb") as output:
         done = subprocess.run(words, stdout=output, stderr=subprocess.PIPE, stdin=subprocess.DEVNULL, timeout=60,
                               preexec_fn=(lambda: signal.signal(signal.SIGPIPE, signal.SIG_IGN)) if ignored else None)
-    # As a shell shows a signal.
+    # As a shell reports a signal.
     return done.returncode if done.returncode >= 0 else 128 - done.returncode, done.stderr
 
 
@@ -79,7 +79,7 @@ def a_pipe_that_is_closed_early_ends_quietly(program):
 
 
 def on_terminal(words):
-    """The status, what a terminal was given, and the error."""
+    """Returns the status, the output to a terminal, and the error."""
     controller, terminal = pty.openpty()
     try:
         done = subprocess.run(words, stdout=terminal, stderr=subprocess.PIPE, stdin=subprocess.DEVNULL, timeout=60)
@@ -127,7 +127,7 @@ def both_files_may_not_be_standard_input(program):
 
 
 TRADE = large.block(b"P", 1, struct.pack(">QcI8sIQ", 0, b"B", 1, large.stock(1), 1, 0))
-# The share and the time left are shown where the size of each file is known.
+# The percentage and the time left are shown if the size of each file is known.
 SHOWN = rb"\r(\d+) bytes, (\d+) messages, +\d+ MB/s"
 LEFT = rb", +(\d+) %, \d+ s left"
 
@@ -153,7 +153,7 @@ def progress_is_shown_every_64_mib(program):
                 if (ran.returncode, ran.stdout) != (0, output) or not re.fullmatch(error, ran.stderr):
                     yield f"{words[0]} {name}: status {ran.returncode}, {ran.stdout[:80]!r}, {ran.stderr!r}"
             yield from what_is_wrongly_shown(done.stderr, len(day))
-        # (for files that are read side by side the sum is shown, and each may end within a message)
+        # (if files are read in parallel, the line shows the sum, and each file may be within a message)
         both = subprocess.run([program, "compare", "--first", "--progress", file.name, file.name], capture_output=True, timeout=120)
         if (both.returncode, both.stdout) != (0, b"same\n") or not re.fullmatch(rb"(%s%s){4}\n" % (SHOWN, LEFT), both.stderr):
             yield f"side by side: status {both.returncode}, {both.stdout[:80]!r}, {both.stderr!r}"
@@ -164,8 +164,8 @@ def progress_is_shown_every_64_mib(program):
 
 
 def progress_of_at_is_of_the_rest_of_its_day(program):
-    """From a checkpoint on, whose file counts too; and the time that is left is that of the bytes that are: the index is a pipe that comes two seconds
-    late, so that the end of the day is near by the time of the second line."""
+    """From a checkpoint on, the percentage covers the checkpoint's file and the rest of the day. The time left is computed from the remaining bytes:
+    the index is a pipe that is written two seconds late, so the day is nearly over when the second line appears."""
     count, before, late = 3_000_000, 1_500_000, 2
     entry, closing = large.entry(1), large.closing(before + 2)
     with tempfile.TemporaryDirectory() as name:
@@ -192,7 +192,7 @@ def progress_of_at_is_of_the_rest_of_its_day(program):
 
 
 def what_is_wrongly_shown(error, length):
-    """The lines that do not fit a file of an entry and then trades, of this length, and that file again."""
+    """Yields the progress lines that are wrong for a file of this length, consisting of an entry and then trades, and that file again."""
     entry = len(large.entry(1))
     lines = re.findall(rb"%s(?:%s)?" % (SHOWN, LEFT), error)
     for place, (so_far, messages, share) in enumerate(lines, 1):
@@ -207,7 +207,7 @@ def what_is_wrongly_shown(error, length):
 
 
 def shown_next(stream):
-    """The next line of progress, or what came within a minute."""
+    """Returns the next line of progress, or the bytes that came within a minute."""
     shown = b""
     while not shown.endswith(b"MB/s") and readable([stream], 60):
         byte = os.read(stream.fileno(), 1)
@@ -218,7 +218,7 @@ def shown_next(stream):
 
 
 def the_rate_is_that_of_the_bytes_and_the_time(program):
-    """The second line is made a second after the first at least, and no later than it is read."""
+    """The second line appears at least a second after the first, and no later than it is read."""
     part = (b"\xff\xff" + b"z" * 65_535) * 1024
     begin = time.monotonic()
     with subprocess.Popen([program, "check", "--progress"], stdin=subprocess.PIPE, stdout=subprocess.PIPE, stderr=subprocess.PIPE) as running:
@@ -246,7 +246,7 @@ def no_progress_is_shown_of_a_small_file(program):
             yield f"{words[0]}: {done}"
 
 
-# The program, but that each part with locate 2 is refused its memory.
+# The program, except that it runs out of memory for each part with locate 2.
 FAILS_AT_2 = """#!/bin/sh
 [ "$3 $4" != "examples/opening.itch --only" ] || [ "$5" != 2 ] || { echo "itchsnap: out of memory" >&2; exit 4; }
 exec "$(dirname "$0")/program" "$@"

@@ -1,7 +1,7 @@
-"""Messages of every type with fields of every kind, and what `show` has to print of them. The table is that of TotalView-ITCH 5.0.
+"""Messages of every type, with fields of every kind, and the output that `show` must print for them. The table is that of TotalView-ITCH 5.0.
 
-A field has its name, and the letter of its class with its width in bytes: n for a number, t for a timestamp, p for a price, x for a text,
-s for a side, c for a code, d for a number in digits.
+A field consists of its name, and the letter of its class with its width in bytes: n for a number, t for a timestamp, p for a price, x for a text, s
+for a side, c for a code, d for a number in digits.
 """
 HEADER = "stock_locate:n2 tracking_number:n2 time:t6"
 ORDER = f"{HEADER} order_reference_number:n8 buy_sell_indicator:s1 shares:n4 stock:x8 price:p4"
@@ -34,7 +34,7 @@ def fields_of(kind):
 
 
 def spelled(sort, width, turn, texts):
-    """The bytes of a field in a turn from 0 to 255. In its turns a code has every byte, and a number goes from 0 to its greatest."""
+    """Returns the bytes of a field in a turn from 0 to 255. Over the turns a code takes every byte value, and a number goes from 0 to its maximum."""
     if sort == "x":
         return texts[turn % len(texts)][:width]
     if sort == "s":
@@ -47,7 +47,7 @@ def spelled(sort, width, turn, texts):
 
 
 def messages(texts):
-    """Each message: its type, its payload, and the bytes of its fields with their names and classes."""
+    """Yields each message: its type, its payload, and the bytes of its fields with their names and classes."""
     for kind in FIELDS:
         for turn in range(256):
             found = [(name, sort, spelled(sort, width, turn, texts)) for name, sort, width in fields_of(kind)]
@@ -71,7 +71,7 @@ def clock(value):
 
 
 def members(name, sort, data):
-    """What an object has of a field."""
+    """Returns the members of a JSON object for a field."""
     number = int.from_bytes(data, "big")
     if sort == "t":
         return [(name, clock(number)), ("ns", number)]
@@ -79,26 +79,26 @@ def members(name, sort, data):
 
 
 def jsons_of(texts):
-    """The members of each object, in order."""
+    """Yields the members of each object, in order."""
     return [[("number", number), ("type", kind), *([("length", len(payload))] if fields is None else
                                                    [it for field in fields for it in members(*field)])]
             for number, (kind, payload, fields) in enumerate(messages(texts), 1)]
 
 
 def characters(data):
-    """Bytes in single quotes."""
+    """Returns bytes in single quotes."""
     return "'" + "".join("\\" + chr(it) if it in b"'\\" else chr(it) if 32 <= it < 127 else f"\\x{it:02x}" for it in data) + "'"
 
 
 def word(sort, data):
-    """What a line has of a field."""
+    """Returns the text of a field in a line."""
     number = int.from_bytes(data, "big")
     return {"n": str(number), "t": sort == "t" and clock(number), "p": price(number), "s": chr(data[0]), "d": sort == "d" and str(int(data)),
             "x": f"[{data.decode('latin-1').rstrip(' ')}]", "c": characters(data)}[sort]
 
 
 def lines_of(texts):
-    """The lines with names."""
+    """Yields the lines with names."""
     return [" ".join([str(number), *(["other", characters(payload[:1]), str(len(payload))] if fields is None else
                                      [kind, *(word(sort, data) for _, sort, data in fields)])])
             for number, (kind, payload, fields) in enumerate(messages(texts), 1)]

@@ -1,5 +1,4 @@
-"""`serve` and `fetch` at addresses of all kinds, with passwords from a file or the environment, sessions, time limits, and peers of other
-protocols.
+"""`serve` and `fetch` at addresses of all kinds, with passwords from a file or the environment, sessions, time limits, and peers of other protocols.
 
 RUNS lists the runs. Each is a function that is given the program and yields the differences.
 """
@@ -22,7 +21,7 @@ PASS = "--pass", "secret"
 
 @contextlib.contextmanager
 def serving(program, *words, **environment):
-    """A server of one connection on a free port, with the address and the port that it says it listens on."""
+    """Yields a server of one connection on a free port, and the address and the port on which it reports that it listens."""
     process = subprocess.Popen([program, "serve", DAY, "--port", "0", "--user", "user", "--count", "1", *words],
                                stdout=subprocess.PIPE, stderr=subprocess.PIPE, env={**os.environ, **environment})
     try:
@@ -37,13 +36,13 @@ def serving(program, *words, **environment):
 
 
 def fetch(program, port, *words, **environment):
-    """The status and both outputs of a fetch."""
+    """Runs `fetch`, and returns its status and both outputs."""
     with tempfile.TemporaryDirectory() as folder:
         return ended_in(folder, program, "fetch", "--port", str(port), "--user", "user", *words, **environment)
 
 
 def is_served(program, fetches, *words, **environment):
-    """What differs where a server of these words is fetched from with those, given as words and environment."""
+    """Yields what is wrong when `fetch` runs with the given arguments and environment at a server with these."""
     wanted = snapshot(program, DAY)
     with serving(program, *words, **environment) as (process, _, port):
         if not port:
@@ -62,7 +61,7 @@ def has_ipv6():
 
 
 def a_server_listens_where_it_is_told(program):
-    """The host of the last one has the address that is listened on, and may have others before it, which are tried too."""
+    """The last host name has the address on which the server listens, and may have others before it, which `fetch` also tries."""
     places = [("127.0.0.2", "127.0.0.2"), ("0.0.0.0", "127.0.0.1"), ("127.0.0.1", "localhost")]
     if has_ipv6():
         places += [("::1", "::1"), ("::", "::1"), ("0:0:0:0:0:0:0:1", "::1")]
@@ -79,7 +78,7 @@ def another_machine_s_address_is_a_failed_socket(program):
 
 
 def an_unknown_host_is_a_failed_socket(program):
-    """The system's resolver is told not to wait for servers of names that do not answer."""
+    """The system's resolver is told not to wait for name servers that do not answer."""
     for host in ("no-such-host.invalid", "", "127.0.0.1 ", "h" * 300):
         status, output, error = fetch(program, 1, "--host", host, *PASS, RES_OPTIONS="timeout:1 attempts:1", LOCALDOMAIN="")
         lines = f"itchsnap: socket failed\n  {host}:1: failed to lookup address information".encode()
@@ -91,7 +90,7 @@ def a_refused_connection_names_its_host(program):
     places = [("127.0.0.1", b"127.0.0.1")] + ([("::1", b"[::1]")] if has_ipv6() else [])
     for host, name in places:
         with socket.socket(socket.AF_INET6 if ":" in host else socket.AF_INET) as held:
-            # It is bound, and does not listen.
+            # The port is bound, but nothing listens.
             held.bind((host, 0))
             port = held.getsockname()[1]
             got = fetch(program, port, "--host", host, *PASS)
@@ -146,7 +145,7 @@ def a_session_is_asked_for(program):
 
 
 def a_rest_follows_what_is_before_it(program):
-    """The whole, cut before a message, and what is fetched from that message on; past the End of Snapshot nothing is."""
+    """The snapshot is cut before a message, and the rest is fetched from that message on. After End of Snapshot nothing is fetched."""
     whole = split(snapshot(program, DAY))
     last = len(whole)
     rests = {n: (0, b"".join(whole[n - 1:]), b"") for n in (1, 2, last - 1, last)}
@@ -161,7 +160,7 @@ def a_rest_follows_what_is_before_it(program):
 
 
 def within(seconds, begun):
-    """What differs where this many seconds were to be waited, and not many more."""
+    """Yields what is wrong unless the wait was at least this many seconds, and not many more."""
     if not seconds - 0.1 < (waited := time.monotonic() - begun) < seconds + 20:
         yield f"waited for {waited:.1f} seconds"
 
@@ -175,7 +174,7 @@ def a_silent_server_is_left_in_time(program):
 
 
 def a_server_that_accepts_nobody_is_left_in_time(program):
-    """Its queue is full, so that the system answers no one more."""
+    """Its queue is full, so the system answers no further connection."""
     with socket.socket() as listener, contextlib.ExitStack() as waiting:
         listener.bind(("127.0.0.1", 0))
         listener.listen(0)
@@ -196,7 +195,7 @@ def a_server_in_time_is_fetched_from(program):
 
 
 def a_peer_of_another_protocol_is_told(program):
-    """Its first two bytes are taken for a length."""
+    """Its first two bytes are interpreted as a length."""
     for data in (b"HTTP/1.1 400 Bad Request\r\n\r\n", b"SSH-2.0-OpenSSH_9.6\r\n", b"220 ftp\r\n", b"\x16\x03\x01\x02\x00"):
         with answering(data) as (port, _):
             got = fetch(program, port, *PASS)

@@ -1,4 +1,4 @@
-"""`live` over several days: a record, snapshots and figures for each session of its feed, and when the feed is asked for its session.
+"""`live` over several days: a record, snapshots and figures for each session of its feed, and when it asks the feed for its session.
 
 RUNS lists the runs. Each is a function that is given the program and yields the differences.
 """
@@ -25,7 +25,7 @@ SESSIONS = [b"DAY1", b"DAY2", b"DAY3"]
 
 
 class Season:
-    """A server of a feed that has one session after another. It rejects a login for any other session than the present one."""
+    """A server of a feed with one session after another. It rejects a login for any session except the current one."""
 
     def __init__(self, sessions=SESSIONS):
         self.sessions, self.present, self.until, self.has_ended = sessions, 0, MOST, False
@@ -58,7 +58,7 @@ class Season:
             self.changed.notify_all()
 
     def end(self):
-        """The night begins."""
+        """Ends the session, so that the night begins."""
         self.change(has_ended=True)
 
     def next_day(self, until=MOST):
@@ -86,7 +86,7 @@ def serving(program, folder, feed, *words):
 
 
 def day_differs(program, folder, number):
-    """The files of a day that was recorded whole, and its snapshots."""
+    """Yields what is wrong with the files of a day that was recorded completely, and with its snapshots."""
     session, day = SESSIONS[number], DAYS[number]
     yield from differs((session, "record"), session_path(folder, session).read_bytes(), day)
     yield from differs((session, "session"), Path(f"{session_path(folder, session)}.session").read_text().splitlines()[0], session.decode())
@@ -98,7 +98,7 @@ def day_differs(program, folder, number):
 
 
 def three_days_follow_each_other(program):
-    """Each has its record and its snapshots, and clients log in to the one that there is. At night they get the market of the evening."""
+    """Each day has its own record and snapshots, and clients log in to the current session. At night they get the market of the evening."""
     season = Season()
     with folder_with() as folder, Feed(season.script) as feed, serving(program, folder, feed) as server:
         for number, session in enumerate(SESSIONS):
@@ -120,7 +120,7 @@ def three_days_follow_each_other(program):
 
 
 def a_restart_goes_on_with_the_record_of_the_session(program):
-    """Also where another day was recorded before."""
+    """Even if another day was recorded before."""
     season = Season()
     with folder_with() as folder, Feed(season.script) as feed:
         with serving(program, folder, feed):
@@ -141,7 +141,7 @@ def a_restart_goes_on_with_the_record_of_the_session(program):
 
 
 def a_session_that_never_ended_gives_way_to_the_next(program):
-    """A feed that rejects the session of the record is asked for its own, as often as it takes. The record of the old day stays as it is."""
+    """If the feed rejects the session of the record, it is asked for its own as often as necessary. The record of the old day is unchanged."""
     season = Season()
     season.until = 2_000
     with folder_with() as folder, Feed(season.script) as feed, serving(program, folder, feed) as server:
@@ -156,7 +156,7 @@ def a_session_that_never_ended_gives_way_to_the_next(program):
 
 
 def names_of_files_are_those_of_sessions(program):
-    """Other characters than letters and digits are spelled out."""
+    """Characters other than letters and digits are encoded."""
     season = Season([b"../a b%", b"-x_Y.9", b"Z"])
     with folder_with() as folder, Feed(season.script) as feed, serving(program, folder, feed) as server:
         for number, name in enumerate(("%2E%2E%2Fa%20b%25", "-x_Y%2E9", "Z")):
@@ -170,7 +170,7 @@ def names_of_files_are_those_of_sessions(program):
 
 
 def a_record_of_a_session_is_for_one_process(program):
-    """The second one is refused, and names the file."""
+    """The second process is refused, and names the file."""
     season = Season()
     with folder_with() as folder, Feed(season.script) as feed, serving(program, folder, feed):
         grows_to(session_path(folder, SESSIONS[0]), len(DAYS[0]))
@@ -196,7 +196,7 @@ def a_record_of_a_session_that_cannot_be_written_is_named(program):
 
 
 def the_figures_of_a_day_are_not_those_of_the_day_before(program):
-    """Before it has a message, none has a time."""
+    """Before the new day has a message, no figure has a time."""
     season = Season()
     with folder_with() as folder, Feed(season.script) as feed, serving(program, folder, feed, "--status", "127.0.0.1:0") as server:
         server.status = int(server.said("status on ").rsplit(":", 1)[1])
@@ -211,7 +211,7 @@ def the_figures_of_a_day_are_not_those_of_the_day_before(program):
 
 
 def a_feed_that_is_back_is_asked_for_its_session_no_more(program):
-    """It rejected the session of the day once. By a faster clock, as hurried.py has it: it would be asked each five seconds."""
+    """The feed rejected the session of the day once. Uses a faster clock, as in hurried.py; otherwise it would be asked every five seconds."""
     back, day, asked = threading.Event(), split(DAYS[0]), []
 
     def script(peer, login):
@@ -237,13 +237,13 @@ def a_feed_that_is_back_is_asked_for_its_session_no_more(program):
             server.said(f"feed: accepted from {len(day[:10]) + 1}\n")
             before = asked.count(b"")
             time.sleep(20 / TIMES)
-            # One that was asked before may come afterwards.
+            # A request that was made before may arrive afterwards.
             if asked.count(b"") > before + 1:
                 yield f"asked {asked}"
 
 
 def a_record_is_on_disk_before_the_next_day_begins(program):
-    """Where it cannot be synced the server ends, and names the record of the old day."""
+    """If the record of the old day cannot be synced, the server ends and names it."""
     day, complete, go = DAYS[0], threading.Event(), threading.Event()
 
     def script(peer, login):

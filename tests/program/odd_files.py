@@ -24,7 +24,7 @@ POINTS = ["0", "2", "3", "6", "7", "00:00:00.000000004", "00:00:00.000000009"]
 
 @contextlib.contextmanager
 def checkpoints(program, every="2"):
-    """A folder with a day, and the folder `snapshots` of it."""
+    """Yields a folder with a day, and the folder `snapshots` with its snapshots."""
     with folder_with(day=DAY) as folder:
         (folder / "snapshots").mkdir()
         ended_in(folder, program, "snap", "day", "--every", every, "--to", "snapshots")
@@ -37,7 +37,7 @@ def snapped(folder, program, point):
 
 @contextlib.contextmanager
 def piped(path, data):
-    """A pipe of this path, which somebody writes these bytes to."""
+    """Yields a pipe with this path, to which a thread writes these bytes."""
     os.mkfifo(path)
     with subprocess.Popen(["sh", "-c", 'cat >"$0"', path], stdin=subprocess.PIPE, process_group=0) as writer:
         with contextlib.suppress(BrokenPipeError):
@@ -51,7 +51,7 @@ def piped(path, data):
 
 
 def at_reads_pipes_as_files(program):
-    """The day, the index, and a snapshot; a pipe in place of the folder has no index."""
+    """The day, the index and a snapshot may be pipes. A pipe in place of the folder contains no index."""
     with checkpoints(program) as folder:
         for point in POINTS:
             with piped(folder / "feed", DAY):
@@ -75,7 +75,7 @@ def at_reads_pipes_as_files(program):
 
 
 def at_believes_no_offset_that_is_not_of_its_day(program):
-    """One of another line, one byte before and after, none, and those beyond the end: it is refused, and nothing is written."""
+    """The offset is that of another line, one byte less or more, missing, or beyond the end. It is refused, and nothing is written."""
     with checkpoints(program, "1") as folder:
         index = folder / "snapshots/index.jsonl"
         lines = [json.loads(it) for it in index.read_text().splitlines()]
@@ -90,8 +90,8 @@ def at_believes_no_offset_that_is_not_of_its_day(program):
 
 
 def at_believes_no_number_that_is_not_of_its_file(program):
-    """The number of another line, one more and one less, none and the greatest; and names that are not quite those of the number's file, which is not
-    there. Such a line is passed over."""
+    """The number is that of another line, one more or less, missing, or the greatest possible; or the name is not quite that of the number's file,
+    which does not exist. Such a line is skipped."""
     with checkpoints(program, "1") as folder:
         index = folder / "snapshots/index.jsonl"
         lines = [json.loads(it) for it in index.read_text().splitlines()]
@@ -109,7 +109,7 @@ def at_believes_no_number_that_is_not_of_its_file(program):
 
 
 def a_shell_takes_the_hint_for_a_packed_file(program):
-    """Whatever its name is."""
+    """Whatever the file is called."""
     day, _ = day_of(20)
     for name in ("day.itch.gz", "a day.gz", "it's 'a' day.gz", "$(day) \\`*`.gz", 'a "day".gz'):
         with folder_with(**{name: gzip.compress(day)}) as folder:
@@ -121,7 +121,7 @@ def a_shell_takes_the_hint_for_a_packed_file(program):
 
 
 def a_record_that_may_not_be_read_stays_as_it_is(program):
-    """One that may only be appended to, one that may only be read, and one whose session may not be read: the feed is not asked."""
+    """The record may only be appended to, or only be read, or its session file may not be read. The feed is not contacted."""
     day, _ = day_of(20)
     kept = b"".join(split(day)[:5])
     for name, mode in (("record", 0o222), ("record", 0o444), ("record", 0), ("record.session", 0)):
@@ -140,8 +140,8 @@ def a_record_that_may_not_be_read_stays_as_it_is(program):
 
 
 def a_day_file_that_goes_away_is_played_to_those_who_have_it(program):
-    """Who came before it was removed has all of it, and who comes afterwards nothing, until it is there again. Of one that is shorter by then there
-    is what it has."""
+    """A client that connected before the file was removed receives all of it, and a later one nothing, until the file exists again. If the file is
+    shorter by then, clients receive its contents."""
     day, _ = day_of(20)
     blocks = split(day)
     whole = acceptance(1) + b"".join(map(packet, blocks)) + ENDED
@@ -163,8 +163,8 @@ def a_day_file_that_goes_away_is_played_to_those_who_have_it(program):
 
 
 def no_file_takes_the_place_of_a_closed_stream(program):
-    """Where standard output or standard error is closed at the start, the lines for it go nowhere, and not into the record: the line of a client that
-    is served, or those on the state of the feed. The other stream is a file. If it were a pipe, the program would open something else before the record."""
+    """If standard output or standard error is closed at the start, its lines go nowhere, and not into the record: the lines about clients, or those
+    on the state of the feed. The other stream is a file. If it were a pipe, the program would open something else before the record."""
     day, wanted = day_of(20)
     for closed, begins in ("2>&-", b"connection 1: "), (">&-", b"listening on "):
         end, port = threading.Event(), free_port()
@@ -181,14 +181,14 @@ def no_file_takes_the_place_of_a_closed_stream(program):
 
 
 def refused_to_play(folder, program, file, **streams):
-    """What `feed` of a file ended with."""
+    """Returns how `feed` of a file ended."""
     words = "--port", "0", *WORDS
     done = subprocess.run([program, "feed", file, *words], cwd=folder, capture_output=True, timeout=10, **streams)
     return done.returncode, done.stdout, done.stderr
 
 
 def a_file_that_can_be_read_only_once_is_not_played(program):
-    """A pipe that nobody writes to, one with a day, standard input that is a pipe, and a device: the refusal comes before it listens."""
+    """A pipe that nobody writes to, a pipe with a day, standard input that is a pipe, and a device. Each is refused before the program listens."""
     def refusal(name):
         return 3, b"", f"itchsnap: cannot open\n  {name}: seek on unseekable file\n".encode()
 
@@ -204,7 +204,7 @@ def a_file_that_can_be_read_only_once_is_not_played(program):
 
 
 def a_file_is_played_as_standard_input_too(program):
-    """Each client has all of it, by the path of the system for standard input."""
+    """Each client receives all of it: it is opened by the system's path for standard input."""
     day, _ = day_of(20)
     whole = acceptance(1) + b"".join(map(packet, split(day))) + ENDED
     words = "--port", "0", "--session", "ITCHSNAP", *WORDS

@@ -1,4 +1,4 @@
-"""`show --orders` on random days, against a reader of its own.
+"""`show --orders` on random days, against an independent reader.
 
 RUNS lists the runs. Each is a function that is given the program and yields the differences.
 """
@@ -32,7 +32,7 @@ class Order:
 
 
 def payload(kind, **values):
-    """The payload of a message of this type; a field that is not given is 0."""
+    """Returns the payload of a message of this type, with 0 for each field that is not given."""
     made = kind.encode()
     for name, sort, width in fields_of(kind):
         value = values.get(name, 0)
@@ -55,7 +55,7 @@ class Writer:
         self.payloads.append(payload(kind, stock_locate=locate, tracking_number=self.rng.randrange(65536), time=self.time, **values))
 
     def fresh(self):
-        """A reference, which may be that of an order that has ended."""
+        """Returns a reference, which may be that of an order that has ended."""
         self.next += self.rng.choice([1, 1, 1, 7, 2 ** 40])
         return self.next if self.rng.random() < 0.9 else self.rng.choice([it for it in range(1, 50) if it not in self.live])
 
@@ -134,20 +134,20 @@ class Row:
     after: int
 
     def line(self):
-        """The line with names."""
+        """Returns the line with names."""
         order, words = self.before, [str(self.number), self.kind, *(word(sort, it) for _, sort, it in self.fields)]
         told = [order.side, f"[{order.stock}]", price(order.price), str(order.shares), str(self.after)]
         return " ".join([*words, "|", *told, *([] if order.attribution is None else [f"[{order.attribution}]"])])
 
     def object(self):
-        """The members of the object, in order."""
+        """Returns the members of the object, in order."""
         order = self.before
         return [("number", self.number), ("type", self.kind), *(it for field in self.fields for it in members(*field)),
                 ("buy_sell_indicator", order.side), ("stock", order.stock), ("order_price", price(order.price)),
                 ("shares_before", order.shares), ("shares_after", self.after), ("attribution", order.attribution)]
 
     def record(self):
-        """The values of the columns, as texts."""
+        """Returns the values of the columns, as texts."""
         order, values = self.before, self.values
         known = {"number": self.number, "type": self.kind, "stock_locate": values["stock_locate"], "tracking_number": values["tracking_number"],
                  "time": clock(values["time"]), "ns": values["time"], "order_reference_number": self.reference, "buy_sell_indicator": order.side,
@@ -163,7 +163,7 @@ class Row:
 
 
 def agreement(label, program, data, rows, status, error, *words):
-    """What differs between the program's three outputs and these rows."""
+    """Yields the differences between the program's three outputs and these rows."""
     for form, read, wanted in (
         ("--names", lambda text: text.splitlines(), [row.line() for row in rows]),
         ("--json", lambda text: [list(json.loads(line).items()) for line in text.splitlines()], [row.object() for row in rows]),
@@ -184,7 +184,7 @@ def every_order_of_random_days_is_that_of_another_reader(program):
 
 
 def the_filters_choose_messages_as_without_orders(program):
-    """Those that `show` chooses with the same filters, of the types that have an order behind them."""
+    """The messages are those that `show` selects with the same filters, restricted to types that refer to an order."""
     for seed in SEEDS:
         made = Writer(seed)
         rows = Reader(made.payloads).rows

@@ -70,7 +70,7 @@ def an_output_that_cannot_be_opened_is_named(program):
         (folder / "sub").mkdir()
         for path, why in (("no/such.snap", "No such file or directory (os error 2)"), ("sub", "Is a directory (os error 21)"),
                           ("", "No such file or directory (os error 2)")):
-            # The file that is read is not there either: the output comes first.
+            # The input does not exist either. The error is about the output, which is opened first.
             got = ended_in(folder, program, "snap", "no.itch", "--output", path)
             if path:
                 yield from differs(path, got, (3, b"", f"itchsnap: cannot open\n  {path}: {why}\n".encode()))
@@ -101,7 +101,7 @@ def each_allocation_and_write_fails_in_turn(program):
 
 
 def nothing_is_left_of_a_file_that_gets_no_name(program):
-    """Where the file that is complete cannot be renamed, by each command that writes one."""
+    """The complete file cannot be renamed, for each command that writes one."""
     with folder_of_files() as folder, tempfile.TemporaryDirectory() as apart:
         environment = {"LD_PRELOAD": str(failing.build_shim(apart, "calls.c")), "FAIL": "rename:1", "FAILED": str(Path(apart) / "failed")}
         (folder / "out").mkdir()

@@ -1,4 +1,4 @@
-"""`book --at` and `book --every` on random days, against a reader of its own.
+"""`book --at` and `book --every` on random days, against an independent reader.
 
 RUNS lists the runs. Each is a function that is given the program and yields the differences.
 """
@@ -54,7 +54,7 @@ class Market:
             self.live[number(it, 19, 8)] = [locate, side, number(it, 27, 4), number(it, 31, 4)]
 
     def levels(self, locate, depth):
-        """A row for each price of a locate: bids before asks, the best first."""
+        """Returns a row for each price of a locate: bids before asks, the best first."""
         for side, descends in (("B", True), ("S", False)):
             shares, counts = {}, {}
             for at, of, left, level in self.live.values():
@@ -66,7 +66,7 @@ class Market:
 
 
 class Words:
-    """Some locates or stocks, a depth and a form, and the words for them."""
+    """Some locates or stocks, a depth and a format, and the arguments for them."""
 
     def __init__(self, rng, payloads):
         stocks = sorted({it[11:19].decode().rstrip(" ") for it in payloads if it[:1] == b"R"})
@@ -85,7 +85,7 @@ class Words:
         self.words += [self.form] if self.form else []
 
     def lack(self, market):
-        """What the directory lacks, if anything."""
+        """Returns the stocks or locates that the directory lacks."""
         if self.stocks:
             return set(self.stocks) - set(market.stocks.values())
         return set(self.locates) - set(market.stocks)
@@ -94,7 +94,7 @@ class Words:
         return sorted(at for at, stock in market.stocks.items() if (stock in self.stocks if self.stocks else at in self.locates))
 
     def lines(self, market, time):
-        """What is printed of a market at a time."""
+        """Returns the lines for a market at a time."""
         for locate in self.chosen(market):
             stock = market.stocks[locate]
             if not self.form:
@@ -113,19 +113,19 @@ class Words:
         return ",".join(COLUMNS) + "\n" if self.form == "--csv" else ""
 
     def fault(self, market):
-        """The first line on standard error for a directory that lacks something."""
+        """Returns the first line on standard error for a directory that lacks something."""
         return f"itchsnap: unknown {'stock' if self.stocks else 'locate'}\n" if self.lack(market) else ""
 
 
 class Day:
-    """The payloads of a day, and the place of the first refused one, if any is."""
+    """The payloads of a day, and the index of the first refused one, if any."""
 
     def __init__(self, payloads, refused=None):
         self.payloads, self.refused = payloads, refused
         self.times = [time_of(it) if at != refused or len(it) > 11 else None for at, it in enumerate(payloads)]
 
     def before(self, time):
-        """How many messages come before the first at this time or later."""
+        """Returns how many messages precede the first one at this time or later."""
         return first_from(self.times, time)
 
     def reaches_refused(self, time):
@@ -136,7 +136,7 @@ class Day:
 
 
 def printed_at(day, words, times):
-    """What is printed at these times, the first line on standard error, and the status."""
+    """Returns the output for these times, the first line on standard error, and the status."""
     text, error = words.head(), ""
     for time in times:
         if day.reaches_refused(time):
@@ -148,7 +148,7 @@ def printed_at(day, words, times):
 
 
 def printed_every(day, words, step):
-    """The same for the multiples of a duration."""
+    """Returns the same for the multiples of an interval."""
     text, time = words.head(), step
     while day.before(time) < len(day.payloads) and not day.reaches_refused(time):
         market = day.market(time)
@@ -162,7 +162,7 @@ def printed_every(day, words, step):
 
 
 def agreement(label, program, day, words, more, wanted):
-    """The program ends as another reader says."""
+    """Yields what is wrong unless the program ends as the independent reader predicts."""
     status, output, error = ended(program, "book", *words.words, "day.itch", *more, day=blocks_of(day.payloads))
     text, line, number = wanted
     yield from differs(f"{label}: {words.words} {more}", (status, output), (number, text.encode()))
@@ -171,19 +171,19 @@ def agreement(label, program, day, words, more, wanted):
 
 
 def some_times(rng, day):
-    """Times of messages, and between, before and after them, in order."""
+    """Returns times of messages, and between, before and after them, in order."""
     around = [it for it in day.times if it is not None] or [0]
     near = [rng.choice(around) + rng.choice((-1, 0, 0, 1)) for _ in range(rng.randint(1, 6))]
     return sorted({min(max(it, 0), 2 ** 48 - 1) for it in (*near, *rng.sample((0, 9 * HOUR, 2 ** 48 - 1), rng.randint(0, 2)))})
 
 
 def list_of(rng, times):
-    """The times as words, some in nanoseconds."""
+    """Returns the times as an argument, some in nanoseconds."""
     return ",".join(clock(it) if it < 24 * HOUR and rng.random() < 0.5 else str(it) for it in times)
 
 
 def days(seed):
-    """Random days: one whose timestamps ascend, one whose timestamps go back and forth, and both with a message that is refused."""
+    """Yields random days: one whose timestamps ascend, one whose timestamps go back and forth, and both with a message that is refused."""
     made = [Writer(seed, 120).payloads, RandomDay(seed).payloads]
     yield from (Day(it) for it in made)
     rng = random.Random(seed)
@@ -211,7 +211,7 @@ def books_at_every_multiple_are_those_of_another_reader(program):
 
 
 def untimed(form, output, time):
-    """Lines without the time at their beginning, which is this one."""
+    """Removes this time from the beginning of each line."""
     begins = {"": f"{clock(time)} ", "--csv": f"{clock(time)},", "--json": f'{{"time":"{clock(time)}",'}[form]
     for line in output.decode().splitlines(keepends=True):
         if line == ",".join(COLUMNS) + "\n":
@@ -228,7 +228,7 @@ def a_time_prints_what_book_prints_until_then(program):
             for time in some_times(rng, day):
                 one = ended(program, "book", *words.words, "day.itch", "--until", str(time), day=data)
                 status, output, error = ended(program, "book", *words.words, "day.itch", "--at", str(time), day=data)
-                # A file that is refused has no lines with `--until`, and the heading alone with `--at`.
+                # If a file is refused, there are no lines with `--until`, and only the heading with `--at`.
                 head = words.head().removeprefix("time,").encode() if one[0] else b""
                 # (the hint on the second line depends on the options)
                 found = status, "".join(untimed(words.form, output, time)).encode(), error.partition(b"\n")[0]
@@ -243,11 +243,11 @@ def examples_are_printed_as_by_hand(program):
     rows = [
         ("1 DAY --at 4", 0, f"{times[4]} 1 AAPL\n{times[4]} {level}\n", ""),
         ("1 DAY --at 3,4", 0, f"{times[3]} 1 AAPL\n{times[4]} 1 AAPL\n{times[4]} {level}\n", ""),
-        # Before the entry of the directory there are no lines.
+        # Before the directory entry there are no lines.
         ("1 DAY --at 1,2,4", 0, f"{times[4]} 1 AAPL\n{times[4]} {level}\n", ""),
         ("1 DAY --at 1,2", 1, "", "itchsnap: unknown locate\n  day.itch: no locate 1\n"),
         ("--stock AAPL,MSFT DAY --at 4,5", 1, "", "itchsnap: unknown stock\n  day.itch: no stock MSFT\n"),
-        # No multiple is between the first message and the last.
+        # No multiple lies between the first message and the last.
         ("1 DAY --every 1ms", 0, "", ""),
         ("2 DAY --every 1ms", 1, "", "itchsnap: unknown locate\n  day.itch: no locate 2\n"),
     ]
@@ -295,7 +295,7 @@ def each_allocation_read_and_write_fails_in_turn(program):
 
 
 def many_times_of_a_large_day_are_one_pass(program):
-    """From standard input, which cannot be read twice."""
+    """The day comes from standard input, which cannot be read twice."""
     data, _ = large.orders(20_000, symbols=50)
     with tempfile.TemporaryDirectory() as folder:
         (Path(folder) / "day.itch").write_bytes(data)

@@ -22,16 +22,16 @@ from standby import closed_port, waits_for
 # How much a clock in milliseconds may be off at either end.
 TICK = 0.003
 ATTEMPTS = 3
-# The pauses before a server's turn comes again; the time is checked ten times per second.
+# The pauses before a server's next turn. The server checks the time ten times per second.
 PAUSES = [0.1, 0.2, 0.4, 0.8]
 LATE = 0.25
 RATE, MESSAGES = 10, 20
-# The number of the call of the system that gives a handle of another process.
+# The number of the system call that duplicates a descriptor of another process.
 PIDFD_GETFD = 438
 
 
 def each_in_some_attempt(attempts):
-    """What differs in the last of some attempts of each of these, where something differs in all."""
+    """Makes several attempts at each of these, in parallel. Yields the differences of the last attempt, and only if all attempts fail."""
     def differences(attempt):
         for _ in range(ATTEMPTS):
             if not (found := list(attempt())):
@@ -44,14 +44,14 @@ def each_in_some_attempt(attempts):
 
 
 def pauses_differ(label, times):
-    """What differs where between these times are not the pauses, each twice as long as the one before."""
+    """Yields what is wrong unless these times are separated by the pauses, each twice as long as the one before."""
     pauses = [after - before for before, after in zip(times, times[1:])]
     if len(pauses) != len(PAUSES) or not all(wanted - TICK <= it <= wanted + LATE for it, wanted in zip(pauses, PAUSES)):
         yield f"{label}: pauses of {[round(it, 3) for it in pauses]}"
 
 
 def noting(times, script):
-    """The same script, which notes when a login comes."""
+    """Returns the same script, which also notes the time of each login."""
     def noted(peer, login):
         times.append(time.monotonic())
         script(peer, login)
@@ -60,7 +60,8 @@ def noting(times, script):
 
 
 def a_lost_feed_is_asked_again_after_longer_and_longer_pauses(program):
-    """Whether it closes the connection, resets it, rejects the login, sends one more message each time, ends before any, or breaks the protocol."""
+    """Whether the feed closes the connection, resets it, rejects the login, sends one more message each time, ends before any, or breaks the
+    protocol."""
     day, _ = day_of(20)
     packets = [packet(it) for it in split(day)]
 
@@ -82,7 +83,7 @@ def a_lost_feed_is_asked_again_after_longer_and_longer_pauses(program):
 
 
 def a_refused_feed_is_asked_again_after_longer_and_longer_pauses(program):
-    """Nobody listens until the fourth pause is over: then it is asked after the fifth one, and not at once."""
+    """Nothing listens until the fourth pause is over. The feed is then tried after the fifth one, and not at once."""
     day, _ = day_of(20)
     opens, due = sum(PAUSES) + 0.3, sum(PAUSES) + 2 * PAUSES[-1]
 
@@ -128,7 +129,7 @@ def a_wrong_password_is_told_later_each_time(program):
 
 
 def arrivals(port, first):
-    """How long after its login each message comes to a client that asks for those from a number on."""
+    """Returns how long after the login each message reaches a client that requests the messages from a number on."""
     times = []
     with connect(port) as peer:
         begun = time.monotonic()
@@ -141,14 +142,16 @@ def arrivals(port, first):
 
 
 def spacing_differs(label, times, first):
-    """What differs where the messages from a number on do not come one by one at the rate: one is early, or most are half of a gap late."""
+    """Yields what is wrong unless the messages from a number on arrive one by one at the rate. None may be early, and most must be less than half a
+    gap late."""
     late = [time - place / RATE for place, time in enumerate(times)]
     if len(times) != MESSAGES + 1 - first or min(late) < -TICK or statistics.median(late) > 0.5 / RATE:
         yield f"{label} from {first}: {[round(it, 3) for it in times]}"
 
 
 def messages_are_played_one_by_one(program):
-    """At a rate and by their timestamps, also to a client that begins at a later number, and to one that comes while others are played to."""
+    """At a rate and by their timestamps, also for a client that begins at a later number, and for one that connects while others are being
+    served."""
     blocks = split(day_of(MESSAGES)[0])[:MESSAGES]
     timed = b"".join(it[:7] + struct.pack(">Q", 10**12 + n * 10**9)[2:] + it[13:] for n, it in enumerate(blocks))
     with folder_with(day=timed) as folder, contextlib.ExitStack() as held:
@@ -160,19 +163,19 @@ def messages_are_played_one_by_one(program):
 
 
 def a_late_number_of_a_long_day_is_played_at_once(program):
-    """What comes before it is passed over in turns, which follow each other without a pause."""
+    """The earlier messages are skipped in turns, which follow each other without a pause."""
     count = 500_000
     with folder_with(day=b"\0\1z" * count) as folder, feeding(program, folder / "day") as server:
         begun = time.monotonic()
         got = without_first_beats(told(server.port, LOGIN[:-20] + b"%20d" % count))
         yield from differs("told", got, acceptance(count) + packet(b"\0\1z") + ENDED)
-        # A hundred and twenty turns, which would take ten times as long as a moment each.
+        # A hundred and twenty turns, which would take ten times as long with a pause after each.
         if (seconds := time.monotonic() - begun) > 6:
             yield f"told after {seconds:.1f} seconds"
 
 
 def one_of_many_who_guess_waits_longer_each_time(program):
-    """256 addresses are known. Where there are more, the one that was quiet for longest is forgotten, and so not one that has just guessed."""
+    """256 addresses are remembered. If there are more, the one that has been quiet for longest is forgotten, so never one that has just guessed."""
     day, _ = day_of(20)
     wrong, known = LOGIN.replace(b"secret", b"wrong "), 256
 
@@ -195,7 +198,7 @@ def one_of_many_who_guess_waits_longer_each_time(program):
 
 
 def sockets_of(process):
-    """The connected sockets of a process, as handles of this one."""
+    """Returns the connected sockets of a process, as descriptors of this one."""
     libc, pidfd = ctypes.CDLL(None, use_errno=True), os.pidfd_open(process.pid)
     try:
         for name in os.listdir(f"/proc/{process.pid}/fd"):
@@ -212,7 +215,7 @@ def sockets_of(process):
 
 
 def no_packet_waits_for_the_next_one(program):
-    """The system holds none back (TCP_NODELAY): `live` and `follow` to their servers, `live` and `feed` to their clients."""
+    """The system delays no packet (TCP_NODELAY): of `live` and `follow` to their servers, and of `live` and `feed` to their clients."""
     day, _ = day_of(20)
     early, end = snapshot_after(program, day, 10), threading.Event()
     with folder_with(day=day) as folder, Feed(sends(answer(early))) as glimpse, feeding(program, folder / "day", "--stay") as played, \

@@ -27,7 +27,7 @@ AFTER = file("START AAPL BUY_2_OF_200 ATTRIBUTED_3 END_6")
 
 
 class Ended(NamedTuple):
-    """What the program ended with, and whether a call failed as asked for."""
+    """How the program ended, and whether a call failed as requested."""
 
     failed: bool
     status: int
@@ -36,22 +36,22 @@ class Ended(NamedTuple):
 
 
 class Input:
-    """A file that a command reads, and how a fault names it."""
+    """A file that a command reads, and the prefix by which a fault names it."""
 
     def __init__(self, name, blocks, prefix=""):
         self.name, self.data, self.prefix = name, file(blocks), prefix
         self.is_snapshot = name.endswith(".snap")
 
     def starts(self):
-        """Where its blocks start, and its end."""
+        """Returns the offsets of its blocks, and of its end."""
         return list(itertools.accumulate(map(len, split(self.data)), initial=0))
 
     def whole(self, held):
-        """How many complete blocks this many bytes have."""
+        """Returns how many complete blocks this many bytes contain."""
         return bisect.bisect_right(self.starts(), held) - 1
 
     def line(self, held, fault):
-        """The line of a fault after this many bytes."""
+        """Returns the line of a fault after this many bytes."""
         place = "" if self.is_snapshot else f"message {self.whole(held) + 1}: "
         return f"itchsnap: {self.prefix}{place}{fault}\n"
 
@@ -61,24 +61,24 @@ SNAPSHOT = Input("market.snap", "START AAPL BUY_2_OF_200 ATTRIBUTED_3 END_6")
 
 
 class Command:
-    """A command over files, in the order in which it reads them. It takes memory at least so often once they are opened: for the buffer
-    and the blocks of each file, and for what the market and the check hold."""
+    """A command over files, in the order in which it reads them. `memory` is the minimum number of allocations after they are opened: for the buffer
+    and the blocks of each file, and for the market and the check."""
 
     def __init__(self, words, inputs, output, memory, status=0):
         self.words, self.inputs, self.output, self.memory, self.status = words.split(), inputs, output, memory, status
 
     def reads_on(self, it):
-        """Whether it reads a file to its end. Of a snapshot that a feed is joined to, nothing is read after End of Snapshot."""
+        """Returns whether it reads a file to its end. `join` reads nothing after End of Snapshot in the snapshot."""
         return not (self.words[0] == "join" and it.is_snapshot)
 
     def shown(self, held):
-        """What is written where the file fails after this many bytes: of `show` a line for each complete message."""
+        """Returns the output if the file fails after this many bytes: for `show`, a line for each complete message."""
         lines = self.output.splitlines(keepends=True) if self.words[0] == "show" else []
         return b"".join(lines[:self.inputs[0].whole(held)])
 
     @contextlib.contextmanager
     def folder(self):
-        """A folder with its files."""
+        """Yields a folder with its files."""
         with tempfile.TemporaryDirectory() as name:
             for it in self.inputs:
                 (Path(name) / it.name).write_bytes(it.data)
@@ -107,7 +107,7 @@ COMMANDS = [
 
 @contextlib.contextmanager
 def failing_calls(program, command):
-    """A function that performs the command in pieces, with a call failing, as `read:3`."""
+    """Yields a function that runs the command in pieces, with one call failing, such as `read:3`."""
     with command.folder() as folder:
         shim, failed = failing.build_shim(folder), folder / "a call failed"
 
@@ -120,7 +120,7 @@ def failing_calls(program, command):
 
 
 def reads(command, piece):
-    """Each read of a command: its file, and how many bytes of that were read before. The last one of a file finds its end."""
+    """Yields each read of a command: its file, and how many bytes of the file were read before. The last read of a file finds its end."""
     for it in command.inputs:
         for held in range(0, len(it.data), piece):
             yield it, held
@@ -148,7 +148,7 @@ def each_read_of_50_bytes_fails_in_turn(program):
 
 
 def each_write_of_one_byte_fails_in_turn(program):
-    """Alone, and with each write of the output after it. Then the output is what was written before."""
+    """A write fails alone, or together with all later writes of the output. The output is what was written before."""
     error = f"itchsnap: write failed\n  standard output: {CAUSE}\n".encode()
     for command in COMMANDS:
         with failing_calls(program, command) as perform:
@@ -162,7 +162,7 @@ def each_write_of_one_byte_fails_in_turn(program):
 
 
 def each_allocation_is_refused_in_pieces(program):
-    """Those before the files are opened are the words' own: the rows of runs.ini refuse them."""
+    """The allocations before the files are opened are for the arguments; the rows of runs.ini test them."""
     for command in COMMANDS:
         with failing_calls(program, command) as perform:
             missing = [word.replace(".", ".missing.") for word in command.words]
@@ -185,7 +185,7 @@ def refusals(command, perform, piece, first):
 
 
 def beginning(command, it, held):
-    """What a command ends with, where a file has this many of its bytes. None where it depends on the messages that are left."""
+    """Returns how a command ends if a file has only this many of its bytes, or None if that depends on the remaining messages."""
     starts = it.starts()
     if held not in starts:
         truncated = held - starts[it.whole(held)]
@@ -207,7 +207,7 @@ def each_beginning_of_each_file(program):
 
 
 def reads_and_writes_are_of_any_size(program):
-    """Of a file with a byte after its end block."""
+    """The file has a byte after its end block."""
     data = Input("day.itch", "MSFT START AAPL UNRESTRICTED TRADING 0000 ff")
     command = Command("snap day.itch", [data], file("START AAPL TRADING UNRESTRICTED MSFT END_6"), 4)
     with failing_calls(program, command) as perform:

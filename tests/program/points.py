@@ -19,7 +19,7 @@ SNAPSHOTS = ["END_1", "START END_2", "START AAPL END_3", "START AAPL BUY_1 END_4
 
 
 def line_of(blocks, count, timestamp, **members):
-    """The line of the index for the first messages of a day."""
+    """Returns the line of the index for the first messages of a day."""
     before = b"".join(blocks[:count])
     first, last = (hashlib.sha256(it).hexdigest()[:16] for it in (before[:65_536], before[-256:]))
     line = {"messages": count, "offset": len(before), "timestamp": timestamp, "file": f"{count}.snap", "first": first, "last": last, **members}
@@ -27,7 +27,7 @@ def line_of(blocks, count, timestamp, **members):
 
 
 LINES = [line_of(split(DAY), count, timestamp) for count, timestamp in enumerate((None, 1, 2, 3))]
-# The arguments for the points, and after how many messages they are.
+# The arguments for the points, and the number of messages before each.
 POINTS = {
     "": [3],
     "--after 0": [0],
@@ -74,7 +74,7 @@ def folder_of(data):
 
 
 def written(folder):
-    """The bytes of each file of the folder for snapshots, by their names."""
+    """Returns the bytes of each file in the folder for snapshots, by name."""
     return {it.name: it.read_bytes() for it in (folder / "out").iterdir()}
 
 
@@ -83,7 +83,7 @@ def index_of(lines):
 
 
 def files_of(counts):
-    """What is written after these numbers of messages of the day."""
+    """Returns the files that must be written after these numbers of messages of the day."""
     return {"index.jsonl": index_of(LINES[count] for count in counts), **{f"{count}.snap": file(SNAPSHOTS[count]) for count in counts}}
 
 
@@ -114,7 +114,7 @@ def each_snapshot_is_what_a_run_of_its_own_writes(program):
 
 
 def a_message_at_a_time_is_in_the_next_snapshot(program):
-    # The second message is late for the first time, and the third has an earlier timestamp again.
+    # The second message has a late timestamp, and the third an earlier one again.
     day = file("START_STAMPED AAPL_LATE BUY_1_STAMPED")
     with folder_of(day) as folder:
         yield from differs("status", snap(folder, program, "--until 5,8,20"), (0, b"", b""))
@@ -169,14 +169,14 @@ def a_folder_that_is_none_is_named(program):
         for path, why in (("no", "No such file or directory (os error 2)"), ("day.itch", "Not a directory (os error 20)")):
             got = ended_in(folder, program, "snap", "day.itch", "--to", path, "--after", "1,2")
             yield from differs(path, got, (3, b"", f"itchsnap: cannot open\n  {path}: {why}\n".encode()))
-        # The day file comes first: an index is not begun for one that is not there.
+        # The day file is opened first: if it does not exist, no index is begun.
         got = ended_in(folder, program, "snap", "no.itch", "--to", "out")
         yield from differs("no day file", got, (3, b"", b"itchsnap: cannot open\n  no.itch: No such file or directory (os error 2)\n"))
         yield from differs("no day file", written(folder), {})
 
 
 def a_file_of_the_folder_that_cannot_be_opened_is_named(program):
-    """It is not in the index, which has the snapshots before it."""
+    """The file is not in the index, which lists the snapshots before it."""
     with folder_of(DAY) as folder:
         (folder / "out/2.snap").mkdir()
         wanted = 3, b"", b"itchsnap: cannot open\n  out/2.snap: Is a directory (os error 21)\n"

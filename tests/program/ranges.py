@@ -1,4 +1,5 @@
-"""`--from` and `--since` with `--after` and `--until`, and `cut`, over random days whose timestamps go back and forth, against a reader of its own.
+"""`--from` and `--since` with `--after` and `--until`, and `cut`, over random days whose timestamps go back and forth, against an independent
+reader.
 
 RUNS lists the runs. Each is a function that is given the program and yields the differences.
 """
@@ -14,23 +15,23 @@ WAYS = 6
 
 
 def blocks_of(payloads):
-    """The day file of these payloads."""
+    """Returns the day file of these payloads."""
     return b"".join(len(it).to_bytes(2, "big") + it for it in payloads)
 
 
 def time_of(payload):
-    """The timestamp of a payload; End of Snapshot and messages that are not decoded have none."""
+    """Returns the timestamp of a payload, or None for End of Snapshot and messages that are not decoded."""
     kind = chr(payload[0])
     return int.from_bytes(payload[5:11], "big") if kind in FIELDS and kind != "G" else None
 
 
 def first_from(times, time):
-    """How many messages come before the first at this time or later."""
+    """Returns how many messages precede the first one at this time or later."""
     return next((at for at, it in enumerate(times) if it is not None and it >= time), len(times))
 
 
 class Range:
-    """A range of a day, and the words for it."""
+    """A range of a day, and the arguments for it."""
 
     def __init__(self, rng, payloads):
         times = [time_of(it) for it in payloads]
@@ -56,19 +57,19 @@ class Range:
 
 
 def ranges(seed):
-    """A random day, and some ranges of it."""
+    """Yields a random day, and some ranges of it."""
     payloads, rng = RandomDay(seed).payloads, random.Random(seed)
     return payloads, [Range(rng, payloads) for _ in range(WAYS)]
 
 
 def numbered(output):
-    """The lines of these numbers, whether text, JSON or comma-separated values."""
+    """Returns the lines with these numbers, whether text, JSON or comma-separated values."""
     lines = output.decode("latin-1").splitlines(keepends=True)
     return [(int(re.match(r'\{"number":(\d+)|(\d+)', line)[0].rpartition(":")[2]), line) for line in lines]
 
 
 def are_of_the_range(program, forms, others):
-    """Of the lines without a range, `show` prints those whose numbers are in it, and nothing else."""
+    """Of the lines without a range, `show` prints exactly those whose numbers are in the range."""
     for seed in range(DAYS):
         payloads, some = ranges(seed)
         day = blocks_of(payloads)
@@ -101,7 +102,7 @@ def what_comes_until_a_time_and_what_comes_since_then_are_all(program):
 
 
 def messages_before_a_range_are_passed(program):
-    """A stock is that of a directory entry before the range, and an order has the number that a replace before the range gave it."""
+    """A stock may come from a directory entry before the range, and an order may have a number that it received in a replace before the range."""
     entry = bytes.fromhex("514e000000644e435a20504e4e314e000000004e")
     names = [b"AAPL    ", b"MSFT    "]
     listed = [b"R" + bytes([0, at]) + bytes(8) + name + entry for at, name in enumerate(names, 1)]
@@ -120,7 +121,7 @@ def messages_before_a_range_are_passed(program):
 
 
 class Selection:
-    """Some locates, stocks and types, and the words for them."""
+    """Some locates, stocks and types, and the arguments for them."""
 
     def __init__(self, rng, payloads):
         self.words, self.locates, self.stocks, self.types = [], None, None, None
@@ -136,7 +137,7 @@ class Selection:
             self.words += ["--types", self.types]
 
     def kept(self, payloads):
-        """The numbers of the messages that are kept. Those about no stock are, and so are those that are not decoded."""
+        """Returns the numbers of the messages that are kept. These include messages about no stock, and messages that are not decoded."""
         named = {}
         for number, it in enumerate(payloads, 1):
             kind, locate = chr(it[0]), int.from_bytes(it[1:3], "big")
@@ -155,7 +156,7 @@ def cut_writes_the_blocks_of_the_messages_that_it_keeps(program):
         for it in some:
             selection = Selection(rng, payloads)
             wanted = blocks_of(payloads[number - 1] for number in selection.kept(payloads) if number in it.numbers)
-            # (a stock that comes after the part is not known in it)
+            # (a stock that first appears after the part is not known in it)
             listed = {it[11:19].decode().rstrip() for it in payloads[:it.numbers.stop - 1] if it[:1] == b"R"}
             status = int(not set(selection.stocks or ()) <= listed)
             found = ended(program, "cut", "day.itch", *it.words, *selection.words, day=blocks_of(payloads))
@@ -172,7 +173,7 @@ def what_is_cut_until_a_time_and_since_then_is_the_day(program):
 
 
 def a_day_that_is_cut_to_locates_leaves_their_market(program):
-    """It follows the order rules, and its snapshot is that of the day, cut down, but for the number in End of Snapshot."""
+    """The output follows the order rules, and its snapshot is that of the day, reduced to the locates, except for the number in End of Snapshot."""
     for seed in range(DAYS):
         payloads, rng = RandomDay(seed).payloads, random.Random(seed)
         day = blocks_of(payloads)

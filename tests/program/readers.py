@@ -1,4 +1,4 @@
-"""`live` with clients that read slowly: they have room while there is memory, and then the slowest makes room.
+"""`live` with clients that read slowly: they keep their snapshots while there is memory, and then the slowest makes room.
 
 RUNS lists the runs. Each is a function that is given the program and yields the differences.
 """
@@ -12,12 +12,13 @@ from hostile import ACCEPTED, PAUSE, SLACK, busy_server, market, told_within
 from living import BEAT, LOGIN, PATIENCE, SILENCE, block_in, connect, received
 from standby import waits_for
 
-# For how long a client waits for room before another one makes room, and when one that takes 100 KB per second is slow.
+# For how many seconds a client waits for memory before another one must make room, and after how many a client that reads 100 KB per second counts as
+# slow.
 ROOM, SLOW = 0.5, 6
 
 
 class Reader:
-    """A client that takes this many bytes per second, as long as it is let."""
+    """A client that reads this many bytes per second for as long as it is connected."""
 
     def __init__(self, port, rate, room=None):
         self.peer, self.rate, self.count, self.is_open, self.leaves = connect(port, room), rate, 0, True, threading.Event()
@@ -53,18 +54,18 @@ class Reader:
 
 
 def endings(server, what):
-    """How many connections ended so."""
+    """Returns how many connections ended in this way."""
     return sum(line.endswith(what) for line in b"".join(server.output).decode().splitlines())
 
 
 def lines_of(server):
-    """The number of each connection that has ended, and how, in the order of their ends."""
+    """Returns the number of each connection that has ended, and how it ended, in the order in which they ended."""
     lines = b"".join(server.output).decode().splitlines()
     return [(int(number), ending) for number, ending in (it.removeprefix("connection ").split(": ", 1) for it in lines)]
 
 
 class Coming:
-    """A client that logs in, and is told its snapshot after some seconds."""
+    """A client that logs in and receives its snapshot after some seconds."""
 
     def __init__(self, port):
         self.peer, self.begun = connect(port), time.monotonic()
@@ -72,7 +73,7 @@ class Coming:
         self.accepted = received(self.peer, ACCEPTED)
 
     def told(self):
-        """In how many seconds its snapshot began, and all that it is told."""
+        """Returns after how many seconds its snapshot began, and everything that it received."""
         block = block_in(self.peer)
         while block == BEAT:
             block = block_in(self.peer)
@@ -83,7 +84,7 @@ class Coming:
 
 
 def twelve_slow_readers_have_room(program):
-    """Each has a snapshot of its own: the next client has one at once, and none is cut off for it."""
+    """Each has a snapshot of its own. The next client has one at once, and none is cut off for it."""
     with busy_server(program) as (server, _), contextlib.ExitStack() as held:
         for _ in range(12):
             held.enter_context(Reader(server.port, 100_000, 4096)).has_begun()
@@ -94,7 +95,7 @@ def twelve_slow_readers_have_room(program):
 
 
 def a_snapshot_waits_for_memory(program):
-    """Where no two fit, the second client hears that the server is there until the first has its own, and each has a complete one."""
+    """Two snapshots do not fit. The second client receives heartbeats until the first one has its snapshot, and each receives a complete one."""
     with busy_server(program, "--snapshot-memory", "1M") as (server, _), Reader(server.port, 1_500_000, 1 << 18) as first:
         first.has_begun()
         told = told_within(server.port)
@@ -106,11 +107,12 @@ def a_snapshot_waits_for_memory(program):
 
 
 def the_reader_that_was_slow_for_longest_makes_room(program):
-    """There is memory for two. The first one is cut off once a client has waited for half a second: an earlier one, which has left, does not count."""
+    """There is memory for two. The first client is cut off when another has waited for half a second. An earlier one, which has left, does not
+    count."""
     with busy_server(program, "--snapshot-memory", "20M") as (server, _), contextlib.ExitStack() as held:
         for _ in range(2):
             held.enter_context(Reader(server.port, 100_000, 4096)).has_begun()
-        # By now each has taken less than a megabyte per second, what the system holds for it included.
+        # By now each client has read less than a megabyte per second, including the bytes that the system buffers for it.
         time.sleep(SLOW)
         with Coming(server.port).peer as early:
             # It waits for less than half a second.
@@ -135,8 +137,8 @@ def the_reader_that_was_slow_for_longest_makes_room(program):
 
 
 def eight_slow_readers_hinder_no_other(program):
-    """There is memory for the snapshot of each: the ninth is accepted at once, told each second that the server is there, and has its snapshot
-    within four times what that takes alone."""
+    """There is memory for the snapshot of each. The ninth client is accepted at once, receives a heartbeat every second, and has its snapshot within
+    four times the time that this takes alone."""
     with busy_server(program, "--snapshot-memory", "64M") as (server, _), contextlib.ExitStack() as readers:
         bound = 4 * told_within(server.port).seconds + SLACK
         for _ in range(8):
@@ -147,7 +149,7 @@ def eight_slow_readers_hinder_no_other(program):
 
 
 def a_slow_reader_is_not_cut_off(program):
-    """One that takes 64 KiB in 15 seconds is slow enough to be kept, whatever room it has to receive."""
+    """A client that reads 64 KiB in 15 seconds is fast enough to be kept, whatever the size of its receive buffer."""
     rows = [(60_000, None), (60_000, 4096), (30_000, 4096), (10_000, 4096), (5_000, 4096), (30_000, None)]
     with busy_server(program) as (server, _), contextlib.ExitStack() as held:
         readers = [held.enter_context(Reader(server.port, *row)) for row in rows]

@@ -32,12 +32,12 @@ def files(folder, name="snapshots"):
 
 
 def counts(folder, name="snapshots"):
-    """How many messages the snapshots of the index have, in its order."""
+    """Returns the numbers of messages of the snapshots in the index, in its order."""
     return [json.loads(line)["messages"] for line in (folder / name / "index.jsonl").read_text().splitlines()]
 
 
 def counts_so_far(folder):
-    """The same once there is an index, and none before."""
+    """Returns the same, or nothing if there is no index yet."""
     return counts(folder) if (folder / "snapshots/index.jsonl").exists() else []
 
 
@@ -50,7 +50,7 @@ def saves(folder, *words, name="snapshots"):
 
 
 def runs(program, folder, *words, until=None, name="snapshots"):
-    """A server that records the day up to this message, or to its end: the lines that it writes, and what was asked of its feed. It is killed where the day
+    """Runs a server that records the day up to this message, or to its end. Returns its lines, and the requests to its feed. It is killed if the day
     has not ended."""
     (folder / name).mkdir(exist_ok=True)
     end = threading.Event()
@@ -74,7 +74,7 @@ def snapshots_differ(program, folder, *of, name="snapshots"):
 
 
 def a_restart_begins_with_the_newest_snapshot(program):
-    """It asks the feed for what follows the record. The index is the one that `snap` writes, and `at` uses it."""
+    """It requests the messages after the record from the feed. The index equals the one that `snap` writes, and `at` can use it."""
     with folder_with() as folder:
         runs(program, folder, until=3_500)
         yield from snapshots_differ(program, folder, 1_000, 2_000, 3_000)
@@ -87,7 +87,7 @@ def a_restart_begins_with_the_newest_snapshot(program):
         yield from snapshots_differ(program, folder, *every)
         (folder / "made").mkdir()
         ended_in(folder, program, "snap", "record", "--every", str(EVERY), "--to", "made")
-        # `snap` takes one at the end too.
+        # `snap` also writes one at the end.
         made = (folder / "made/index.jsonl").read_text().splitlines()[:-1]
         yield from differs("the index", (folder / "snapshots/index.jsonl").read_text().splitlines(), made)
         for point in (999, 1_000, 2_345, COUNT):
@@ -96,7 +96,7 @@ def a_restart_begins_with_the_newest_snapshot(program):
 
 
 def a_restart_with_the_newest_snapshot_serves_the_market(program):
-    """Without a message that follows the record, and with one that was not written whole, which is dropped."""
+    """No message follows the record, or an unfinished one, which is dropped."""
     for torn in (0, 7):
         with folder_with() as folder:
             runs(program, folder, until=3_500)
@@ -112,7 +112,7 @@ def a_restart_with_the_newest_snapshot_serves_the_market(program):
 
 
 def a_snapshot_of_the_complete_record_is_used(program):
-    """It has each message of the record: nothing is replayed, and the feed is asked for the next one."""
+    """It covers every message of the record: nothing is replayed, and the feed is asked for the next message."""
     with folder_with() as folder:
         (folder / "snapshots").mkdir()
         end = threading.Event()
@@ -126,7 +126,7 @@ def a_snapshot_of_the_complete_record_is_used(program):
 
 
 def changed(folder, change):
-    """The folder's snapshots after such a change, and what is said of the one of 3,000 messages then."""
+    """Returns the folder's snapshots after such a change, and what is then logged about the snapshot of 3,000 messages."""
     newest, index = named(folder, 3_000), folder / "snapshots/index.jsonl"
     lines = index.read_text().splitlines()
     if change == "cut short":
@@ -164,7 +164,7 @@ CHANGES = "cut short", "removed", "another number", "another fingerprint", "no f
 
 
 def a_snapshot_that_does_not_fit_is_passed_over(program):
-    """It is reported, and an older one is taken; its own is written again."""
+    """It is reported, and an older one is used. The snapshot is written again."""
     for change in CHANGES:
         with folder_with() as folder:
             runs(program, folder, until=3_500)
@@ -179,7 +179,7 @@ def a_snapshot_that_does_not_fit_is_passed_over(program):
 
 
 def the_snapshots_of_another_record_are_not_used(program):
-    """None of them, nor are they in the index any longer: the record is replayed from its beginning."""
+    """None of them is used, and they are removed from the index: the record is replayed from its beginning."""
     other, _ = day_of(COUNT, symbols=7)
     with folder_with() as folder:
         runs(program, folder, until=3_500)
@@ -196,7 +196,7 @@ def the_snapshots_of_another_record_are_not_used(program):
 
 
 def a_folder_without_a_record_has_no_index(program):
-    """The snapshots that are written there then are of another feed than what an index lists."""
+    """The snapshots written there may be of another feed than those in an index."""
     with folder_with() as folder:
         runs(program, folder, until=3_500)
         with Feed(plays(DAY, then=ENDED)) as feed, live(program, feed.port, "--snapshots", folder / "snapshots", "--every", "2500") as server:
@@ -205,7 +205,7 @@ def a_folder_without_a_record_has_no_index(program):
 
 
 def missing_snapshots_are_written_during_the_replay(program):
-    """In an empty folder all of them, and what was not written whole is removed; another file is left."""
+    """In an empty folder all of them are written. Unfinished files of snapshots are removed; any other file is left."""
     with folder_with() as folder:
         runs(program, folder, until=3_500)
         shutil.rmtree(folder / "snapshots")
@@ -220,7 +220,7 @@ def missing_snapshots_are_written_during_the_replay(program):
 
 
 def the_last_snapshots_are_kept(program):
-    """Older ones are removed, with their lines, and those of an earlier run too."""
+    """Older ones are removed, together with their lines, including those of an earlier run."""
     with folder_with() as folder:
         runs(program, folder, until=3_500)
         runs(program, folder, "--keep", "2")
@@ -231,7 +231,7 @@ def the_last_snapshots_are_kept(program):
 
 
 def the_oldest_snapshots_of_an_earlier_run_are_removed_first(program):
-    """In whatever order the system names the files of the folder."""
+    """In whatever order the system lists the files of the folder."""
     every, keep = 100, 10
     with folder_with() as folder:
         (folder / "snapshots").mkdir()
@@ -245,14 +245,14 @@ def the_oldest_snapshots_of_an_earlier_run_are_removed_first(program):
 
 
 def obstacle(folder, kind):
-    """What makes the removal of old snapshots fail while it is there: the system refuses to remove a file (calls.c), or the index cannot be written."""
+    """Prevents the removal of old snapshots while it exists: the system refuses to remove a file (calls.c), or the index cannot be written."""
     if kind == "file":
         return folder / "fails", "Input/output error (os error 5)"
     return folder / "snapshots/index.jsonl.part", "Is a directory (os error 21)"
 
 
 def an_old_snapshot_that_cannot_be_removed_is_tried_again(program):
-    """After each later one, until it can be; each time that is said."""
+    """After each later snapshot, until it succeeds. Each failure is reported."""
     for kind in "file", "index":
         fails, works = threading.Event(), threading.Event()
 
@@ -284,7 +284,7 @@ def an_old_snapshot_that_cannot_be_removed_is_tried_again(program):
 
 
 def a_folder_may_be_a_link(program):
-    """To one on another disk."""
+    """The link leads to a folder on another disk."""
     with folder_with() as folder:
         (folder / "disk").mkdir()
         (folder / "snapshots").symlink_to("disk")
@@ -294,7 +294,7 @@ def a_folder_may_be_a_link(program):
 
 
 def nothing_is_left_of_a_snapshot_for_which_there_is_no_room(program):
-    """It is removed at once, so that the record has the room that there was."""
+    """The file is removed at once, so that the record gets its space back."""
     def limit():
         signal.signal(signal.SIGXFSZ, signal.SIG_IGN)
         resource.setrlimit(resource.RLIMIT_FSIZE, (len(day) + 10, len(day) + 10))
@@ -310,7 +310,7 @@ def nothing_is_left_of_a_snapshot_for_which_there_is_no_room(program):
 
 
 def held_back(until, rest):
-    """A feed that accepts the login once it is told to, and then sends the messages after this one."""
+    """A feed that accepts the login when it is told to, and then sends the messages after this one."""
     def script(peer, login):
         rest.wait(PATIENCE)
         peer.sendall(acceptance(until + 1, SESSION) + b"".join(map(packet, BLOCKS[until:])))
@@ -320,7 +320,7 @@ def held_back(until, rest):
 
 
 def clients_wait_until_it_has_caught_up(program):
-    """They are told so with heartbeats. Without the option they are served the market of the record."""
+    """Meanwhile they receive heartbeats. Without the option they are served the market of the record."""
     early = snapshot_after(program, DAY, 2_000)
     for words, wanted in ((("--ready", "caught-up"), WHOLE), (("--ready", "first"), early), ((), early)):
         rest = threading.Event()
@@ -335,7 +335,7 @@ def clients_wait_until_it_has_caught_up(program):
 
 
 def the_index_has_the_latest_time_so_far(program):
-    """Also where timestamps go back, and after a restart."""
+    """Even if timestamps go back, and after a restart."""
     times = [5, 9, 3, 7, 9, 1, 12, 2, 30, 4] * 4
     blocks = [it[:7] + (10**12 + at * 10**3 + time).to_bytes(6, "big") + it[13:] for at, (time, it) in enumerate(zip(times, BLOCKS))]
     for at, back in enumerate((3, 11, 27, 36)):
@@ -355,7 +355,7 @@ def the_index_has_the_latest_time_so_far(program):
 
 
 def a_line_that_is_not_written_whole_is_taken_back(program):
-    """The next one begins where it began: there is room on the disk for the first one and a part of the second, as far as the process is told."""
+    """The next line starts where that one started. The process is told that the disk has room for the first line and a part of the second."""
     day = b"".join(BLOCKS[:3])
     with folder_with(day=day) as folder, Feed(plays(day, then=ENDED)) as feed:
         for name in ("snapshots", "made"):
