@@ -1,5 +1,5 @@
-/* As fail.c, for the calls of the system that are no reads, writes or allocations: `accept4:2` fails the second accept4, and so on with the name
- * of each call below. */
+/* Like fail.c, for system calls other than reads, writes and allocations: `accept4:2` fails the second accept4, and so on with the name of
+ * each call below. */
 #include "fail.c"
 #include <stdarg.h>
 #include <stdio.h>
@@ -7,7 +7,7 @@
 #include <sys/file.h>
 #include <sys/stat.h>
 
-/* A call of this name, with these parameters, which passes these on to the system's. */
+/* Defines a call with this name and these parameters, which it passes on to the system's. */
 #define CALL(name, parameters, passed) \
     int name parameters { \
         static int(*next) parameters; \

@@ -11,7 +11,7 @@
 
 static const uint64_t most = UINT64_C(9999999999999999999);
 
-/* Ends the program where something is not as it must be. */
+/* Ends the program if a condition does not hold. */
 static void must(bool holds, const char *what) {
     if (!holds) {
         fprintf(stderr, "codes: %s\n", what);
@@ -23,7 +23,7 @@ static void answers(itchsnap_answer answer, uint32_t code, uint64_t detail, cons
     must(answer.code == code && answer.detail == detail, what);
 }
 
-/* Bytes of a payload, a packet or a file. */
+/* The bytes of a payload, a packet or a file. */
 typedef struct {
     uint8_t bytes[200];
     size_t len;
@@ -65,7 +65,7 @@ static text cancel(uint16_t locate, uint64_t reference, uint32_t shares) {
     return made;
 }
 
-/* The same message at a time. */
+/* The same message at a given time. */
 static text at(uint64_t time, text payload) {
     put_number(payload.bytes + 5, 6, time);
     return payload;
@@ -96,7 +96,7 @@ static void payloads(void) {
     answers(fault(spelled("G                   0")), ITCHSNAP_BAD_NUMBER, 0, "BAD_NUMBER");
 }
 
-/* A payload that is refused leaves the fields as they were. */
+/* A refused payload leaves the fields unchanged. */
 static void fields(void) {
     itchsnap_message message, before;
     text good = at(7, order(3, 9, 'S', 5)), bad = order(1, 1, 'X', 1);

@@ -1,9 +1,8 @@
-/* For tests, loaded into the program by LD_PRELOAD: one call of one kind fails, as FAIL says: `memory:3` refuses the third
- * allocation, `read:1` fails the first read, `write:2` the second write, `sync:1` the first fsync or fdatasync, `send:1`, `recv:1` and
- * `setsockopt:1` the first such call at a socket. With `write:2+` so does each later write to the same file. Where a call has failed so, the file that FAILED names is made.
- * With `accept4:while` each such call fails as long as the file that FAILING names is there. Where KILLS is set, the process is killed in place
- * of a call that fails. calls.c has more kinds.
- * Each read and each recv gives at most as many bytes as PIECE says, and each write and each send takes at most as many. */
+/* For tests: a library for LD_PRELOAD that makes one call of one kind fail, according to FAIL. `memory:3` refuses the third allocation, `read:1`
+ * fails the first read, `write:2` the second write, `sync:1` the first fsync or fdatasync, and `send:1`, `recv:1` and `setsockopt:1` the first
+ * such call at a socket. `write:2+` also fails each later write to the same file. When a call has failed, the file in FAILED is created.
+ * `accept4:while` fails each such call while the file in FAILING exists. If KILLS is set, the process is killed instead of failing the call.
+ * calls.c handles more kinds. Each read, recv, write and send transfers at most PIECE bytes. */
 #define _GNU_SOURCE
 #include <dlfcn.h>
 #include <errno.h>
@@ -16,7 +15,7 @@
 
 static long left = -1;
 
-/* Whether this call, of the kind that is named, is the one that fails. */
+/* Whether this call, of this kind, must fail. */
 static int fails(const char *kind) {
     const char *fail = getenv("FAIL");
     size_t len = strlen(kind);
@@ -38,13 +37,13 @@ static int fails(const char *kind) {
     return 1;
 }
 
-/* Whether the calls after the one that fails do so too. */
+/* Whether later calls must fail too. */
 static int goes_on(void) {
     const char *fail = getenv("FAIL");
     return fail && strchr(fail, '+');
 }
 
-/* So many of these bytes are read or written by one call. */
+/* Returns how many of these bytes one call transfers. */
 static size_t piece(size_t count) {
     const char *text = getenv("PIECE");
     size_t most = text ? strtoul(text, NULL, 10) : 0;

@@ -1,5 +1,4 @@
-/* For tests, loaded into the program by LD_PRELOAD: its time goes as many times as fast as HURRY says, and to look up a name takes as many
- * milliseconds longer as LOOKUP says. */
+/* For tests: a library for LD_PRELOAD that makes time pass HURRY times as fast, and name look-ups take LOOKUP milliseconds longer. */
 #define _GNU_SOURCE
 #include <dlfcn.h>
 #include <netdb.h>

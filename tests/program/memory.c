@@ -16,11 +16,11 @@ void *__real_malloc(size_t size);
 void *__real_realloc(void *block, size_t size);
 void __real_free(void *block);
 
-/* The requests of a scene so far, the one that is refused (0 where none is), and whether it was since the last call. */
+/* The number of requests in a scene so far, the one to refuse (0 for none), and whether it was refused since the last call. */
 static uint64_t requests, refused_request;
 static bool refused;
 
-/* The blocks that the library has. */
+/* The number of blocks that the library holds. */
 static uint64_t blocks;
 
 static bool refuses(void) {
@@ -46,7 +46,7 @@ void __wrap_free(void *block) {
     __real_free(block);
 }
 
-/* Ends the program where something is not as it must be. */
+/* Ends the program if a condition does not hold. */
 static void must(bool holds, const char *what) {
     if (!holds) {
         fprintf(stderr, "memory: %s, where request %" PRIu64 " of %" PRIu64 " is refused\n", what, refused_request, requests);
@@ -54,7 +54,7 @@ static void must(bool holds, const char *what) {
     }
 }
 
-/* Whether a call was granted its memory, and then has this code; else it says out of memory. */
+/* Whether a call was granted its memory and has this code. Otherwise it must return out of memory. */
 static bool granted(uint32_t code, uint32_t wanted, const char *what) {
     bool was_refused = refused;
     refused = false;
@@ -73,7 +73,7 @@ static void *own(size_t size) {
     return block;
 }
 
-/* Memory that a snapshot is to be written into. */
+/* Memory for a snapshot. */
 static buffer unwritten(size_t len) {
     buffer made = {own(len), len};
     memset(made.bytes, 0xa5, len);
@@ -102,7 +102,7 @@ static buffer read_file(const char *path) {
     return day;
 }
 
-/* The locates that are wanted. */
+/* The locates to keep. */
 typedef struct {
     const uint16_t *locates;
     size_t count;
@@ -151,7 +151,7 @@ static void forget(messages of) {
     __real_free(of.needs);
 }
 
-/* How many messages were taken where a call on all of them was refused this request. */
+/* Returns how many messages were accepted when a call on all of them was refused this request. */
 static uint64_t taken_before(const messages *of, uint64_t request) {
     uint64_t taken = 0;
     while (taken < of->count && of->needs[taken + 1] < request) {
@@ -160,14 +160,14 @@ static uint64_t taken_before(const messages *of, uint64_t request) {
     return taken;
 }
 
-/* A day file, the snapshot of no message, and that of all. */
+/* A day file, the snapshot of no messages, and the snapshot of all. */
 typedef struct {
     messages feed;
     buffer start;
     messages end;
 } day;
 
-/* The snapshot after so many messages, with nothing refused. */
+/* Returns the snapshot after a number of messages, with no request refused. */
 static buffer snapshot_after(buffer file, uint64_t after) {
     uint8_t none;
     buffer made = unwritten(itchsnap_snap(file.bytes, file.len, after, ITCHSNAP_ALL, &none, 0).len);
@@ -193,7 +193,7 @@ static day day_of(buffer file) {
     return read;
 }
 
-/* The messages of a snapshot that are kept where these locates are wanted: those of type S and G, and those at a wanted locate. */
+/* Returns the messages of a snapshot that remain if these locates are kept: those of type S and G, and those at these locates. */
 static buffer cut(const messages *whole, list wanted) {
     buffer kept = {own(whole->file.len), 0};
     for (uint64_t number = 1; number <= whole->count; number++) {
@@ -212,7 +212,7 @@ static itchsnap_written put(itchsnap_handle *handle, uint64_t next, list wanted,
                       : itchsnap_snapshot_only(handle, next, wanted.locates, wanted.count, out.bytes, out.len);
 }
 
-/* The snapshot of a handle's market, where these locates are wanted. */
+/* Returns the snapshot of a handle's market, reduced to these locates if there are any. */
 static void see_snapshot(itchsnap_handle *handle, const day *of, list wanted) {
     buffer kept = cut(&of->end, wanted);
     buffer out = unwritten(kept.len);
@@ -227,7 +227,7 @@ static void see_snapshot(itchsnap_handle *handle, const day *of, list wanted) {
     __real_free(out.bytes);
 }
 
-/* What has no code for out of memory asks for none. */
+/* Calls without a code for out of memory must not request any. */
 static void look_up(itchsnap_handle *handle) {
     uint64_t before = requests;
     for (uint16_t locate = 0; locate < 10; locate++) {
@@ -254,7 +254,7 @@ static void play_market(const day *of, list wanted) {
     itchsnap_free(&market);
 }
 
-/* The same of a call that gives memory back where that is granted: then it does as it says even if it was not. */
+/* The same for a call that frees memory if it can: it must succeed even if that is refused. */
 static bool granted_or_kept(uint32_t code, const char *what) {
     bool was_refused = refused;
     refused = false;
@@ -262,7 +262,7 @@ static bool granted_or_kept(uint32_t code, const char *what) {
     return code == ITCHSNAP_OK;
 }
 
-/* What a market lists. */
+/* The lists of a market. */
 static void list_all(itchsnap_handle *market, const day *of) {
     uint16_t *locates = own((of->feed.count + 1) * sizeof *locates);
     itchsnap_order *orders = own((of->feed.count + 1) * sizeof *orders);
@@ -290,7 +290,7 @@ static void list_all(itchsnap_handle *market, const day *of) {
     __real_free(levels);
 }
 
-/* All blocks at once; where memory is refused, the next call goes on after those that were applied. */
+/* Applies all blocks at once. If memory is refused, the next call continues after the messages that were applied. */
 static void play_blocks(const day *of, list wanted) {
     itchsnap_handle market = ITCHSNAP_NONE;
     while (!granted(itchsnap_market_new(&market).code, ITCHSNAP_OK, "a new market")) {
@@ -308,7 +308,7 @@ static void play_blocks(const day *of, list wanted) {
     itchsnap_free(&market);
 }
 
-/* A snapshot file that is loaded; where it is refused, the place is that of the message which memory was refused for. */
+/* Loads a snapshot file. If memory is refused, the place is that of the message for which it was. */
 static void play_load(const day *of, list wanted) {
     const messages *whole = &of->end;
     itchsnap_handle market = ITCHSNAP_NONE;
@@ -330,7 +330,7 @@ static itchsnap_outcome snap(buffer file, list wanted, buffer out) {
                       : itchsnap_snap_only(file.bytes, file.len, ITCHSNAP_ALL, ITCHSNAP_ALL, wanted.locates, wanted.count, out.bytes, out.len);
 }
 
-/* A day file that is checked, and written as a snapshot; where it is refused, the count is that of the messages that were taken. */
+/* Checks a day file, and writes its snapshot. If memory is refused, the count is that of the accepted messages. */
 static void play_file(const day *of, list wanted) {
     buffer file = of->feed.file;
     uint64_t before = requests;
@@ -348,14 +348,14 @@ static void play_file(const day *of, list wanted) {
     __real_free(out.bytes);
 }
 
-/* Where a time begins that no message has. */
+/* Finds the beginning of a time that no message has. */
 static void play_time(const day *of, list wanted) {
     itchsnap_count found = itchsnap_first_at(of->feed.file.bytes, of->feed.file.len, ITCHSNAP_ALL);
     (void)granted(found.code, ITCHSNAP_ABSENT, "a time");
     (void)wanted;
 }
 
-/* The messages at the locates that are wanted; where memory for these is refused, none is passed. */
+/* Decodes the messages at the locates to keep. If memory for these is refused, no message is consumed. */
 static void play_rows(const day *of, list wanted) {
     itchsnap_row row;
     buffer file = of->feed.file;
@@ -365,7 +365,7 @@ static void play_rows(const day *of, list wanted) {
     must(done.count == 5 + (is_whole ? of->feed.count : 0) && done.len == (is_whole ? file.len : 0) && done.rows == 0, "the count of rows");
 }
 
-/* Two day files that are compared; where one is refused, it is the one which memory was refused for. */
+/* Compares two day files. If memory is refused, the answer names the file for which it was. */
 static void play_compare(const day *of, list wanted) {
     buffer file = of->feed.file;
     uint64_t before = requests, whole = of->feed.needs[of->feed.count];
@@ -381,7 +381,7 @@ static void play_compare(const day *of, list wanted) {
     (void)wanted;
 }
 
-/* A joiner takes a message of the snapshot, where the number is 0, or of the feed, and then what waits. */
+/* A joiner takes a message of the snapshot, if the number is 0, or of the feed, and then applies the waiting messages. */
 static void take(itchsnap_handle *joiner, uint64_t number, buffer message, uint32_t wanted) {
     for (;;) {
         itchsnap_joined answer = number == 0 ? itchsnap_joiner_snapshot(joiner, message.bytes, message.len)
@@ -402,7 +402,7 @@ static itchsnap_answer new_joiner(itchsnap_handle *handle, const day *of, list w
     return wanted.all ? itchsnap_joiner_new(handle, cap) : itchsnap_joiner_new_only(handle, cap, wanted.locates, wanted.count);
 }
 
-/* A joiner with the locates that are wanted: the feed from its last message to its first, the snapshot of no message, the feed again. */
+/* A joiner for some locates takes the feed from its last message to its first, the snapshot of no messages, and the feed again. */
 static void play_joiner(const day *of, list wanted) {
     itchsnap_handle joiner = ITCHSNAP_NONE;
     while (!granted(new_joiner(&joiner, of, wanted).code, ITCHSNAP_OK, "a new joiner")) {
@@ -438,7 +438,7 @@ static void play_sessions(const day *of, list wanted) {
     (void)wanted;
 }
 
-/* Plays a scene with each of its requests refused in turn, and then with none. */
+/* Plays a scene with each of its requests refused in turn, and then with none refused. */
 static void play(void (*scene)(const day *, list), const day *of, list wanted) {
     refused_request = 0;
     do {

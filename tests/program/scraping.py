@@ -23,22 +23,22 @@ from paces import each_in_some_attempt
 PAGES = {"/": "text/html; charset=utf-8", "/metrics": "text/plain; version=0.0.4; charset=utf-8", "/healthz": "text/plain; charset=utf-8",
          "/readyz": "text/plain; charset=utf-8", "/status": "application/json", "/status.txt": "text/plain; charset=utf-8"}
 GET = b"GET /healthz HTTP/1.1\r\nHost: a\r\n\r\n"
-# How long a connection may be open, and the most connections.
+# How long a connection may be open, and the maximum number of connections.
 LIMIT, MOST = 5, 16
-# How many messages a feed of 100,000 per second sends at once, and how often; and within what time each is to be in the record.
+# How many messages a feed of 100,000 per second sends at once, how often, and within what time each must be in the record.
 BURST, PAUSE, MOST_LATE = 1000, 0.01, 0.05
 
 
 @contextlib.contextmanager
 def watched(program, feed, *words):
-    """A live server of this feed, whose status port is `status`."""
+    """Runs a live server at this feed, whose status port is `status`."""
     with Running(program, "live", "--feed", f"127.0.0.1:{feed}", "--port", "0", *WORDS, "--status", "127.0.0.1:0", *words) as server:
         server.status = int(server.said("status on ").rsplit(":", 1)[1])
         yield server
 
 
 def page(server, path, method="GET"):
-    """The response to a request: its status, its fields and its body."""
+    """Returns the response to a request: its status, its fields and its body."""
     asking = http.client.HTTPConnection("127.0.0.1", server.status, timeout=PATIENCE)
     with contextlib.closing(asking):
         asking.request(method, path)
@@ -58,7 +58,7 @@ def waits_for(condition, seconds=PATIENCE):
 
 
 def answer_to(port, *pieces):
-    """All that is answered to these pieces, which are sent one after the other."""
+    """Returns the complete answer to these pieces, which are sent one after the other."""
     with connect(port) as peer:
         with contextlib.suppress(ConnectionError):
             for piece in pieces:
@@ -73,7 +73,7 @@ def status_of(response):
 
 
 def samples_of(text):
-    """The samples of metrics by their names, each of which has a description and a type before it."""
+    """Returns the samples of the metrics by name. Each must be preceded by its description and its type."""
     described, typed, samples = set(), {}, {}
     for line in text.splitlines():
         if line.startswith("# HELP "):
@@ -89,7 +89,7 @@ def samples_of(text):
 
 
 def each_page_of_the_status(program):
-    """While a feed is followed and after a client was served: the pages say the same, and HEAD has no body."""
+    """While a feed is followed and after a client was served, the pages agree, and HEAD has no body."""
     day, _ = day_of(400)
     count = len(split(day))
     with folder_with() as folder, Feed(plays(day, wait=threading.Event())) as feed, watched(program, feed.port, "--record", folder / "record") as server:
@@ -109,7 +109,7 @@ def each_page_of_the_status(program):
 
 
 def figures_differ(server, folder, day, count):
-    """The figures beside what is known of the day and the record."""
+    """Compares the figures with the day and the record."""
     waits_for(lambda: figures(server)["record_unsynced_bytes"] == 0)
     got = figures(server)
     wanted = {"ready": True, "feed_state": "following", "feed_cause": None, "feed_session": "ITCHSNAP", "feed_server": 1, "feed_losses_total": 0,
@@ -124,7 +124,7 @@ def figures_differ(server, folder, day, count):
 
 
 def forms_differ(program, server):
-    """The forms of the status beside each other."""
+    """Compares the formats of the status with each other."""
     got, samples = figures(server), samples_of(page(server, "/metrics")[2].decode())
     for key, value in got.items():
         if isinstance(value, int) and key not in ("uptime_seconds", "silence_seconds"):
@@ -153,7 +153,7 @@ def metrics_that_prometheus_takes(program):
 
 
 def what_prometheus_scrapes(program):
-    """It finds the server, and a query returns how long ago the last message was received."""
+    """Prometheus discovers the server, and a query returns how long ago the last message was received."""
     if not (tool := shutil.which("prometheus")):
         print("skipped: what Prometheus scrapes: no prometheus here")
         return
@@ -170,7 +170,7 @@ def what_prometheus_scrapes(program):
 
 @contextlib.contextmanager
 def prometheus(tool, folder):
-    """The port of a Prometheus whose configuration is the file `config` of this folder."""
+    """Yields the port of a Prometheus whose configuration is the file `config` in this folder."""
     with socket.create_server(("127.0.0.1", 0)) as free:
         port = free.getsockname()[1]
     words = f"--config.file={folder}/config", f"--storage.tsdb.path={folder}/data", f"--web.listen-address=127.0.0.1:{port}"
@@ -183,7 +183,7 @@ def prometheus(tool, folder):
 
 
 def asked_of(port, query):
-    """The answer of Prometheus to a query; none where it does not answer yet."""
+    """Returns the answer of Prometheus to a query, or None if it does not answer yet."""
     with contextlib.suppress(OSError, ValueError, http.client.HTTPException):
         asking = http.client.HTTPConnection("127.0.0.1", port, timeout=PATIENCE)
         with contextlib.closing(asking):
@@ -192,7 +192,7 @@ def asked_of(port, query):
 
 
 def what_a_browser_shows(program):
-    """The page as its document is after it was drawn: nothing of it was refused."""
+    """The document of the page after rendering: the browser has refused no part of it."""
     if not (tool := shutil.which("chromium")):
         print("skipped: what a browser shows of the status: no chromium here")
         return
@@ -207,7 +207,7 @@ def what_a_browser_shows(program):
 
 
 def requests_that_are_refused(program):
-    """Each with its own code; what follows a request is not answered."""
+    """Each has its own code. Nothing after a request is answered."""
     day, _ = day_of(20)
     long = b"GET / HTTP/1.1\r\nX: " + b"a" * 9000 + b"\r\n\r\n"
     many = b"GET / HTTP/1.1\r\n" + b"X: a\r\n" * 65 + b"\r\n"
@@ -235,7 +235,8 @@ def requests_that_are_refused(program):
 
 
 def connections_that_say_nothing(program):
-    """A hundred: sixteen are there at a time, each for five seconds, and is told that its time is over. The feed and a client do not notice."""
+    """A hundred connect. Sixteen are open at a time, each for five seconds, and then told that their time is over. The feed and a client do not
+    notice."""
     day, wanted = day_of(400)
     with Feed(plays(day, wait=threading.Event())) as feed, watched(program, feed.port) as server, contextlib.ExitStack() as held:
         server.said("feed: accepted")
@@ -255,7 +256,8 @@ def connections_that_say_nothing(program):
 
 
 def a_scraper_that_reads_nothing(program):
-    """It is cut off after five seconds, and so is one that floods; a feed of 100,000 messages per second is followed meanwhile, and a client served."""
+    """It is cut off after five seconds, and so is one that floods the port. Meanwhile a feed of 100,000 messages per second is followed, and a client
+    is served."""
     day, wanted = day_of(30000)
     with folder_with(day=day) as folder, feeding(program, folder / "day", "--rate", "20000", "--stay") as feed, watched(program, feed.port) as server, \
             contextlib.ExitStack() as held:
@@ -273,8 +275,8 @@ def a_scraper_that_reads_nothing(program):
 
 
 def messages_are_not_delayed_by_scrapers(program):
-    """Each of 100,000 messages per second is in the record within 50 ms, while `wrk` has as many pages as it can, and `curl` one. The record is not synced,
-    which takes as long as the disk does. A busy machine delays the test itself: one of some attempts suffices."""
+    """Each of 100,000 messages per second is in the record within 50 ms, while `wrk` requests as many pages as it can, and `curl` one. The record is
+    not synced, since that takes as long as the disk does. A busy machine delays the test itself, so one success in several attempts suffices."""
     if lacking := [it for it in ("wrk", "curl") if not shutil.which(it)]:
         print(f"skipped: messages are not delayed by scrapers: no {' and no '.join(lacking)} here")
         return
@@ -298,7 +300,8 @@ def messages_are_not_delayed_by_scrapers(program):
 
 
 def in_bursts(blocks, begins, sent):
-    """A script: these messages at 100,000 per second, once that begins. Notes when each burst is sent, and to how many bytes a record grows with it."""
+    """Returns a script that sends these messages at 100,000 per second, after an event. It notes when it sends each burst, and the size of the record
+    after it."""
     bursts = [blocks[at:at + BURST] for at in range(0, len(blocks), BURST)]
     packets, sizes = [b"".join(map(packet, it)) for it in bursts], itertools.accumulate(sum(map(len, it)) for it in bursts)
 
@@ -318,7 +321,7 @@ def in_bursts(blocks, begins, sent):
 
 
 def growth_of(file, size):
-    """When a file had grown, and to what, until it has this size."""
+    """Returns when a file grew, and to what size, until it has this size."""
     grown, begun = [(0, 0)], time.monotonic()
     while grown[-1][1] < size and time.monotonic() < begun + PATIENCE:
         if (found := file.stat().st_size) > grown[-1][1]:
@@ -328,7 +331,7 @@ def growth_of(file, size):
 
 
 def delays(sent, grown):
-    """How long after each burst was sent a record had it."""
+    """Returns how long after each burst was sent the record contained it."""
     return [next((seen for seen, found in grown if found >= size), math.inf) - moment for moment, size in sent]
 
 
@@ -340,7 +343,7 @@ def floods(peer):
 
 
 def the_state_of_a_feed(program):
-    """Connecting and why, following, lost and why, and following again; `status` waits for it."""
+    """Connecting with its cause, following, lost with its cause, and following again. `status` waits for it."""
     day, _ = day_of(20)
     gate, closing = threading.Event(), threading.Event()
 
@@ -370,7 +373,7 @@ def the_state_of_a_feed(program):
 
 
 def a_status_port_that_cannot_be_had(program):
-    """It ends `live` at the start, as does an address of nobody's; `status` of a port where nobody listens has status 3."""
+    """It ends `live` at the start, and so does an address that is not local. `status` of a port where nothing listens exits with 3."""
     with socket.create_server(("127.0.0.1", 0)) as taken:
         port = taken.getsockname()[1]
         words = "live", "--feed", "127.0.0.1:9", "--port", "0", *WORDS, "--status"
@@ -385,7 +388,7 @@ def a_status_port_that_cannot_be_had(program):
 
 
 def entries(lines, form):
-    """The entries of a log: the time, the level, the event and the fields of each line."""
+    """Returns the entries of a log: the time, the level, the event and the fields of each line."""
     if form == "json":
         return [(it.pop("time"), it.pop("level"), it.pop("event"), it) for it in map(json.loads, lines)]
     found = []
@@ -397,7 +400,8 @@ def entries(lines, form):
 
 
 def lines_of_a_log(program):
-    """Each has its time and its level: of a feed that is lost, and of clients that are served and rejected. Nothing is on standard output."""
+    """Each line has its time and its level: those about a lost feed, and those about clients that are served or rejected. Standard output is
+    empty."""
     day, wanted = day_of(20)
     closing = threading.Event()
 

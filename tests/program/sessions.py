@@ -21,16 +21,18 @@ from common import readable
 
 EXAMPLES = Path(__file__).resolve().parent.parent.parent / "examples"
 LOGIN = b"\0\x2fLuser  secret    " + b" " * 10 + b"1".rjust(20)
-# A server has to read its complete file before it listens.
+# A server reads its complete file before it listens.
 STARTING = 60
 PORTS = itertools.count(random.randrange(12_000))
 
 
 def free_port():
-    """A port below those that the system hands out, and another one at each call, so that no other run has it meanwhile."""
+    """Returns a port below those that the system assigns, and a different one at each call, so that no other run uses it
+    meanwhile."""
     while True:
         port = 20_000 + next(PORTS) % 12_000
-        # It does not listen: a process that another thread starts meanwhile holds it a little longer, which does not hinder a server.
+        # It does not listen. A process that another thread starts meanwhile may hold it a little longer, which does not affect a
+        # server.
         with contextlib.suppress(OSError), socket.socket() as probe:
             probe.setsockopt(socket.SOL_SOCKET, socket.SO_REUSEADDR, 1)
             probe.bind(("127.0.0.1", port))
@@ -42,7 +44,7 @@ def login_words(port, password="secret"):
 
 
 def fetch(program, port, password="secret", **options):
-    """The status and both outputs of a fetch."""
+    """Runs `fetch`, and returns its status and both outputs."""
     done = subprocess.run([program, "fetch", *login_words(port, password)], capture_output=True, timeout=120, **options)
     return done.returncode, done.stdout, done.stderr
 
@@ -52,7 +54,7 @@ def connect(port):
 
 
 class Server:
-    """`serve` of a file to `count` connections, once it listens."""
+    """Runs `serve` with a file for `count` connections, and waits until it listens."""
 
     def __init__(self, program, file, count, *options, stdout=subprocess.PIPE, **environment):
         self.port = free_port()
@@ -70,7 +72,7 @@ class Server:
         self.process.wait()
 
     def differences(self, *endings):
-        """How the server ended, against the endings of its connections."""
+        """Yields what is wrong with the end of the server, given how each connection must end."""
         output, error = self.process.communicate(timeout=60)
         output = self.output + output
         listening = f"listening on 127.0.0.1:{self.port}\n".encode()
@@ -132,7 +134,7 @@ def a_part_of_a_day_is_served(program):
 
 @contextlib.contextmanager
 def large_server(program, count):
-    """A server of a large snapshot, and the snapshot."""
+    """Yields a server of a large snapshot, and the snapshot."""
     day, wanted = large.orders(200_000)
     with tempfile.NamedTemporaryFile(suffix=".itch") as file:
         file.write(day)
@@ -148,7 +150,8 @@ def a_large_snapshot_is_fetched(program):
 
 
 def answer(snapshot):
-    """What a login for all messages is answered: the acceptance, a packet for each block of the snapshot, the session's end."""
+    """Returns the answer to a login for all messages: the acceptance, a packet for each block of the snapshot, and the end of the
+    session."""
     packets, at = [b"\0\x1fA  ITCHSNAP" + b"1".rjust(20)], 0
     while at < len(snapshot):
         length = struct.unpack_from(">H", snapshot, at)[0]
@@ -158,7 +161,7 @@ def answer(snapshot):
 
 
 def received(peer):
-    """All that a server sends until it closes the connection."""
+    """Returns everything that a server sends until it closes the connection."""
     pieces = []
     while piece := peer.recv(1 << 16):
         pieces.append(piece)
@@ -188,7 +191,7 @@ def ten_thousand_debug_packets_are_passed_over(program):
 
 
 def a_client_that_goes_on_sending_has_the_whole_answer(program):
-    """Heartbeats are a client's duty. They come while it still reads what the server has written."""
+    """Clients must send heartbeats, and these arrive while the client is still reading the server's output."""
     with large_server(program, 1) as (server, wanted), connect(server.port) as peer:
         peer.sendall(LOGIN)
         has_all = threading.Event()
@@ -215,7 +218,7 @@ def a_client_that_goes_on_sending_has_the_whole_answer(program):
 
 
 def served_after(program, leave):
-    """A large snapshot served to a peer that logs in and leaves so, and then to another one."""
+    """Serves a large snapshot to a peer that logs in and leaves in the given way, and then to another one."""
     with large_server(program, 2) as (server, wanted):
         with connect(server.port) as peer:
             peer.sendall(LOGIN)
@@ -231,14 +234,14 @@ def a_peer_that_does_not_read_ends_nothing_else(program):
 def a_peer_killed_in_mid_answer_ends_nothing_else(program):
     def reset(peer):
         peer.recv(1000)
-        # Closed so, it resets the connection.
+        # Closing with unread data resets the connection.
         peer.setsockopt(socket.SOL_SOCKET, socket.SO_LINGER, struct.pack("ii", 1, 0))
 
     yield from served_after(program, reset)
 
 
 def a_peer_that_breaks_the_protocol_is_not_waited_for(program):
-    """It says no packet, and continues holding its connection: the next one is served at once."""
+    """The peer sends an invalid packet and keeps its connection open: the next client is served at once."""
     wanted = snapshot(program, EXAMPLES / "opening.itch")
     with Server(program, EXAMPLES / "opening.itch", 2) as server, connect(server.port) as peer:
         begun = time.monotonic()
@@ -288,7 +291,7 @@ def a_server_that_is_not_there_is_a_failed_socket(program):
 
 
 def a_server_that_ends_early_gives_nothing(program):
-    """Each beginning of an answer, at the border of a packet and within one."""
+    """Each beginning of an answer, at the end of a packet and within one."""
     acceptance = b"\0\x1fA  ITCHSNAP" + b"1".rjust(20)
     message = b"\0\x0dSS" + bytes(10) + b"O"
     cut = "no SoupBinTCP packet of a server: truncated, {} bytes held"
@@ -311,7 +314,8 @@ def a_server_that_ends_early_gives_nothing(program):
 
 
 def held_by(program, name, server, wanted, longest, slow):
-    """What differs where `slow`, called each second, is to end in a fault after 15 seconds at least, and after `longest`."""
+    """Yields what is wrong unless the connection ends in a fault after 15 seconds at least, and `longest` at most. Calls `slow` every
+    second."""
     start = time.monotonic()
     with ThreadPoolExecutor(1) as pool:
         line = pool.submit(server.process.stdout.readline)
@@ -330,14 +334,15 @@ def held_by(program, name, server, wanted, longest, slow):
 
 
 def a_slow_login(program):
-    """Heartbeats all the time, and never a login."""
+    """It sends heartbeats all the time, and never a login."""
     wanted = snapshot(program, EXAMPLES / "opening.itch")
     with Server(program, EXAMPLES / "opening.itch", 2) as server, connect(server.port) as slow:
         return list(held_by(program, "a slow login", server, wanted, 20, lambda: slow.sendall(b"\0\x01R")))
 
 
 def a_slow_reader(program):
-    """4 KiB a second, so that each write is done within 15 seconds. With small buffers and packets of TCP little is on its way."""
+    """It reads 4 KiB per second, so each write is done within 15 seconds. The socket buffers and the TCP packets are small, so that
+    little data is in transit."""
     with large_server(program, 2) as (server, wanted), socket.socket() as slow:
         slow.setsockopt(socket.SOL_SOCKET, socket.SO_RCVBUF, 4096)
         slow.setsockopt(socket.IPPROTO_TCP, socket.TCP_MAXSEG, 536)
@@ -354,7 +359,7 @@ def slow_peers_hold_the_server_for_their_time(program):
 
 
 def a_call_that_fails_ends_one_connection(program):
-    """Of a socket's calls: the login is not read, or its answer, which is flushed at its end, is not written."""
+    """Calls at a socket: the login is not read, or the answer, which is flushed at its end, is not written."""
     wanted = snapshot(program, EXAMPLES / "opening.itch")
     with tempfile.TemporaryDirectory() as folder:
         shim = failing.build_shim(folder)

@@ -17,7 +17,7 @@ from living import (ENDED, PATIENCE, REJECTED, WORDS, Feed, Running, acceptance,
 
 QUICK = {"RES_OPTIONS": "timeout:1 attempts:1", "LOCALDOMAIN": ""}
 UNKNOWN = "no-such-host.invalid:9"
-# A command in a mount namespace, where /etc/hosts is the file that is named first.
+# Runs a command in a mount namespace in which /etc/hosts is the file given first.
 ALONE = ["unshare", "--user", "--map-root-user", "--mount"]
 WITH_HOSTS = [*ALONE, "sh", "-c", 'mount --bind "$0" /etc/hosts && exec "$@"']
 
@@ -32,7 +32,7 @@ def live(program, *servers, words=(), **environment):
 
 
 def closed_port():
-    """A port where nobody listens."""
+    """Returns a port where nothing listens."""
     with socket.create_server(("127.0.0.1", 0)) as listener:
         return listener.getsockname()[1]
 
@@ -44,7 +44,8 @@ def waits_for(condition, seconds=PATIENCE):
 
 
 def a_feed_that_is_killed_is_gone_on_with_at_the_next(program):
-    """By `live`, whose record is the day, and which says where it continues; by `follow` behind the same two, whose output is the rest of the day."""
+    """By `live`, whose record equals the day, and which reports where it continues; and by `follow` at the same two servers, whose output is the rest
+    of the day."""
     day, wanted = day_of(400)
     early = snapshot_after(program, day, 10)
     with folder_with(day=day) as folder, contextlib.ExitStack() as held:
@@ -70,7 +71,7 @@ def a_feed_that_is_killed_is_gone_on_with_at_the_next(program):
 
 
 def where_nobody_listens_the_next_is_tried(program):
-    """At once; the second is named where it accepts the login."""
+    """At once. The second server is named when it accepts the login."""
     day, _ = day_of(20)
     nobody = closed_port()
     with folder_with() as folder, Feed(plays(day, then=ENDED)) as feed, live(program, at(nobody), at(feed.port), words=("--record", folder / "record")) as server:
@@ -81,7 +82,7 @@ def where_nobody_listens_the_next_is_tried(program):
 
 
 def after_the_last_comes_the_first_again(program):
-    """In the same session and from the same message, with a pause after the last one only."""
+    """With the same session and from the next message, with a pause only after the last server."""
     day, _ = day_of(20)
     first, last = [], []
 
@@ -104,7 +105,7 @@ def after_the_last_comes_the_first_again(program):
 
 
 def a_rejection_that_is_tried_again_is_tried_at_the_next(program):
-    """One of another session too; each is named with its server, and said once however often it is met."""
+    """The same for an acceptance of another session. Each is reported with its server, and only once however often it occurs."""
     day, _ = day_of(20)
     rejected = sends(b"\0\x02JS")
     with Feed(rejected, rejected, plays(day, then=ENDED, session=b"DAY1")) as one, \
@@ -121,7 +122,7 @@ def a_rejection_that_is_tried_again_is_tried_at_the_next(program):
 
 
 def a_refused_message_names_its_server(program):
-    """The one that sent it, which is the second."""
+    """The server that sent it, which is the second."""
     day, _ = day_of(20)
     twice = day + split(day)[-1]
     with Feed(plays(day, until=5)) as one, Feed(plays(twice)) as other, live(program, at(one.port), at(other.port)) as server:
@@ -130,7 +131,7 @@ def a_refused_message_names_its_server(program):
 
 
 def a_name_that_is_not_found_is_looked_up_again(program):
-    """By `live`, which says so once, and continues with the next server."""
+    """By `live`, which reports it once and continues with the next server."""
     day, wanted = day_of(20)
     with live(program, UNKNOWN, **QUICK) as server:
         yield from differs("said", server.said("feed: "), f"feed: not found ({UNKNOWN})\n")
@@ -158,7 +159,7 @@ def a_name_that_is_not_found_is_looked_up_again(program):
 
 
 def a_name_whose_address_changes_is_looked_up_again(program):
-    """Once its server is lost: the feed continues at the new address."""
+    """When its server is lost, the feed continues at the new address."""
     day, _ = day_of(20)
     if subprocess.run([*ALONE, "true"], stderr=subprocess.DEVNULL).returncode != 0:
         print("skipped: a name whose address changes: no namespaces of its own here")
@@ -180,7 +181,7 @@ def a_name_whose_address_changes_is_looked_up_again(program):
 
 
 def words_of_a_second_feed_are_read(program):
-    """It is HOST:PORT as the first, and there are at most eight."""
+    """The second feed is HOST:PORT like the first, and there may be at most eight."""
     base = ["live", "--feed", "h:1", "--port", "0", *WORDS]
     with tempfile.TemporaryDirectory() as folder:
         for more in (["--feed", "h"], ["--feed", "h:0"], ["--feed", "h:1"] * 8):

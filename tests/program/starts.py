@@ -13,7 +13,7 @@ from concurrent.futures import ThreadPoolExecutor
 from pathlib import Path
 
 TOP = Path(__file__).resolve().parent.parent.parent
-# Where no toolchain is.
+# A PATH without a toolchain.
 PLAIN = "/usr/bin:/bin"
 NAMES = ("itch_frame itch_codec itch_status itch_day itch_history itch_checkpoints itch_book itch_market itch_snapshot itch_soup itch_join itch_live "
          "itch_commands itch_sessions itch_records itch_clients itchsnap_live itchsnap_cli itch_tool").split()
@@ -29,7 +29,7 @@ echo "$1" >>"$CALLS"
 [ "$1" != run ] || { mkdir -p out; printf '#!/bin/sh\\necho "$@"\\n' >out/itch_tool; chmod +x out/itch_tool; sleep 0.2; }
 """
 
-# Runs a command, and writes how much processor time that took into the file that is named first.
+# Runs a command, and writes the processor time that it used to the file given first.
 TIMED = """
 import resource, subprocess, sys
 status = subprocess.run(sys.argv[2:]).returncode
@@ -41,7 +41,7 @@ sys.exit(status)
 
 
 class Checkout:
-    """A fresh copy of what git keeps of this checkout, in a folder whose name has a space, and a `rt` that proves nothing."""
+    """A fresh copy of the files that git tracks in this checkout, in a folder with a space in its name, and an `rt` that proves nothing."""
 
     def __init__(self, folder):
         self.folder = Path(folder)
@@ -61,7 +61,7 @@ class Checkout:
             file.write("\n")
 
     def start(self, *words, script="itchsnap", rt=False, before=(), **more):
-        """What a script ends with: its status and both outputs; with the `rt` of this folder, or with none."""
+        """Returns how a script ends: its status and both outputs. Runs it with the `rt` of this folder, or without any."""
         path = f"{self.folder}:{PLAIN}" if rt else PLAIN
         environment = {"HOME": "/", "LANG": "C.UTF-8", "PATH": path, "CALLS": str(self.folder / "calls"), **more}
         done = subprocess.run([*before, self.top / script, *words], capture_output=True, text=True, env=environment, cwd="/",
@@ -82,12 +82,12 @@ def differs(label, got, wanted):
 
 
 def nobody():
-    """The words before a command that is not to be run by root."""
+    """Returns the prefix of a command that must not run as root."""
     return ["setpriv", "--reuid=65534", "--regid=65534", "--clear-groups"] if os.geteuid() == 0 else []
 
 
 def a_fresh_copy_takes_less_than_a_second_without_the_toolchain(_program):
-    """Of processor time, which does not depend on what else the machine does."""
+    """Processor time is measured, which does not depend on the load of the machine."""
     with checkout() as copy:
         opening, taken = copy.top / "examples/opening.itch", copy.folder / "taken"
         got = copy.start("check", opening, before=[sys.executable, "-c", TIMED, taken])
@@ -104,7 +104,7 @@ def a_fresh_copy_takes_less_than_a_second_without_the_toolchain(_program):
 
 
 def the_program_takes_the_place_of_its_script(_program):
-    """So a signal to the process ends it."""
+    """So a signal to the process ends the program."""
     with checkout() as copy, subprocess.Popen([copy.top / "itchsnap", "check"], stdin=subprocess.PIPE, stdout=subprocess.PIPE) as started:
         begun, process = time.monotonic(), Path(f"/proc/{started.pid}/exe")
         while process.readlink() != copy.top / "release/itchsnap" and time.monotonic() < begun + 10:
@@ -157,7 +157,7 @@ def a_changed_source_is_proved_and_built(_program):
 
 
 def a_changed_definition_is_proved_and_built(_program):
-    """Or a changed list of crates: where nothing else was changed since the program was built."""
+    """Or the list of crates is changed: nothing else has changed since the program was built."""
     needed = f"{OTHER}. Proving and building it needs the Rattle toolchain: there is no command rt on the path\n"
     with checkout() as copy:
         copy.change()
@@ -170,7 +170,7 @@ def a_changed_definition_is_proved_and_built(_program):
 
 
 def a_release_that_is_not_proved_is_not_made(_program):
-    """What is released stays, and nothing is left next to it."""
+    """The old release stays, and nothing is left next to it."""
     with checkout() as copy:
         if subprocess.run([copy.top / "tools/pack", "--tools"], capture_output=True).returncode:
             print("skipped: a release that is not proved: no tools for its packages here")
@@ -221,7 +221,7 @@ def the_program_is_installed_with_its_page(_program):
 
 
 def all_may_use_what_is_installed(_program):
-    """Whatever the mask is of the one who installs it."""
+    """Whatever the umask of the installing user."""
     with checkout() as copy:
         prefix = copy.folder / "prefix"
         prefix.mkdir()
@@ -232,7 +232,7 @@ def all_may_use_what_is_installed(_program):
 
 
 def a_program_that_runs_may_be_installed_over(_program):
-    """It continues as it was."""
+    """It keeps running unchanged."""
     with checkout() as copy:
         prefix = copy.folder / "prefix"
         copy.start(prefix, script="install")

@@ -17,7 +17,7 @@ LEFT = b"\0\x01O"
 
 
 class Late:
-    """A server of snapshots whose snapshot comes once an event is set."""
+    """A snapshot server that sends its snapshot only after an event."""
 
     def __init__(self, snapshot):
         self.begin, self.rest = threading.Event(), answer(snapshot)[ACCEPTED:]
@@ -30,7 +30,7 @@ class Late:
 
 @contextlib.contextmanager
 def before_a_market(program, *words):
-    """A server that has no market yet, what a client is told at the end, and what lets the market come."""
+    """Yields a server that has no market yet, what a client receives at the end, and a function that provides the market."""
     day, snapshot = day_of(50)
     late, end = Late(snapshot), threading.Event()
     with Feed(late) as glimpse, Feed(plays(day, wait=end, held=ENDED)) as feed, \
@@ -43,14 +43,15 @@ def before_a_market(program, *words):
 
 
 def asks(port, held, more=b""):
-    """A client that has logged in."""
+    """Returns a client that has logged in."""
     client = held.enter_context(connect(port))
     client.sendall(LOGIN + more)
     return client
 
 
 def rest_differs(label, clients, wanted):
-    """What differs where each of these clients is told this at the end, beside heartbeats, and after what was read before. Each goes then."""
+    """Yields what is wrong unless each of these clients receives this in the end, apart from heartbeats and from what it has read before. Each
+    then leaves."""
     for place, (client, before) in enumerate(clients):
         with contextlib.suppress(ConnectionError):
             before += received(client)
@@ -59,7 +60,8 @@ def rest_differs(label, clients, wanted):
 
 
 def a_client_that_sends_no_more_waits_for_a_market(program):
-    """It ends its sending half with its login, after heartbeats, or once it is accepted: it is told all. One that logs out has left."""
+    """It shuts down sending with its login, after heartbeats, or after it is accepted, and still receives everything. A client that logs out has
+    left."""
     with before_a_market(program) as (server, wanted, begin, end), contextlib.ExitStack() as held:
         clients = [asks(server.port, held, more) for more in (b"", CLIENT_BEAT * 5, b"", b"")]
         for client in clients[:2]:
@@ -79,7 +81,7 @@ def a_client_that_sends_no_more_waits_for_a_market(program):
 
 
 def a_client_that_sends_no_more_waits_for_a_place(program):
-    """Beside one that has the only place: it is told all afterwards, and the one that has the place is too."""
+    """Another client holds the only place. Both receive everything, one after the other."""
     with before_a_market(program, "--clients", "1") as (server, wanted, begin, _), contextlib.ExitStack() as held:
         first = asks(server.port, held)
         heard = [(first, received(first, ACCEPTED))]
@@ -92,7 +94,7 @@ def a_client_that_sends_no_more_waits_for_a_place(program):
 
 
 def a_long_packet_before_a_login_may_come_in_pieces(program):
-    """It is passed over, and the login after it is answered. Of `live` and of `feed`."""
+    """By `live` and by `feed`: the packet is skipped, and the login after it is answered."""
     day, snapshot = day_of(50)
     whole = acceptance(1) + b"".join(map(packet, split(day))) + ENDED
     rest, end = b"x" * 3000, threading.Event()
@@ -103,7 +105,7 @@ def a_long_packet_before_a_login_may_come_in_pieces(program):
             client = held.enter_context(connect(port))
             for piece in (len(rest).to_bytes(2, "big") + b"+", rest[:1000], rest[1000:2000]):
                 client.sendall(piece)
-                # When a later one is answered, these bytes have been read.
+                # When a later client is answered, these bytes have been read.
                 told(port, LEFT)
             client.sendall(rest[2001:] + LOGIN)
             yield from differs(f"{port}", received(client) == wanted, True)
@@ -111,7 +113,7 @@ def a_long_packet_before_a_login_may_come_in_pieces(program):
 
 
 def clients_wait_before_the_session_is_known(program):
-    """They call before the feed has accepted a login, and nobody comes afterwards: each is told all there is."""
+    """They connect before the feed has accepted a login, and nobody connects afterwards. Each receives everything."""
     day, _ = day_of(20)
     begin, end = threading.Event(), threading.Event()
 
@@ -130,12 +132,12 @@ def clients_wait_before_the_session_is_known(program):
 
 
 def places_are_given_in_the_order_of_those_who_come(program):
-    """At one place, which the first one has and then gives up."""
+    """There is one place, which the first client holds and then frees."""
     with before_a_market(program, "--clients", "1") as (server, _, _, _), contextlib.ExitStack() as held:
         first = asks(server.port, held)
         yield from differs("first", received(first, ACCEPTED), acceptance(1))
         others = [asks(server.port, held) for _ in range(4)]
-        # When this one is answered, the logins of the others have been read.
+        # When this client is answered, the logins of the others have been read.
         yield from differs("rejected", told(server.port, LOGIN.replace(b"secret", b"wrong ")), b"\0\x02JA")
         for place, other in enumerate(others):
             first.close()
@@ -146,7 +148,7 @@ def places_are_given_in_the_order_of_those_who_come(program):
 
 
 def clients_wait_while_descriptors_are_short(program):
-    """More than there are descriptors for wait for a market: all are told it at the end, and meanwhile the server takes no time."""
+    """More clients wait for a market than there are descriptors. In the end all receive it, and meanwhile the server uses no processor time."""
     with folder_with() as folder, before_a_market(started_by(folder, program, "ulimit -n 20")) as (server, wanted, begin, _), \
             contextlib.ExitStack() as held:
         clients = [(asks(server.port, held), b"") for _ in range(40)]
@@ -156,7 +158,7 @@ def clients_wait_while_descriptors_are_short(program):
 
 
 def clients_of_a_feed_wait_while_descriptors_are_short(program):
-    """More than there are descriptors for, of which each is played a file that is opened for it: all have the complete day at the end."""
+    """There are more clients than descriptors, and each is played a file that is opened for it. In the end all have the complete day."""
     day, _ = day_of(50)
     wanted = acceptance(1) + b"".join(map(packet, split(day))) + ENDED
     with folder_with(day=day) as folder, feeding(started_by(folder, program, "ulimit -n 20"), folder / "day") as server, \

@@ -1,4 +1,4 @@
-"""The status of `live` after a feed was lost or the server was started again, and peers of the status port that read or send in an unusual way.
+"""The status of `live` after a feed was lost or the server was restarted, and peers of the status port that read or send in an unusual way.
 
 RUNS lists the runs. Each is a function that is given the program and yields the differences.
 """
@@ -15,7 +15,7 @@ from scraping import entries, figures, waits_for, watched, watched_log
 
 
 def bytes_of_a_lost_feed_are_forgotten(program):
-    """It begins with a later message than the next one: what it has sent beside that is not read of the next connection."""
+    """The feed begins with a later message than the next one. The other bytes that it has sent are not taken for those of the next connection."""
     day, _ = day_of(20)
     blocks = split(day)
     with Feed(sends(acceptance(5) + b"".join(map(packet, blocks[4:8]))), plays(day, then=ENDED)) as feed:
@@ -27,7 +27,7 @@ def bytes_of_a_lost_feed_are_forgotten(program):
 
 
 def a_page_is_sent_to_its_end(program):
-    """Also to a client that sends more once it has read a part of it, and that has little room."""
+    """Even to a client that sends more after it has read a part of the page, and whose receive buffer is small."""
     with Feed(plays(day_of(20)[0], wait=threading.Event())) as feed, watched(program, feed.port) as server, connect(server.status, room=2304) as client:
         client.sendall(b"GET / HTTP/1.1\r\n\r\n")
         response = received(client, 100)
@@ -42,7 +42,7 @@ def a_page_is_sent_to_its_end(program):
 
 
 def what_was_recorded_before_was_not_received(program):
-    """The messages of the record are of the market after a restart, and not among those that came since the start."""
+    """After a restart the messages of the record count as part of the market, but not as received since the start."""
     day, _ = day_of(40)
     kept = b"".join(split(day)[:50])
     with folder_with(**recorded(kept)) as folder, Feed(plays(day, wait=threading.Event())) as feed, \
@@ -53,7 +53,7 @@ def what_was_recorded_before_was_not_received(program):
 
 
 def the_time_of_the_last_message(program):
-    """Also where the feed was lost within a packet before: the bytes of that are not of the next one."""
+    """Even if the feed was lost within a packet before: its bytes do not count for the next packet."""
     blocks = [it[:7] + (10**12 + at * 10**9).to_bytes(6, "big") + it[13:] for at, it in enumerate(split(day_of(20)[0]))]
     day = b"".join(blocks)
     for cut in (1, 2, 5, 13):
@@ -64,13 +64,13 @@ def the_time_of_the_last_message(program):
 
 
 def a_response_that_never_ends_is_read_no_longer(program):
-    """Than its first mebibyte."""
+    """No further than its first mebibyte."""
     head = b"HTTP/1.1 200 OK\r\n\r\n"
     with socket.create_server(("127.0.0.1", 0)) as listener:
         asking = subprocess.Popen([program, "status", str(listener.getsockname()[1])], stdout=subprocess.PIPE, stderr=subprocess.PIPE)
         with listener.accept()[0] as peer, contextlib.suppress(ConnectionError):
             peer.sendall(head)
-            # Here it has closed the connection after a while, where it reads no longer.
+            # The server has closed the connection after a while, because it reads no further.
             for _ in range(1000):
                 peer.sendall(b"x" * 65536)
     output, error = asking.communicate(timeout=PATIENCE)
@@ -78,7 +78,7 @@ def a_response_that_never_ends_is_read_no_longer(program):
 
 
 def resets(day, at):
-    """A script: the first messages, and a reset when the time has come."""
+    """Returns a script that sends the first messages, and a reset when it is time."""
     def script(peer, login):
         plays(day, until=5)(peer, login)
         at.wait(PATIENCE)
@@ -88,7 +88,7 @@ def resets(day, at):
 
 
 def causes_of_a_lost_feed(program):
-    """A log says each of them when it changes, and once; without --log the loss alone, with its cause, is said, and what the server answers."""
+    """A log contains each cause once, when it changes. Without --log only the loss is reported, with its cause, and the server's answers."""
     day, _ = day_of(20)
     rejects = sends(b"\0\x02JS")
     causes = ["reset", "rejected S", "in another session", "closed by the server", "refused"]

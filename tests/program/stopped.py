@@ -13,7 +13,7 @@ from fetches import SNAPSHOT, login_from
 from fetches import answer as answer_from
 from sessions import EXAMPLES, LOGIN, Server, answer, connect, held_by, large_server, login_words, messages, received, snapshot
 
-# So long a process may take until it waits for its peer.
+# How long a process may take until it waits for its peer.
 SOON = 0.5
 FETCHED = 0, SNAPSHOT, b""
 
@@ -26,7 +26,7 @@ def stop(process, seconds=0.1):
 
 
 def fetched(program, limit, serve):
-    """What a fetch with this time limit ended with. `serve` is called with its process and the socket of its connection, after its login."""
+    """Returns how a fetch with this time limit ended. Calls `serve` with its process and the socket of its connection, after its login."""
     with socket.create_server(("127.0.0.1", 0)) as listener:
         port = listener.getsockname()[1]
         words = [program, "fetch", *login_words(port), "--timeout", str(limit)]
@@ -39,7 +39,7 @@ def fetched(program, limit, serve):
 
 
 def a_fetch_that_was_stopped_goes_on(program):
-    """Before the first byte of the answer, within a packet, and between two."""
+    """The process is stopped before the first byte of the answer, within a packet, and between two."""
     data = answer_from(1)
     for cut in 0, 20, len(data) // 2:
         def slowly(client, peer):
@@ -81,7 +81,7 @@ def stops_give_a_silent_server_no_more_time(program):
 
 
 def a_server_that_was_stopped_goes_on_with_a_login(program):
-    """A client has sent half of it by then, and sends the rest afterwards."""
+    """A client has sent half of the login before, and sends the rest afterwards."""
     wanted = snapshot(program, EXAMPLES / "opening.itch")
     with Server(program, EXAMPLES / "opening.itch", 1) as server:
         with connect(server.port) as peer, contextlib.suppress(ConnectionError):
@@ -95,7 +95,7 @@ def a_server_that_was_stopped_goes_on_with_a_login(program):
 
 
 def a_server_that_was_stopped_goes_on_with_an_answer(program):
-    """It waits for a client that does not read, which then reads all."""
+    """The server is waiting for a client that does not read, and that then reads everything."""
     with large_server(program, 1) as (server, wanted):
         with connect(server.port) as peer:
             peer.sendall(LOGIN)

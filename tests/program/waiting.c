@@ -8,7 +8,8 @@
 
 static const uint64_t cap = (UINT64_C(1) << 20) + 100;
 
-/* Takes the message with a number, of a type that is not decoded, and says whether that has this answer. */
+/* Takes the message with a number, of a type that is not decoded, and returns whether the answer is this
+   one. */
 static bool takes(itchsnap_handle *joiner, uint64_t number, uint32_t code) {
     itchsnap_joined joined = itchsnap_joiner_live(joiner, number, (const uint8_t *)"z", 1);
     if (joined.code != code) {
@@ -27,7 +28,7 @@ int main(void) {
             return 1;
         }
     }
-    /* As many wait as may. */
+    /* The maximum number of messages is waiting. */
     bool is_full = takes(&joiner, cap + 2, ITCHSNAP_FULL) && itchsnap_joiner_waiting(&joiner).count == cap;
     itchsnap_free(&joiner);
     return is_full ? 0 : 1;

@@ -14,14 +14,14 @@ from common import differs, ended, file
 TOP = Path(__file__).resolve().parent.parent.parent
 LOGIN = "--user user --pass secret"
 HELP = "snap --help", "fetch --help", "--version"
-# The files of the examples in the help.
+# The files for the examples in the help.
 FILES = {
     "day.itch": "START AAPL BUY_1",
     "other.itch": "AAPL START BUY_1",
     "day.snap": "START AAPL BUY_1 END_4",
     "other.snap": "AAPL START BUY_1 END_4",
     "early.snap": "START AAPL END_3",
-    # An index of no snapshots.
+    # An index without snapshots.
     "snapshots/index.jsonl": "",
 }
 FAULTS = [
@@ -167,13 +167,13 @@ def help_ends_with_status_0(program):
 
 
 def commands(program):
-    """The names of the commands, of which help has a line each."""
+    """Returns the names of the commands, each of which has a line in the help."""
     listed = ended(program, "--help")[1].decode().split("Options:\n")[0]
     return [name for name in re.findall(r"^  ([a-z]+)  ", listed, re.M) if name != "help"]
 
 
 def help_of(program, *words):
-    """The help, which ends with status 0, as its parts: each heading with its lines."""
+    """Runs the help, which must exit with 0, and returns its parts: each heading with its lines."""
     status, output, error = ended(program, *words)
     assert (status, error) == (0, b""), (words, status, error)
     return {title: lines.splitlines() for title, lines in re.findall(r"^([A-Z][^:\n]*):\n((?:  .*\n|\n(?=  ))*)", output.decode(), re.M)}
@@ -217,7 +217,7 @@ def examples_of_the_help_run(program):
 
 
 def help_lists_options_by_group(program):
-    """Each option has a heading; `--help` adds to what `-h` says, and begins with the same line."""
+    """Each option is under a heading. `--help` adds to the text of `-h`, and begins with the same line."""
     for command in commands(program):
         short, long = (ended(program, command, it)[1].decode() for it in ("-h", "--help"))
         yield from differs(f"{command}: an option without a heading", "\nOptions:\n" in short, False)
@@ -244,13 +244,13 @@ def ranges_of_the_help_are_true(program):
 
 
 def usage_of(program, command):
-    """The lines of the usage in the help of a command."""
+    """Returns the lines of the usage in the help of a command."""
     lines = ended(program, command, "-h")[1].decode().split("\n\nUsage: ")[1].split("\n\n")[0]
     return [it.strip() for it in lines.splitlines()]
 
 
 def usage_names_what_is_required(program):
-    """Each line of a usage without one of its required arguments is an error that names it, or another line's."""
+    """Each usage line without one of its required arguments is an error that names this argument, or one of another usage line."""
     yield from differs("book", usage_of(program, "book"), ["itchsnap book [OPTIONS] <LOCATE> [FILE]", "itchsnap book [OPTIONS] --stock <LIST> [FILE]"])
     yield from differs("fetch", usage_of(program, "fetch"), ["itchsnap fetch [OPTIONS] --user <USER> <HOST:PORT>"])
     for command in commands(program):
@@ -265,12 +265,12 @@ def usage_names_what_is_required(program):
 
 
 def options_of(program, command):
-    """The options that the help of a command shows, each with whether it has a value."""
+    """Yields the options in the help of a command, each with whether it takes a value."""
     return re.findall(r"^ +(?:-h, )?--([a-z-]+)(?: (<\S+>))?", ended(program, command, "-h")[1].decode(), re.M)
 
 
 def each_option_is_given_once_and_with_its_value(program):
-    """But for --feed. The usage is that of the command."""
+    """Except --feed. The usage is that of the command."""
     for command in commands(program):
         for option, value in options_of(program, command):
             if option == "help":
@@ -283,7 +283,7 @@ def each_option_is_given_once_and_with_its_value(program):
                 yield from differs(f"{command} {words}: usage", re.findall(rb"^Usage: itchsnap (\S+)", error, re.M) in ([], [command.encode()]), True)
 
 
-# Arguments that cannot be combined, and those that need others: the words, and what the first line of the error says.
+# Arguments that cannot be combined, and those that require others: the command line, and the first line of the error.
 RULES = {
     "show --json --csv --orders": "the argument '--json' cannot be used with '--csv'",
     "show --names --json": "the argument '--names' cannot be used with '--json'",
@@ -327,7 +327,7 @@ RULES = {
 
 
 def arguments_that_break_a_rule_are_named(program):
-    """In clap's words, with the usage of the command where there is one."""
+    """In clap's wording, with the usage of the command if there is one."""
     for line, wanted in RULES.items():
         status, output, error = ended(program, *line.split())
         yield from differs(line, (status, output, error.decode().splitlines()[:1]), (2, b"", [f"error: {wanted}"]))
@@ -348,7 +348,7 @@ def old_names_are_accepted_and_hidden(program):
                   for option in ("--first-number", "--from")]
         for done in joined:
             yield from differs("joined", (done.returncode, done.stdout, done.stderr), (0, file("START AAPL BUY_1 END_4"), b""))
-    # A fault after the words shows that they are accepted.
+    # A fault after parsing shows that the arguments are accepted.
     live_words = "live --feed h:1 --port 0 --user seven77 --pass p --every 5".split()
     for option in ("--to", "--snapshots"):
         yield from differs(option, ended(program, *live_words, option, "d")[2].splitlines()[0], b"itchsnap: bad user")
@@ -362,7 +362,7 @@ def example_of(program, command):
 
 
 def each_command_has_an_example(program):
-    """It does what it says in a folder of such files; an example of a session has no peer there."""
+    """It does what it says, in a folder with such files. In the example of a session there is no peer."""
     for command in commands(program):
         example = example_of(program, command)
         if not example:
@@ -382,7 +382,7 @@ def each_command_has_an_example(program):
 
 
 def completed(program, *typed):
-    """What bash offers for the last of these words."""
+    """Returns what bash offers to complete the last of these words."""
     script = 'source <("$0" completions bash); COMP_WORDS=("$@"); COMP_CWORD=$(($# - 1)); _itchsnap; printf "%s " "${COMPREPLY[@]}"'
     done = subprocess.run(["bash", "-c", script, program, *typed], capture_output=True, text=True, timeout=60)
     return done.returncode, done.stdout.split(), done.stderr
@@ -395,7 +395,7 @@ def bash_completes_what_is_typed(program):
         ("itchsnap", "snap", "--"): ["--after", "--until", "--only", "--stock", "--to", "--every", "--output", "--progress", "--help"],
         ("itchsnap", "fetch", "h:1", "--p"): ["--pass", "--pass-file"],
         ("itchsnap", "completions", ""): ["bash", "zsh", "fish", "--help"],
-        # A file's name is completed by the shell itself.
+        # The shell itself completes the names of files.
         ("itchsnap", "snap", "d"): [],
     }
     for typed, wanted in rows.items():
@@ -403,7 +403,7 @@ def bash_completes_what_is_typed(program):
 
 
 def completions_have_every_option(program):
-    """As a shell reads them, where there is such a shell."""
+    """As each shell reads them, if it is installed."""
     for shell in ("bash", "zsh", "fish"):
         status, script, error = ended(program, "completions", shell)
         if (status, error) != (0, b""):
@@ -421,7 +421,7 @@ def completions_have_every_option(program):
 
 
 def quotes_of_completions_are_closed(program):
-    """In each line: help may have an apostrophe in it."""
+    """In each line, since help may contain an apostrophe."""
     for shell in ("zsh", "fish"):
         for line in ended(program, "completions", shell)[1].splitlines():
             if re.sub(rb"\\.", b"", line).count(b"'") % 2:
@@ -436,7 +436,7 @@ def zsh_completions_escape_what_ends_a_help_text(program):
 
 
 def paths_are_completed_where_they_are_written(program):
-    """Where a file or a folder is written, as where one is read; no path is completed where a number is."""
+    """Both where a file or a folder is written and where one is read. No path is completed where a number is expected."""
     zsh, fish = (ended(program, "completions", shell)[1].decode() for shell in ("zsh", "fish"))
     for option in ("output", "to", "record", "records", "users", "pass-file", "feed-pass-file"):
         yield from differs(f"{option} of zsh", set(re.findall(rf"'--{option}\[.*\](.*)'", zsh)), {":file:_files"})
@@ -444,13 +444,13 @@ def paths_are_completed_where_they_are_written(program):
     for option in ("port", "after", "clients"):
         yield from differs(f"{option} of zsh", set(re.findall(rf"'--{option}\[.*\](.*)'", zsh)), {":value:"})
         yield from differs(f"{option} of fish", set(re.findall(rf" -l {option}( -\w)? -d ", fish)), {" -x"})
-    # Of one that is chosen from some, those are completed.
+    # If the value is one of a fixed set, these values are completed.
     yield from differs("sync of zsh", re.findall(r"'--sync\[.*\](.*)'", zsh), [":value:(no second message )"])
     yield from differs("sync of fish", re.findall(r" -l sync (.*) -d ", fish), ["-x -a 'no second message '"])
 
 
 def other_words_are_a_usage_fault(program):
-    """The line of one begins unlike that of a command which was asked for."""
+    """The first line of a usage fault differs from that of requested help."""
     for line in FAULTS:
         status, output, error = ended(program, *line.split())
         if (status, output) != (2, b"") or not error.startswith(b"error: "):
@@ -466,7 +466,7 @@ def no_words_print_the_short_help(program):
 
 
 def other_texts_are_no_lists_of_locates(program):
-    """The second line quotes the first item that is neither a locate nor a range, where it can be quoted."""
+    """The second line quotes the first item that is neither a locate nor a range, if it can be quoted."""
     for text in NO_LISTS:
         bad = next(it for it in text.split(",") if not is_item(it))
         cause = f"{bad}: not a locate from 0 to 65535, nor an ascending range such as 1-40"
@@ -478,7 +478,7 @@ def other_texts_are_no_lists_of_locates(program):
 
 
 def is_item(text):
-    """Whether a text is a locate or a range."""
+    """Returns whether a text is a locate or a range."""
     found = re.fullmatch(r"([0-9]+)(?:-([0-9]+))?", text)
     return bool(found) and int(found[1]) <= int(found[2] or found[1]) <= 65_535
 
