@@ -1,7 +1,7 @@
 """A bare Debian 12, with or without a compiler and Python: the packages are installed, used and removed.
 
-Each run unpacks a system of its own. What is unpacked was made by debootstrap and is kept, outside of the checkout, below
-$XDG_CACHE_HOME/sundrekk, or ~/.cache/sundrekk. RUNS lists the runs. Each is a function that yields the differences.
+Each run unpacks a system of its own. The archives of these systems are made by debootstrap and kept outside the checkout, in
+$XDG_CACHE_HOME/sundrekk or ~/.cache/sundrekk. RUNS lists the runs: functions that yield the differences found.
 """
 import contextlib
 import os
@@ -13,26 +13,26 @@ from kit import EXAMPLES, KEPT, TOP, VERSION, Skipped, differs, need, packed, ra
 
 SUITE = "bookworm"
 BUILDING = "gcc libc6-dev make cmake pkg-config python3-venv".split()
-# What dpkg and ldconfig note of their own work.
+# Files in which dpkg and ldconfig record their own work.
 NOTES = ("var/lib/dpkg", "var/log", "var/cache/ldconfig", "etc/ld.so.cache", "proc", "tmp", "srv/day")
-# Set by run: whether a system is made where none is kept, which takes minutes.
+# Set by run: whether to make a system that has not been kept, which takes minutes.
 may_be_made = True
 
 
 class System:
-    """A Debian in a folder."""
+    """A Debian system in a folder."""
 
     def __init__(self, root):
         self.root = root
 
     def ran(self, *words):
-        """What a command ended with in this system: its status, and what it wrote."""
+        """Runs a command in this system, and returns its status and its output."""
         enter = 'mount -t proc proc "$0/proc" 2>/dev/null; exec chroot "$0" "$@"'
         plain = ["env", "-i", "PATH=/usr/sbin:/usr/bin:/sbin:/bin", "LANG=C.UTF-8", "HOME=/root", "DEBIAN_FRONTEND=noninteractive"]
         return ran("unshare", "--mount", "sh", "-c", enter, self.root, *plain, *words, timeout=1800)
 
     def script(self, label, text):
-        """What a script says, where it does not end well. A `grep -q` in it would end before what writes to it, which then fails."""
+        """Yields the output of a script if it fails. (A `grep -q` in it would end before its input does, and make that fail.)"""
         status, said = self.ran("bash", "-euo", "pipefail", "-c", text)
         if status:
             yield f"{label}: status {status}\n{said}".rstrip()
@@ -44,7 +44,7 @@ class System:
             shutil.copy(it, self.root / "srv/day")
 
     def files(self):
-        """Everything in the system, but for what its tools note of their work."""
+        """Returns everything in the system, except the files in which its tools record their work."""
         found = set()
         for folder, folders, names in os.walk(self.root):
             within = Path(folder).relative_to(self.root)
@@ -54,7 +54,7 @@ class System:
 
 
 def said_well(label, ended):
-    """What a command wrote that ended well. Without it nothing can be run, so the run is left out."""
+    """Returns the output of a command. If it failed, nothing can be run, so the run is skipped."""
     status, said = ended
     if status:
         raise Skipped(f"{label} failed: {said.strip().splitlines()[-1:]}")
@@ -62,7 +62,7 @@ def said_well(label, ended):
 
 
 def made(kind, root):
-    """Makes a system in a folder: a bare one, or of that one with what builds programs."""
+    """Makes a system in a folder: a bare one, or one with the tools to build programs, based on it."""
     if kind == "bare":
         said_well("debootstrap", ran("debootstrap", "--variant=minbase", SUITE, root, timeout=3600))
     else:
@@ -74,7 +74,7 @@ def made(kind, root):
 
 
 def kept(kind):
-    """The archive of a system. It is made where it is not there."""
+    """Returns the archive of a system. Makes it if it does not exist."""
     archive = KEPT / f"{SUITE}-{kind}.tar"
     if not archive.exists():
         if not may_be_made:
@@ -97,7 +97,7 @@ def unpacked(kind, root):
 
 @contextlib.contextmanager
 def debian(kind):
-    """A system of its own, with a day file, the C caller, and all packages in /srv/day."""
+    """Yields a new system, with a day file, the C caller and all packages in /srv/day."""
     if os.geteuid() != 0:
         raise Skipped("only root enters another system")
     need("unshare", "chroot", "tar")

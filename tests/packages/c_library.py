@@ -1,6 +1,6 @@
 """The header and both C libraries: compilers give no warnings, and only the header's names are exported.
 
-RUNS lists the runs. Each is a function that yields the differences.
+RUNS lists the runs: functions that yield the differences found.
 """
 import re
 import shutil
@@ -26,7 +26,7 @@ int main(void) {
     return kept.live || itchsnap_version() != ITCHSNAP_VERSION;
 }
 """
-# Names that another library of the same toolchain has.
+# Names that another library built with the same toolchain has.
 CLASHING = """#include "itchsnap.h"
 void rattle_alloc(void) {}
 void rattle_dealloc(void) {}
@@ -49,12 +49,12 @@ def no_compiler_warns_of_the_header():
 
 
 def declared():
-    """The functions of the header."""
+    """Returns the functions of the header."""
     return sorted(set(re.findall(r"\b(itchsnap_\w+)\(", re.sub(r"/\*.*?\*/", "", HEADER.read_text(), flags=re.S))))
 
 
 def shown(*words):
-    """The names that `nm` finds, without those of versions."""
+    """Returns the names that `nm` finds, without their versions."""
     need("nm")
     _, said = ran("nm", "--defined-only", *words)
     return sorted(name.split("@")[0] for _, kind, name in re.findall(r"^(\w+) (\w) (\S+)$", said, re.M) if kind != "A")

@@ -1,6 +1,6 @@
 """The crates for cargo.
 
-RUNS lists the runs. Each is a function that yields the differences.
+RUNS lists the runs: functions that yield the differences found.
 """
 import contextlib
 import re
@@ -26,14 +26,14 @@ BOOK = "1 AAPL\nB 150.0500 300 2\nB 150.0000 500 2\nS 150.0800 300 1\nS 150.1000
 
 @contextlib.contextmanager
 def target():
-    """A folder for what cargo makes."""
+    """Yields a folder for cargo's output."""
     need("cargo")
     with tempfile.TemporaryDirectory() as folder:
         yield folder
 
 
 def cargo(made, *words, **more):
-    """What cargo ended with, which makes what it makes in a folder."""
+    """Runs cargo with its output in a folder, and returns its status and its output."""
     return ran("cargo", *words, **{"folder": RUST, "CARGO_TARGET_DIR": str(made), **more})
 
 
@@ -70,7 +70,7 @@ def each_function_and_code_of_the_header_is_in_the_sys_crate():
 
 
 def layouts_in_c():
-    """A C program that prints the layout of each struct of the header."""
+    """Returns a C program that prints the layout of each struct in the header."""
     lines = []
     for body, name in re.findall(r"^typedef struct \{\n(.*?)^\} (\w+);", re.sub(r"/\*.*?\*/", "", HEADER, flags=re.S), re.M | re.S):
         lines.append(f'printf("{name} %zu %zu\\n", sizeof({name}), _Alignof({name}));')
@@ -98,7 +98,7 @@ def the_crates_have_the_version_of_the_release():
 
 @contextlib.contextmanager
 def project():
-    """A program elsewhere that uses the crates of a copy of rust/, beside which there is no release."""
+    """Yields a program elsewhere that uses the crates in a copy of rust/, with no release next to it."""
     with target() as made:
         folder = Path(made)
         shutil.copytree(RUST, folder / "copy/rust", ignore=shutil.ignore_patterns("target"))
@@ -110,7 +110,7 @@ def project():
 
 
 def snapped(folder, **environment):
-    """What becomes of the program: what cargo says where it fails, or the snapshot."""
+    """Builds and runs the program. Returns the snapshot that it writes, or cargo's output if cargo fails."""
     status, said = cargo(folder / "target", "run", "--quiet", "--offline", "--", EXAMPLES / "opening.itch", "out.snap",
                          folder=folder / "mine", **environment)
     return said if status else (folder / "mine/out.snap").read_bytes()

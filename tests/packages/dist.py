@@ -1,6 +1,6 @@
 """The packages: they are those of the release, and lintian finds no error in them.
 
-RUNS lists the runs. Each is a function that yields the differences.
+RUNS lists the runs: functions that yield the differences found.
 """
 import os
 import re
@@ -16,7 +16,7 @@ DIST = RELEASE / "dist"
 ARCHIVE = f"itchsnap-{VERSION}-x86_64-linux"
 NAMES = [f"{ARCHIVE}.tar.gz", f"itchsnap_{VERSION}_amd64.deb", f"libitchsnap-dev_{VERSION}_amd64.deb", f"libitchsnap0_{VERSION}_amd64.deb",
          f"sundrekk-{VERSION}-py3-none-manylinux_2_17_x86_64.whl"]
-# Where the files for a service are, and of which files they are copies.
+# The files for a service, and the files of which they are copies.
 SERVICE = {"lib/systemd/system/itchsnap-live@.service": "deploy/itchsnap-live@.service", "lib/sysusers.d/itchsnap.conf": "deploy/itchsnap.sysusers",
            "share/doc/itchsnap/OPERATING.md": "docs/OPERATING.md",
            **{f"share/doc/itchsnap/examples/{it}": f"deploy/{it}" for it in ("itchsnap-live.env", "itchsnap.rules.yml", "prometheus.yml")}}
@@ -47,7 +47,7 @@ def another_folder_is_left_alone():
 
 
 def packages_stay_where_packing_fails():
-    """A tool of it that fails: those that were there are still there, and nothing else."""
+    """One of its tools fails. The earlier packages are still there, and nothing else."""
     with tempfile.TemporaryDirectory() as name:
         folder, tools = Path(name) / "dist", Path(name) / "tools"
         folder.mkdir()
@@ -64,7 +64,7 @@ def packages_stay_where_packing_fails():
 
 
 def packages_are_the_same_whoever_packs_them():
-    """Whatever the mask is, and the language, of the one who does."""
+    """Whatever that user's umask and language."""
     with tempfile.TemporaryDirectory() as name:
         folder = Path(name) / "dist"
         words = "sh", "-c", 'umask 077; exec "$@"', "sh", TOP / "tools/pack", folder
@@ -89,7 +89,7 @@ def the_archive_has_the_program_and_what_belongs_to_it():
 
 
 def the_package_has_a_unit_and_starts_nothing():
-    """It has no script that dpkg runs, and no unit but that of `deploy/`, which has to be enabled by name."""
+    """It has no script that dpkg runs, and no unit except that of `deploy/`, which must be enabled by name."""
     need("dpkg-deb")
     package = packed() / NAMES[1]
     _, held = ran("sh", "-c", 'dpkg-deb --ctrl-tarfile "$0" | tar -t', package)
@@ -101,7 +101,7 @@ def the_package_has_a_unit_and_starts_nothing():
 
 
 def needed(file):
-    """The symbols of glibc that a file needs, by their versions."""
+    """Returns the symbols of glibc that a file needs, by version."""
     _, said = ran("objdump", "--dynamic-syms", file)
     found = {}
     for version, name in re.findall(r"\*UND\*.*\(GLIBC_([\d.]+)\)\s+(\w+)$", said, re.M):

@@ -1,4 +1,4 @@
-"""What the modules of runs share: commands, what is packed of this checkout, and why a run is left out."""
+"""Helpers for the modules of runs: commands, the packages of this checkout, and reasons to skip a run."""
 import functools
 import os
 import shutil
@@ -9,30 +9,30 @@ from pathlib import Path
 TOP = Path(__file__).resolve().parents[2]
 RELEASE = TOP / "release"
 EXAMPLES = TOP / "examples"
-# The version that is packed.
+# The version of the packages.
 VERSION = dict(line.split(" ", 1) for line in (RELEASE / "RECORD").read_text().splitlines())["version"]
 KEPT = Path(os.environ.get("XDG_CACHE_HOME") or Path.home() / ".cache") / "sundrekk"
 
 
 class Skipped(Exception):
-    """Why a run is left out."""
+    """The reason for skipping a run."""
 
 
 def need(*tools):
-    """Leaves the run out where a tool is missing."""
+    """Skips the run if a tool is missing."""
     if missing := [it for it in tools if not shutil.which(it)]:
         raise Skipped(f"no {', no '.join(missing)} here")
 
 
 def ran(*words, folder=None, timeout=600, **environment):
-    """What a command ended with: its status, and what it wrote, both outputs together."""
+    """Runs a command, and returns its status, and both outputs together."""
     done = subprocess.run([str(it) for it in words], cwd=folder, env={**os.environ, **environment}, stdin=subprocess.DEVNULL,
                           stdout=subprocess.PIPE, stderr=subprocess.STDOUT, text=True, errors="backslashreplace", timeout=timeout)
     return done.returncode, done.stdout
 
 
 def fails(label, *words, **more):
-    """What a command says, where it does not end well."""
+    """Yields the output of a command if it fails."""
     status, said = ran(*words, **more)
     if status:
         yield f"{label}: status {status}\n{said}".rstrip()
@@ -44,13 +44,13 @@ def differs(label, got, wanted):
 
 
 def snapshot_differs(label, out):
-    """Whether a file is not the snapshot of opening.itch."""
+    """Yields a difference unless a file is the snapshot of opening.itch."""
     yield from differs(label, out.read_bytes() if out.exists() else None, (EXAMPLES / "opening.snap").read_bytes())
 
 
 @functools.cache
 def packed():
-    """The folder of what `tools/pack` makes of the release. It is made once, and lives as long as this process."""
+    """Returns the folder with the packages that `tools/pack` makes of the release. They are made once per process."""
     status, said = ran(TOP / "tools/pack", "--tools")
     if status:
         raise Skipped(said.strip())

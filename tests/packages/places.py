@@ -1,6 +1,6 @@
 """`./install --library`, and programs built with the installed files.
 
-RUNS lists the runs. Each is a function that yields the differences.
+RUNS lists the runs: functions that yield the differences found.
 """
 import contextlib
 import tempfile
@@ -22,7 +22,7 @@ target_link_libraries(static itchsnap::static)
 
 @contextlib.contextmanager
 def installed():
-    """A folder in which the C library is installed below `a prefix`, and what ./install said."""
+    """Yields a folder in which the C library is installed under `a prefix`, and the output of ./install."""
     with tempfile.TemporaryDirectory() as name:
         prefix = Path(name) / "prefix"
         yield Path(name), prefix, ran(TOP / "install", "--library", prefix)
@@ -43,7 +43,7 @@ def the_library_is_installed_and_removed():
 
 
 def a_prefix_may_be_relative():
-    """To the folder of the one who installs: what pkg-config reads names it from the top."""
+    """It is relative to the current folder. The file for pkg-config contains the absolute path."""
     with tempfile.TemporaryDirectory() as name:
         folder = Path(name)
         for prefix, place in ("prefix", "prefix"), ("./a/../b/", "b"):
@@ -66,7 +66,7 @@ def pkg_config_names_what_a_program_needs():
 
 
 def configured(folder, prefix, wanted):
-    """What CMake says of a program that wants a version."""
+    """Returns CMake's output for a program that requires a version."""
     (folder / "demo.c").write_bytes((TOP / "c/demo.c").read_bytes())
     (folder / "CMakeLists.txt").write_text(CMAKE.replace("WANTED", wanted))
     return ran("cmake", "-S", folder, "-B", folder / f"build {wanted}", f"-DCMAKE_PREFIX_PATH={prefix}")

@@ -1,6 +1,6 @@
 """`./test` on a machine that lacks its tools.
 
-RUNS lists the runs. Each is a function that yields the differences.
+RUNS lists the runs: functions that yield the differences found.
 """
 import os
 import tempfile
@@ -10,10 +10,10 @@ from pathlib import Path
 import bare
 from kit import TOP, differs, ran
 
-# The commands of `./test` itself that a bare Debian has.
+# The commands that `./test` itself uses, and that a bare Debian has.
 BASE = "bash dirname mktemp paste rm sed id wc cat".split()
 ENDS = "./test setup installs what the tests need\n"
-# Package tools of a machine on which nothing is installed, and which has none of these packages.
+# The package tools of a machine on which nothing is installed, and whose repositories lack these packages.
 TOOLS = {"dpkg-query": "exit 1", "sudo": 'exec "$@"', "apt-get": 'echo "apt-get $*"\ncase "$*" in %s) exit 100 ;; esac'}
 
 
@@ -33,7 +33,7 @@ def a_bare_debian_is_told_what_to_do():
 
 
 def set_up(lacking):
-    """What `./test setup` comes to where apt-get lacks these packages: its status, and its last lines."""
+    """Runs `./test setup` where apt-get lacks these packages. Returns its status and its last lines."""
     with tempfile.TemporaryDirectory() as folder:
         for it in [*BASE, "env", "grep"]:
             (Path(folder) / it).symlink_to(Path("/usr/bin") / it)
@@ -57,7 +57,7 @@ def a_large_package_that_cannot_be_had_is_no_failure():
 
 @contextmanager
 def stubs(said, *parts):
-    """A folder with `./test` and these parts of it, each of which prints what `said` gives for it."""
+    """Yields a folder with `./test` and these parts of it, each of which prints the text that `said` returns for it."""
     with tempfile.TemporaryDirectory() as name:
         top = Path(name)
         for part, script in [("test", (TOP / "test").read_text()), *((f"tests/{it}", f"#!/bin/sh\n{said(it)}\n") for it in parts)]:
@@ -74,7 +74,7 @@ PASSED = "echo '2 passed, 0 failed'"
 
 
 def what_is_left_out_is_counted():
-    """Of two parts, which say what they leave out, as ./test counts them."""
+    """Two parts report what they skip, and ./test counts these lines."""
     left_out = lambda part: f"echo 'skipped: a run: no dog here'\n{PASSED}" if part.startswith(("scale", "python")) else PASSED
     with stubs(left_out, *QUICK) as top:
         status, said = ran(top / "test", "quick")
@@ -83,7 +83,7 @@ def what_is_left_out_is_counted():
 
 
 def a_source_outside_crates_fails_both():
-    """`rt ci` would refuse it, and prove nothing."""
+    """Otherwise `rt ci` would refuse the repository and prove nothing."""
     with stubs(lambda _: PASSED, *GATE) as top:
         for name in ("crates/one/src/lib.rt", "examples/one.rt"):
             (top / name).parent.mkdir(parents=True)

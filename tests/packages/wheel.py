@@ -1,6 +1,6 @@
 """The wheel of the Python package in a plain virtual environment.
 
-RUNS lists the runs. Each is a function that yields the differences.
+RUNS lists the runs: functions that yield the differences found.
 """
 import shutil
 import sys
@@ -13,7 +13,7 @@ SNAP = "import sys, sundrekk; sundrekk.Day(sys.argv[1]).snapshot().write(sys.arg
 
 
 def environment(folder):
-    """The Python of a new plain virtual environment."""
+    """Yields the Python of a new plain virtual environment."""
     for python in ("/usr/bin/python3", sys.executable):
         if shutil.which(python) and ran(python, "-m", "venv", folder)[0] == 0:
             return folder / "bin/python"

@@ -1,6 +1,6 @@
 """`live`, `follow` and `fetch` at a host with two addresses: the first refuses, is silent, or is lost repeatedly; and a status port there.
 
-RUNS lists the runs. Each is a function that is given the program and yields the differences.
+RUNS lists the runs: functions that take the program and yield the differences found.
 """
 import contextlib
 import socket

@@ -1,7 +1,7 @@
 """The limits of `live`, `feed` and `follow`: clients at a time, and lengths of messages and packets; and over a million waiting messages in a joiner
 of the C library.
 
-RUNS lists the runs. Each is a function that is given the program and yields the differences.
+RUNS lists the runs: functions that take the program and yield the differences found.
 """
 import contextlib
 import subprocess

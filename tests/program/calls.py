@@ -1,6 +1,6 @@
 """`live`, `follow` and `feed` while each system call other than a read, a write or an allocation fails in turn (calls.c).
 
-RUNS lists the runs. Each is a function that is given the program and yields the differences.
+RUNS lists the runs: functions that take the program and yield the differences found.
 """
 import contextlib
 import functools

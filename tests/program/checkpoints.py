@@ -1,6 +1,6 @@
 """`at` with an index that does not fit the point or the feed.
 
-RUNS lists the runs. Each is a function that is given the program and yields the differences.
+RUNS lists the runs: functions that take the program and yield the differences found.
 """
 import contextlib
 import gzip

@@ -1,6 +1,6 @@
 """Costs: the memory of order references far apart, and the instructions of `compare --first`.
 
-RUNS lists the runs. Each is a function that is given the program and yields the differences.
+RUNS lists the runs: functions that take the program and yield the differences found.
 """
 import re
 import shutil

@@ -1,6 +1,6 @@
 """`live` with many clients at once, with a feed that is cut at every byte, and with Wireshark's dissector.
 
-RUNS lists the runs. Each is a function that is given the program and yields the differences.
+RUNS lists the runs: functions that take the program and yield the differences found.
 """
 import collections
 import contextlib

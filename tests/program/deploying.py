@@ -1,6 +1,6 @@
 """The files of `deploy/` under systemd's and Prometheus's own checks, the commands of the unit, and each figure, log line and exit code in docs/OPERATING.md.
 
-RUNS lists the runs. Each is a function that is given the program and yields the differences.
+RUNS lists the runs: functions that take the program and yield the differences found.
 """
 import contextlib
 import itertools

@@ -1,6 +1,6 @@
 """`feed` and `follow`, a chain of `feed`, `live` and `follow`, and the reasons why each ends.
 
-RUNS lists the runs. Each is a function that is given the program and yields the differences.
+RUNS lists the runs: functions that take the program and yield the differences found.
 """
 import contextlib
 import re

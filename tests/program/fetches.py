@@ -1,6 +1,6 @@
 """`fetch` from a test server, and `serve` with test clients: each call failing in turn, and the answers.
 
-RUNS lists the runs. Each is a function that is given the program and yields the differences.
+RUNS lists the runs: functions that take the program and yield the differences found.
 """
 import contextlib
 import queue

@@ -1,6 +1,6 @@
 """JSON and comma-separated values for every character that a stock may have, parsed by Python's own modules.
 
-RUNS lists the runs. Each is a function that is given the program and yields the differences.
+RUNS lists the runs: functions that take the program and yield the differences found.
 """
 import csv
 import io

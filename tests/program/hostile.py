@@ -1,6 +1,6 @@
 """`live` with hostile clients, with side outputs that fail, and at feeds that refuse it once or send quickly.
 
-RUNS lists the runs. Each is a function that is given the program and yields the differences.
+RUNS lists the runs: functions that take the program and yield the differences found.
 """
 import contextlib
 import fcntl

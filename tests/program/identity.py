@@ -1,6 +1,6 @@
 """Sessions and records: records of another day, in use, changed or cut, and how much of a record is on disk.
 
-RUNS lists the runs. Each is a function that is given the program and yields the differences.
+RUNS lists the runs: functions that take the program and yield the differences found.
 """
 import subprocess
 import tempfile

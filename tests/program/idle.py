@@ -1,6 +1,6 @@
 """Servers that have nothing to do, or can do nothing for a while, use next to no processor time.
 
-RUNS lists the runs. Each is a function that is given the program and yields the differences.
+RUNS lists the runs: functions that take the program and yield the differences found.
 """
 import contextlib
 import socket

@@ -1,6 +1,6 @@
 """`join` and `at` from each snapshot to each part of a day: the output is that of `snap`.
 
-RUNS lists the runs. Each is a function that is given the program and yields the differences.
+RUNS lists the runs: functions that take the program and yield the differences found.
 """
 import json
 import subprocess

@@ -1,6 +1,6 @@
 """`live` with a record and snapshots, killed at each call in turn, by SIGTERM, or with a write that fails: a restart continues with both.
 
-RUNS lists the runs. Each is a function that is given the program and yields the differences.
+RUNS lists the runs: functions that take the program and yield the differences found.
 """
 import signal
 import time

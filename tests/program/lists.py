@@ -1,6 +1,6 @@
 """Lists of locates on the command line or in files of any size, lists of stocks, and faults found before a file is opened.
 
-RUNS lists the runs. Each is a function that is given the program and yields the differences.
+RUNS lists the runs: functions that take the program and yield the differences found.
 """
 import os
 import tempfile

@@ -1,6 +1,6 @@
 """`live`: a feed that is lost and reconnected, clients of all kinds, records and snapshots.
 
-RUNS lists the runs. Each is a function that is given the program and yields the differences.
+RUNS lists the runs: functions that take the program and yield the differences found.
 """
 import contextlib
 import re

@@ -1,6 +1,6 @@
 """Files of passwords and of users, which `live`, `follow` and `feed` read again when they change: their lengths, and their paths in the log.
 
-RUNS lists the runs. Each is a function that is given the program and yields the differences.
+RUNS lists the runs: functions that take the program and yield the differences found.
 """
 import json
 import re

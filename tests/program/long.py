@@ -1,6 +1,6 @@
 """Long inputs and unusual arguments: a list of many locates, the longest message, arguments that are not text.
 
-RUNS lists the runs. Each is a function that is given the program and yields the differences.
+RUNS lists the runs: functions that take the program and yield the differences found.
 """
 import importlib
 import struct

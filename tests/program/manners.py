@@ -1,6 +1,6 @@
 """The program at a shell: its version, terminals, closed pipes, progress, `examples/parts`, and the manual page.
 
-RUNS lists the runs. Each is a function that is given the program and yields the differences.
+RUNS lists the runs: functions that take the program and yield the differences found.
 """
 import os
 import pty

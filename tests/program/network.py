@@ -1,6 +1,6 @@
 """`serve` and `fetch` at addresses of all kinds, with passwords from a file or the environment, sessions, time limits, and peers of other protocols.
 
-RUNS lists the runs. Each is a function that is given the program and yields the differences.
+RUNS lists the runs: functions that take the program and yield the differences found.
 """
 import contextlib
 import os

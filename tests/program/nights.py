@@ -1,6 +1,6 @@
 """`live` over several days: a record, snapshots and figures for each session of its feed, and when it asks the feed for its session.
 
-RUNS lists the runs. Each is a function that is given the program and yields the differences.
+RUNS lists the runs: functions that take the program and yield the differences found.
 """
 import re
 import resource

@@ -1,6 +1,6 @@
 """Unusual files: pipes, packed and unreadable files, a day file that disappears, closed standard streams, and an index with wrong numbers.
 
-RUNS lists the runs. Each is a function that is given the program and yields the differences.
+RUNS lists the runs: functions that take the program and yield the differences found.
 """
 import contextlib
 import gzip

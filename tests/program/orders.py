@@ -1,6 +1,6 @@
 """`show --orders` on random days, against an independent reader.
 
-RUNS lists the runs. Each is a function that is given the program and yields the differences.
+RUNS lists the runs: functions that take the program and yield the differences found.
 """
 import csv
 import io

@@ -1,6 +1,6 @@
 """Snapshots written to a file, a device or a pipe: the file appears only when it is complete.
 
-RUNS lists the runs. Each is a function that is given the program and yields the differences.
+RUNS lists the runs: functions that take the program and yield the differences found.
 """
 import contextlib
 import os

@@ -1,6 +1,6 @@
 """Times: the pauses before a lost feed is tried again, and messages played at a rate, by the clock, or from a late number on.
 
-RUNS lists the runs. Each is a function that is given the program and yields the differences.
+RUNS lists the runs: functions that take the program and yield the differences found.
 
 A busy machine makes each thing late now and then, and nothing early. So nothing may be early, and in one of some attempts little may be late.
 """

@@ -1,6 +1,6 @@
 """`snap --to`: the snapshots of several points of a day file, and their index.
 
-RUNS lists the runs. Each is a function that is given the program and yields the differences.
+RUNS lists the runs: functions that take the program and yield the differences found.
 """
 import contextlib
 import hashlib

@@ -1,7 +1,7 @@
 """`--from` and `--since` with `--after` and `--until`, and `cut`, over random days whose timestamps go back and forth, against an independent
 reader.
 
-RUNS lists the runs. Each is a function that is given the program and yields the differences.
+RUNS lists the runs: functions that take the program and yield the differences found.
 """
 import random
 import re

@@ -1,6 +1,6 @@
 """`live` with clients that read slowly: they keep their snapshots while there is memory, and then the slowest makes room.
 
-RUNS lists the runs. Each is a function that is given the program and yields the differences.
+RUNS lists the runs: functions that take the program and yield the differences found.
 """
 import contextlib
 import re

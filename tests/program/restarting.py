@@ -1,6 +1,6 @@
 """Restarts of `live` from the newest snapshot that fits the record: which snapshots are kept and listed, and who is served meanwhile.
 
-RUNS lists the runs. Each is a function that is given the program and yields the differences.
+RUNS lists the runs: functions that take the program and yield the differences found.
 """
 import json
 import resource

@@ -1,6 +1,6 @@
 """The status port of `live`, and `status`.
 
-RUNS lists the runs. Each is a function that is given the program and yields the differences.
+RUNS lists the runs: functions that take the program and yield the differences found.
 """
 import contextlib
 import http.client

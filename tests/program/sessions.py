@@ -1,6 +1,6 @@
 """`serve` and `fetch` in two processes, and `serve` with peers that misbehave.
 
-RUNS lists the runs. Each is a function that is given the program and yields the differences.
+RUNS lists the runs: functions that take the program and yield the differences found.
 """
 import contextlib
 import itertools

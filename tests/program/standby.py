@@ -1,6 +1,6 @@
 """`live` and `follow` with several servers of a feed, and with names that are looked up again.
 
-RUNS lists the runs. Each is a function that is given the program and yields the differences.
+RUNS lists the runs: functions that take the program and yield the differences found.
 """
 import contextlib
 import re

@@ -1,6 +1,6 @@
 """`./itchsnap` and `./install` in a fresh copy of the checkout: which program they choose and report.
 
-RUNS lists the runs. Each is a function that is given the program and yields the differences.
+RUNS lists the runs: functions that take the program and yield the differences found.
 """
 import contextlib
 import os

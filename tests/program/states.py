@@ -1,6 +1,6 @@
 """Clients that stop sending or leave before they are served, log in bit by bit, or wait while descriptors are short.
 
-RUNS lists the runs. Each is a function that is given the program and yields the differences.
+RUNS lists the runs: functions that take the program and yield the differences found.
 """
 import contextlib
 import socket

@@ -1,6 +1,6 @@
 """The status of `live` after a feed was lost or the server was restarted, and peers of the status port that read or send in an unusual way.
 
-RUNS lists the runs. Each is a function that is given the program and yields the differences.
+RUNS lists the runs: functions that take the program and yield the differences found.
 """
 import contextlib
 import re

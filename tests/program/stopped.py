@@ -1,6 +1,6 @@
 """`fetch` and `serve` in processes that are stopped and continued, as by a shell's job control: each session continues with the time that is left.
 
-RUNS lists the runs. Each is a function that is given the program and yields the differences.
+RUNS lists the runs: functions that take the program and yield the differences found.
 """
 import contextlib
 import signal

@@ -1,6 +1,6 @@
 """Help with its examples, completions, and usage errors.
 
-RUNS lists the runs. Each is a function that is given the program and yields the differences.
+RUNS lists the runs: functions that take the program and yield the differences found.
 """
 import gzip
 import re

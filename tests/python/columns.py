@@ -1,6 +1,6 @@
 """Messages as columns, in numpy and pyarrow, if installed, and over Arrow's C interface; the fields of `itchsnap_decode`; and the texts of codes.
 
-RUNS lists the runs. Each is a function that yields the differences.
+RUNS lists the runs: functions that yield the differences found.
 """
 import ctypes as c
 import functools
@@ -18,18 +18,18 @@ from tables import left_out
 
 HEADER = (TOP / "c/itchsnap.h").read_text()
 NUMBERS = {"L": 8, "I": 4, "S": 2}
-# So many rows are a batch of Arrow, and so many the library writes at once for `Day.messages`.
+# The number of rows in an Arrow batch, and the number that the library writes at once for `Day.messages`.
 BATCH, AT_ONCE = 1 << 16, 4096
 
 
 @functools.lru_cache(maxsize=1)
 def several():
-    """A day with messages of all types."""
+    """Returns a day with messages of all types."""
     return of_all_types(3000, 7)
 
 
 def read(day):
-    """The messages of a day by their types: the number, and the fields by the standard's layouts, texts as bytes without trailing spaces."""
+    """Returns the messages of a day by type: the number, and the fields by the standard's layouts, texts as bytes without trailing spaces."""
     found = {letter: [] for letter in FIELDS}
     for number, block in enumerate(split(day), 1):
         payload, letter = block[2:], chr(block[2])
@@ -43,7 +43,7 @@ def read(day):
 
 
 def released(it):
-    """Releases a structure, after which nothing that it or a child of it refers to is kept."""
+    """Releases a structure. After that, nothing to which it or its children refer may be kept."""
     lent = [it.private_data, *(it.children[at].contents.private_data for at in range(getattr(it, "n_children", 0)) if it.children[at].contents.release)]
     assert all(number in _arrow._lent for number in lent)
     it.release(it)
@@ -51,7 +51,7 @@ def released(it):
 
 
 def schema_of(stream):
-    """The name and the format of each column of a stream, whose schema is released."""
+    """Returns the name and the format of each column of a stream, and releases its schema."""
     schema = _arrow.Schema()
     assert stream.get_schema(stream, schema) == 0 and schema.format == b"+s"
     fields = [(schema.children[at].contents.name.decode(), schema.children[at].contents.format.decode()) for at in range(schema.n_children)]
@@ -60,7 +60,7 @@ def schema_of(stream):
 
 
 def values_of(array, form):
-    """The values of a column, texts as bytes."""
+    """Returns the values of a column, texts as bytes."""
     assert (array.null_count, array.offset, array.buffers[0]) == (0, 0, None)
     if form in NUMBERS:
         raw, width = c.string_at(array.buffers[1], array.length * NUMBERS[form]), NUMBERS[form]
@@ -71,7 +71,7 @@ def values_of(array, form):
 
 
 def moved(capsule):
-    """A stream out of its capsule, as those do who read it: its structure is moved."""
+    """Takes a stream out of its capsule, as consumers do: its structure is moved."""
     stream = _arrow.Stream()
     place = c.PYFUNCTYPE(c.c_void_p, c.py_object, c.c_char_p)(("PyCapsule_GetPointer", c.pythonapi))(capsule, b"arrow_array_stream")
     c.memmove(c.addressof(stream), place, c.sizeof(stream))
@@ -81,7 +81,7 @@ def moved(capsule):
 
 
 def of_arrow(columns):
-    """The fields of a stream, the rows, and the length of each batch. All is released."""
+    """Returns the fields of a stream, the rows, and the length of each batch. Releases everything."""
     stream, rows, lengths = moved(columns.__arrow_c_stream__()), [], []
     fields = schema_of(stream)
     while True:
@@ -196,7 +196,7 @@ def columns_of_numpy():
         columns = Day.of(several()).columns(letter)
         for place, name in enumerate(kind._fields):
             column = columns[name]
-            # A code that ends with a byte of 0 loses it as an element of an array.
+            # A code that ends with a zero byte loses that byte as an element of an array.
             values = [it[place].rstrip(b"\0") if isinstance(it[place], bytes) else it[place] for it in wanted[letter]]
             yield from differs(f"{letter} {name}", column.tolist() == values, True)
             yield from differs(f"{letter} {name}: memory", (column.dtype.isnative, column.flags.c_contiguous, column.flags.writeable), (True, True, False))
@@ -220,7 +220,7 @@ def tables_of_pyarrow():
 
 
 def fields_in_c_are_those_of_the_standard():
-    """The fields of `itchsnap_message`, by its declaration in the header, of each message and of payloads that are cut."""
+    """The fields of `itchsnap_message`, as declared in the header, of each message and of cut payloads."""
     body = re.search(r"typedef struct \{\n((?:(?!typedef).)*?)\} itchsnap_message;", HEADER, re.S)[1]
     declared = re.findall(r"^ +uint(\d+)_t (\w+)(?:\[(\d+)\])?;", body, re.M)
     widths = {"8": c.c_uint8, "16": c.c_uint16, "32": c.c_uint32, "64": c.c_uint64}
@@ -249,7 +249,7 @@ def bytes_of(value):
 
 
 def comparable(value):
-    """A text without its trailing spaces, and a code of one byte as a number."""
+    """Returns a text without its trailing spaces, or a code of one byte as a number."""
     if isinstance(value, bytes) and len(value) == 1:
         return value[0]
     return value.rstrip(b" ") if isinstance(value, bytes) else value

@@ -1,6 +1,6 @@
 """`Day`: times, numbers of messages, pieces, files of all kinds, memory, threads, and closed days.
 
-RUNS lists the runs. Each is a function that yields the differences.
+RUNS lists the runs: functions that yield the differences found.
 """
 import array
 import datetime
@@ -20,7 +20,7 @@ from samples import MINUTE, example, generated, raised, ran_python, refusal, sta
 from sundrekk import Day, Market, Refused, Snapshot, nanoseconds
 
 DAY = example("book.itch")
-# Prints how many KiB of memory of its own a snapshot took at most, while a thread looks every millisecond; and then how long it is.
+# Prints the peak of a snapshot's own memory in KiB, sampled every millisecond by a thread, and then the snapshot's length.
 MEMORY = """
 import re, sys, threading
 from sundrekk import Day
@@ -44,7 +44,7 @@ LARGE, LEAST = 256 << 20, 16 << 10
 
 
 def of_program(day, **options):
-    """The snapshot of the program, or its refusal as the package words it."""
+    """Returns the program's snapshot, or its refusal in the wording of the package."""
     words = [word for name, value in options.items() for word in (f"--{name}", str(value))]
     status, output, error = samples.program("snap", *words, day=day)
     error = re.sub(r"wrong length for .: (want \d+), got \d+", r"wrong length: \1", error).replace("itchsnap: ", "")
@@ -59,7 +59,7 @@ def of_package(day, **options):
 
 
 def of_piece(day, time):
-    """The same of the piece of a day before a time."""
+    """Returns the same for the piece of a day before a time."""
     [(_, blocks)] = Day.of(day).pieces([time])
     return of_package(blocks)
 
@@ -81,7 +81,7 @@ def the_earlier_of_a_time_and_a_number_ends_a_day():
 
 
 def hostile_days_until_a_time_are_those_of_the_program():
-    """Blocks with bytes changed, dropped and repeated, at times on both sides of their own."""
+    """Blocks whose bytes are changed, dropped or repeated, with times before and after their own."""
     rng = random.Random(3)
     blocks = common.split(timed())[:40] + common.split(DAY) + [bytes(2), b"\0\1A", b"\0\x15G" + b" " * 19 + b"9", b"\0\x0bN" + bytes(10)]
     times = [0, 1, 5, 2**40, 2**47, 2**48 - 1, 2**48, 2**63, 570 * MINUTE + 10**9]
@@ -99,7 +99,7 @@ def hostile_days_until_a_time_are_those_of_the_program():
 
 
 def a_message_of_each_type_may_end_a_day():
-    """Each block of blocks.ini at a time, before it and after it, and the other types of TotalView-ITCH 5.0, which end no day."""
+    """Each block of blocks.ini at, before and after its time, and the other types of TotalView-ITCH 5.0, which do not end a day."""
     others = [bytes((0, size)) + kind + bytes(4) + bytes([255] * (size - 5)) for kind, size in
               ((b"I", 50), (b"J", 35), (b"K", 28), (b"N", 20), (b"O", 48), (b"V", 35), (b"W", 12))]
     day = common.file("AAPL MSFT BUY_1")
@@ -111,7 +111,7 @@ def a_message_of_each_type_may_end_a_day():
 
 
 def each_byte_of_a_time_decides():
-    """A message at a time, one before it and one after it, in each of the six bytes of a timestamp."""
+    """A message at, before and after a time that differs in each of the six bytes of a timestamp."""
     entry, order = common.split(DAY)[1:3]
     for place in range(6):
         for time in (1 << 8 * place, (1 << 8 * place) - 1, (0x0a5c5d2e7b5b >> 8 * place) << 8 * place, 0xff << 8 * place):
@@ -217,7 +217,7 @@ def a_closed_day_refuses_each_call():
 
 
 def a_large_day_takes_no_memory_but_that_of_its_market():
-    """A file of 256 MiB that leaves nothing in a market: messages that are not decoded, and then a small day."""
+    """A file of 256 MiB that leaves a small market: messages that are not decoded, and then a small day."""
     block = b"\xff\xffz" + bytes(65534)
     with tempfile.TemporaryDirectory() as name:
         path = Path(name) / "day.itch"
@@ -244,7 +244,7 @@ def a_day_may_be_in_a_buffer_of_wider_items():
 
 
 def other_threads_go_on_during_a_call():
-    """While a call takes long, the longest time that another thread has to wait is a small part of it, in one of three attempts."""
+    """During a long call, the longest wait of another thread is a small part of it, in one of three attempts."""
     day, shares = Day.of(b"\0\1z" * 4_000_000), []
     for _ in range(3):
         times, ended = [], threading.Event()

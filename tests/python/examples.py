@@ -1,6 +1,6 @@
 """The examples of the package, against the program's output.
 
-RUNS lists the runs. Each is a function that yields the differences.
+RUNS lists the runs: functions that yield the differences found.
 """
 import functools
 import itertools
@@ -23,12 +23,12 @@ SVG = "{http://www.w3.org/2000/svg}"
 STOCKS = ("AAPL", "MSFT", "NVDA")
 
 
-# The name of the first symbol, in a day of a crossed book.
+# The name of the first symbol, in a day with a crossed book.
 CROSSED = "S0000001"
 
 
 def ran(name, *words, day=b""):
-    """The status of an example and both its outputs, with `day.itch` in its folder."""
+    """Runs an example with `day.itch` in its folder, and returns its status and both outputs."""
     with tempfile.TemporaryDirectory() as folder:
         (Path(folder) / "day.itch").write_bytes(day)
         done = subprocess.run([sys.executable, "-B", FOLDER / name, *words], cwd=folder, capture_output=True, timeout=60,
@@ -38,13 +38,14 @@ def ran(name, *words, day=b""):
 
 @functools.lru_cache(maxsize=1)
 def day():
-    """The small day that an example writes."""
+    """Returns the small day that an example writes."""
     return ran("day.py")[1]
 
 
 @functools.lru_cache(maxsize=1)
 def crossed():
-    """A day whose bids reach its ask before 9:30, and then exceed it by a cent, by a dollar and by more; the ask goes at last."""
+    """Returns a day whose bids reach its ask before 9:30, and then exceed it by a cent, by a dollar and by more. In the end the ask is
+    deleted."""
     def added(reference, side, price):
         fields = struct.pack(">QcI8sI", reference, side, 100, large.stock(1), price)
         return large.block(b"A", 1, fields)
@@ -57,7 +58,7 @@ def crossed():
 
 
 def levels(*words, of=None):
-    """The levels that the program prints of a day, the small one if no other is given: stock, side, price in ten-thousandths of a dollar,
+    """Returns the levels that the program prints for a day, by default the small one: stock, side, price in ten-thousandths of a dollar,
     and shares."""
     lines = samples.program("book", "--csv", *words, day=of or day())[1].decode().splitlines()[1:]
     return [(stock, side, ten_thousandths(price), int(shares)) for _, stock, side, price, shares, _ in (line.split(",") for line in lines)]
@@ -100,20 +101,20 @@ def a_part_of_a_day_is_asked_for():
 
 
 def texts_by_places(picture, axis, place):
-    """The texts at the ticks of an axis, with their places."""
+    """Returns the texts at the ticks of an axis, by position."""
     for tick in picture.iterfind(f".//{SVG}g[@id]"):
         if tick.get("id").startswith(f"{axis}tick_"):
             yield tick.find(f".//{SVG}text").text, float(tick.find(f".//{SVG}use").get(place))
 
 
 def line_through(points):
-    """Numbers by places, on the line through the first and the last of these points."""
+    """Returns a function from positions to numbers: the line through the first and the last of these points."""
     (first, begin), (last, end) = points[0], points[-1]
     return lambda place: first + (last - first) * (place - begin) / (end - begin)
 
 
 def depth_differs(picture, stock="NVDA", until="12:00", of=None):
-    """Read by the numbers at its axes, the picture has the program's prices, and the shares at each and at better ones."""
+    """Read with the numbers on its axes, the picture shows the program's prices, and at each price the shares there and at better ones."""
     prices = line_through([(ten_thousandths(words), x) for words, x in texts_by_places(picture, "x", "x")])
     shares = line_through([(int(words.replace(",", "")), y) for words, y in texts_by_places(picture, "y", "y")])
     for name, wanted in (("bids", "B"), ("asks", "S")):

@@ -1,6 +1,6 @@
 """The package as pip installs it, away from the checkout.
 
-RUNS lists the runs. Each is a function that yields the differences.
+RUNS lists the runs: functions that yield the differences found.
 """
 import re
 import shutil
@@ -14,7 +14,7 @@ import sundrekk
 from common import differs
 
 PACKAGE = samples.TOP / "python"
-# The packages that pip needs if it may not download any.
+# The packages that pip needs when it must not download any.
 NEEDED = ("pip", "setuptools", "wheel")
 SNAP = """
 import sys
@@ -26,7 +26,7 @@ sys.stdout.buffer.write(sundrekk.Day(sys.argv[1]).snapshot().data)
 
 
 def installer():
-    """A Python that has what pip needs: this one, or that of the system."""
+    """Returns a Python that has the packages that pip needs: this one, or the system's."""
     has_all = f"import importlib.util; assert all(map(importlib.util.find_spec, {NEEDED}))"
     for python in (sys.executable, "/usr/bin/python3"):
         if Path(python).exists() and subprocess.run([python, "-c", has_all], capture_output=True).returncode == 0:
@@ -35,7 +35,7 @@ def installer():
 
 
 def installed(python, folder):
-    """Installs the package into a folder, from a copy of its own that is gone afterwards. Returns what pip says where it fails."""
+    """Installs the package into a folder, from a copy that is then removed. Returns pip's output if it fails."""
     with tempfile.TemporaryDirectory() as name:
         copy = Path(name)
         shutil.copytree(PACKAGE, copy / "python", ignore=shutil.ignore_patterns("build", "*.egg-info", "__pycache__"))
@@ -68,7 +68,7 @@ def pip_installs_a_package_that_stands_alone():
 
 
 def metadata(folder):
-    """What pip has noted: the version, and which machines the package is for."""
+    """The metadata that pip has stored: the version, and the machines that the package is for."""
     noted, = folder.glob("sundrekk-*.dist-info")
     yield from differs("the version", re.findall("^Version: (.*)", (noted / "METADATA").read_text(), re.M), [sundrekk.__version__])
     yield from differs("the machines", re.findall("^Tag: (.*)", (noted / "WHEEL").read_text(), re.M), ["py3-none-manylinux_2_17_x86_64"])

@@ -1,7 +1,7 @@
 """`Joiner`: feeds in any order, its answer to each message, and refused input.
 
-RUNS lists the runs. Each is a function that yields the differences. No run reaches `TAKEN_NO_MEMORY`: it needs memory that is
-refused, as tests/program/memory.c does for the library.
+RUNS lists the runs: functions that yield the differences found. No run reaches `TAKEN_NO_MEMORY`, which requires a failed allocation;
+tests/program/memory.c tests it for the library.
 """
 import random
 
@@ -15,7 +15,7 @@ FEED = [bytes(it) for it in payloads(common.file("START AAPL BUY_1 BUY_2 BUY_3_O
 
 
 def joined(waiting=0, only=None):
-    """A joiner that has joined an empty market before message 1."""
+    """Returns a joiner that has joined an empty market before message 1."""
     joiner = Joiner(waiting, only=only)
     joiner.snapshot_message(END)
     return joiner

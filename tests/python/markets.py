@@ -1,6 +1,6 @@
 """`Market`: buffers of all kinds, pieces, look-ups against lists, refusals, and closed markets.
 
-RUNS lists the runs. Each is a function that yields the differences.
+RUNS lists the runs: functions that yield the differences found.
 """
 import array
 import copy
@@ -22,7 +22,7 @@ from sundrekk import Applied, Day, Level, Market, Order, Reason, Refused, Snapsh
 
 DAY, SNAPSHOT = example("first_order.itch"), example("first_order.snap")
 CLOSED = ("WRONG_HANDLE", 0, None)
-# Every call of a market that is open, with arguments that it takes.
+# Every call of an open market, with valid arguments.
 CALLS = {
     "apply": (b"S",), "apply_blocks": (DAY,), "apply_file": (io.BytesIO(DAY),), "best": (1, "B"), "level": (1, "B", 1), "levels": (),
     "locates": (), "next_price": (1, "S"), "order": (1,), "order_count": (), "orders": (), "snapshot": (), "stock": (1,), "stocks": (),
@@ -30,7 +30,7 @@ CALLS = {
 
 
 def buffers(path):
-    """The bytes of a file in every kind of buffer."""
+    """Yields the bytes of a file in every kind of buffer."""
     data = path.read_bytes()
     with open(path, "rb") as file:
         mapped = mmap.mmap(file.fileno(), 0, access=mmap.ACCESS_READ)
@@ -63,7 +63,7 @@ def what_is_no_buffer_is_not_taken():
 
 
 def a_buffer_stays_as_it_is_during_a_call():
-    """A buffer is let go of after a call, also after one that is refused: it can be made longer then."""
+    """A buffer is released after a call, even after a refused one, and can then be resized."""
     day = bytearray(DAY)
     with Market() as market:
         market.apply_blocks(day)
@@ -81,8 +81,8 @@ def a_day_may_be_cut_at_each_byte():
 
 
 def a_file_is_read_in_pieces():
-    """However many bytes are read at a time: a complete file, one with an end block and bytes after it, one that ends within a block, and one
-    that is refused."""
+    """Whatever the number of bytes read at a time: a complete file, one with an end block followed by other bytes, one that ends within a
+    block, and one that is refused."""
     for size in (1, 2, 3, 7, 14, 57, 64, 95, 96, 1 << 20):
         for after in (b"", b"\0\0", b"\0\0\0\1S" + DAY):
             with Market() as market:
@@ -124,7 +124,7 @@ def look_ups_are_those_of_the_lists():
 
 
 def look_up_levels(market, locate, side, orders):
-    """The levels of these orders, each of which has to be what is looked up."""
+    """Returns the levels of these orders, and checks that looking up each gives the same."""
     price = market.next_price(locate, side)
     while price is not None:
         of_price = [it for it in orders if it.price == price]
@@ -175,7 +175,7 @@ def payload_of(name):
 
 
 def messages_before_a_refusal_count():
-    """A piece is taken up to the message that is refused, whose number is that of the complete feed."""
+    """A piece is applied up to the refused message, whose number is that in the complete feed."""
     day = common.file("AAPL BUY_1 BUY_2 BUY_1 DELETE_1")
     with Market() as market:
         market.apply_blocks(common.file("START"))

@@ -1,6 +1,6 @@
 """Messages of a day by their types, executions with their orders, the book over time, and a feed that is followed.
 
-RUNS lists the runs. Each is a function that yields the differences.
+RUNS lists the runs: functions that yield the differences found.
 """
 import bz2
 import datetime
@@ -25,7 +25,7 @@ from living import Feed, feeding, plays
 from samples import MINUTE, generated, raised, refusal, said, timed
 from sundrekk import Day, Market, follow, kinds
 
-# The fields after the header by the standard: I is an integer or a price of this many bytes, T a text, S a side, and C a code.
+# The fields after the header, as in the standard: I is an integer or a price of this many bytes, T a text, S a side, and C a code.
 FIELDS = {
     "S": "C1", "R": "T8 C1 C1 I4 C1 C1 C2 C1 C1 C1 C1 C1 I4 C1", "H": "T8 C1 C1 C4", "Y": "T8 C1", "h": "T8 C1 C1", "L": "T4 T8 C1 C1 C1",
     "A": "I8 S1 I4 T8 I4", "F": "I8 S1 I4 T8 I4 T4", "E": "I8 I4 I8", "C": "I8 I4 I8 C1 I4", "X": "I8 I4", "D": "I8", "U": "I8 I8 I4 I4",
@@ -35,7 +35,7 @@ PRICES = {"price", "execution_price", "cross_price"}
 
 
 def drawn(rng, field):
-    """Random bytes of a field."""
+    """Returns random bytes of a field."""
     kind, size = field[0], int(field[1:])
     if kind == "T":
         return "".join(rng.choice("AZaz09 .-\"'") for _ in range(size)).strip().encode().ljust(size)
@@ -43,7 +43,7 @@ def drawn(rng, field):
 
 
 def of_all_types(count, seed=1):
-    """A day of messages of all types with random fields, which follow no order rules; some have a type that is not decoded."""
+    """Returns a day of messages of all types with random fields that follow no order rules. Some have a type that is not decoded."""
     rng, day = random.Random(seed), []
     for _ in range(count):
         letter = rng.choice([*FIELDS, "I", "G"])
@@ -58,13 +58,13 @@ def of_all_types(count, seed=1):
 
 
 def of_program(day, *words):
-    """The objects that the program prints of a day."""
+    """Returns the objects that the program prints for a day."""
     status, output, error = samples.program("show", "-", "--json", *words, day=day)
     return [json.loads(line) for line in output.splitlines()]
 
 
 def object_of(message):
-    """A message as the program prints it."""
+    """Returns a message as the program prints it."""
     if isinstance(message, kinds.Undecoded):
         return {"number": message.number, "type": chr(message.payload[0]), "length": len(message.payload)}
     fields = {name: f"{value // 10**4}.{value % 10**4:04}" if name in PRICES else value for name, value in message._asdict().items()}
@@ -101,7 +101,7 @@ def chosen_messages_are_those_of_the_program():
 
 
 def an_entry_may_give_a_locate_another_stock():
-    """No order rule is applied, so a locate may have one stock after the other."""
+    """No order rule is applied, so a locate may have one stock after another."""
     first, second = large.entry(2), large.entry(2)[:13] + b"OTHER   " + large.entry(2)[21:]
     day = first + large.added(1, 100) + second + large.deleted(1)
     for name in (large.stock(2).decode().strip(), "OTHER"):
@@ -210,7 +210,7 @@ def a_feed_is_followed():
 
 
 def a_feed_that_is_lost_is_reported():
-    """After the messages that came. One that is silent gets heartbeats meanwhile."""
+    """It is reported after the messages that arrived. A silent feed receives heartbeats meanwhile."""
     day = b"".join(split(generated())[:30])
     with Feed(plays(day)) as feed:
         got, lost = [], None

@@ -1,6 +1,6 @@
 """The examples of python/README.md, and that each public name is explained.
 
-RUNS lists the runs. Each is a function that yields the differences.
+RUNS lists the runs: functions that yield the differences found.
 """
 import doctest
 import inspect

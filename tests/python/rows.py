@@ -1,7 +1,7 @@
-"""The rows of tests/program/runs.ini for `snap`, `check`, `compare`, `canon`, `book` and `join`, by the package: the same bytes and refusals.
-Rows with arguments that the package has no call for are left out.
+"""The rows of tests/program/runs.ini for `snap`, `check`, `compare`, `canon`, `book` and `join`, by the package: the same bytes and refusals. Rows
+with arguments for which the package has no call are skipped.
 
-RUNS lists the runs. Each is a function that yields the differences.
+RUNS lists the runs: functions that yield the differences found.
 """
 import csv
 import io
@@ -11,7 +11,7 @@ import re
 import common
 from sundrekk import Day, Joiner, Level, Reason, Refused, Snapshot, Step, nanoseconds, payloads
 
-# What the package supports, by command: the options with a value, and the flags.
+# The options that the package supports, by command: those with a value, and flags.
 OPTIONS = {
     "snap": ({"--after", "--until", "--only"}, set()),
     "check": (set(), {"--json"}),
@@ -20,9 +20,9 @@ OPTIONS = {
     "book": ({"--depth", "--after", "--until"}, {"--csv", "--snapshot"}),
     "join": ({"--only"}, set()),
 }
-# A row about files, streams and terminals is one of the program alone, and a large day has tests of its own.
+# Rows about files, streams and terminals apply only to the program, and large days have their own tests.
 OTHERS = re.compile(r"^(day|snapshot) of |^folder$|^itchsnap: unknown stock$")
-# There are a few more. So rows that are left out by mistake are noticed.
+# A little less than the actual number, so that rows skipped by mistake are noticed.
 LEAST_ROWS = 200
 
 
@@ -31,7 +31,7 @@ class Unknown(Exception):
 
 
 def words_of(row):
-    """The command of a row with its files and options, or None if the package has no call for it."""
+    """Returns the command of a row with its files and options, or None if the package has no call for it."""
     command, *words = row.get("words", "").split() or [""]
     valued, flags = OPTIONS.get(command, (set(), set()))
     files, options = [], {}
@@ -49,8 +49,8 @@ def words_of(row):
 
 
 def is_here(row):
-    """Whether the package can answer a row: it is about bytes, and ends with status 0 or 1. A joiner has messages and no files, and a list of
-    locates in a file (`@`) is the program's alone."""
+    """Returns whether the package can answer a row: the row is about bytes, and ends with status 0 or 1. A joiner has messages and no files, and only
+    the program reads a list of locates from a file (`@`)."""
     if row.get("words", "").startswith("join ") and re.search("truncated|no end", row.get("error", "")):
         return False
     return (words_of(row) is not None and "@" not in row.get("words", "") and row.get("status", "0") in "01"
@@ -58,7 +58,7 @@ def is_here(row):
 
 
 def locates_of(text):
-    """The locates of a list with ranges."""
+    """Returns the locates of a list with ranges."""
     ends = [part.split("-") for part in text.split(",")]
     return [locate for end in ends for locate in range(int(end[0]), int(end[-1]) + 1)]
 
@@ -68,7 +68,7 @@ def time_of(text):
 
 
 def part_of(options):
-    """The arguments of `Day.snapshot` for these options."""
+    """Returns the arguments of `Day.snapshot` for these options."""
     kinds = {"--after": ("after", int), "--until": ("until", time_of), "--only": ("only", locates_of)}
     return {kinds[name][0]: kinds[name][1](value) for name, value in options.items() if name in kinds}
 
@@ -103,7 +103,7 @@ def price(ten_thousandths):
 
 
 def book(files, options):
-    """The lines of `book`. The first of its files is its list of locates."""
+    """Returns the lines of `book`. The first of the files is its list of locates."""
     locates = sorted(set(locates_of(files[0].decode())))
     snapshot = Snapshot(files[1]) if "--snapshot" in options else Day.of(files[1]).snapshot(**part_of(options))
     if set(locates) - set(snapshot.stocks):
@@ -120,13 +120,13 @@ def book(files, options):
 
 
 def best_of(levels, depth):
-    """The best prices of each side, at most this many."""
+    """Returns the best prices of each side, at most this many."""
     bids, asks = ([it for it in levels if it.side == side] for side in "BS")
     return bids[:depth] + asks[:depth]
 
 
 def values(levels):
-    """Comma-separated values under the names of their columns."""
+    """Returns comma-separated values below the names of their columns."""
     out = io.StringIO()
     written = csv.writer(out, lineterminator="\n")
     written.writerow(Level._fields)
@@ -148,7 +148,7 @@ COMMANDS = {"snap": snap, "check": check, "compare": compare, "canon": canon, "b
 
 
 def answered(command, files, options):
-    """The status, the output and the line on standard error that the program's are compared with."""
+    """Returns the status, the output and the line on standard error to compare with the program's."""
     try:
         output = COMMANDS[command](files, options)
         return int(output.startswith((b"different", b"not", b'{"same":false'))), output, ""
@@ -159,7 +159,7 @@ def answered(command, files, options):
 
 
 def bytes_of(row, command, files):
-    """The bytes of each file of a row: those under its name, or those of standard input. The locates of `book` stay as they are."""
+    """Returns the bytes of each file of a row: the file of that name, or standard input. The locates of `book` stay as they are."""
     names, wanted = (files[1:], 1) if command == "book" else (files, 2 if command in ("compare", "join") else 1)
     names = names + ["-"] * (wanted - len(names))
     given = [common.file(row.get("input", "") if name == "-" else row[os.path.basename(name)]) for name in names]
@@ -172,7 +172,8 @@ def output_of(row):
 
 
 def error_of(row, command):
-    """The line of a row, as the package has it: of a wrong length it knows what is wanted alone, and of a joiner that it has stopped."""
+    """Returns the error line of a row in the wording of the package. For a wrong length it states only the expected one, and for a joiner that it has
+    halted."""
     error = re.sub(r"wrong length for .: (want \d+), got \d+", r"wrong length: \1", row.get("error", "").replace("itchsnap: ", "", 1))
     if command == "join":
         error = re.sub(r"^message (\d+): ", r"message \1: halted: ", error)
@@ -192,7 +193,7 @@ def each_row_of_the_table():
 
 
 def a_text_that_is_no_time():
-    """Each row of `--until` with status 2 is refused as one."""
+    """Each row with `--until` and status 2 is also refused as a time."""
     table = common.read_table("runs.ini")
     times = {name: words_of(table[name])[2]["--until"] for name in table.sections() if name.startswith("a time that is none")
              and words_of(table[name]) and "--until" in words_of(table[name])[2]}

@@ -1,4 +1,4 @@
-"""What the modules of runs share: the program, days to try, and what a call is refused for."""
+"""Helpers for the modules of runs: the program, days to try, and the reasons for which calls are refused."""
 import functools
 import os
 import random
@@ -23,26 +23,26 @@ def example(name):
 
 
 def program(*words, day=b""):
-    """The status of the program and both outputs, given a day on standard input."""
+    """Runs the program with a day on standard input, and returns its status and both outputs."""
     done = subprocess.run([PROGRAM, *words], input=day, capture_output=True, timeout=60)
     return done.returncode, done.stdout, done.stderr.decode()
 
 
 @functools.lru_cache(maxsize=1)
 def generated():
-    """A day of 20,000 messages over 50 symbols, in all states that orders have."""
+    """Returns a day of 20,000 messages over 50 symbols, with orders in all states."""
     return subprocess.run([TOP / "bench/generate", "20000", "50"], stdout=subprocess.PIPE, check=True, timeout=60).stdout
 
 
 def stamped(block, time):
-    """A block whose message has this timestamp."""
+    """Returns a block whose message has this timestamp."""
     return block[:7] + struct.pack(">Q", time)[2:] + block[13:]
 
 
 @functools.lru_cache(maxsize=1)
 def timed():
-    """A day of three stocks from 9:30 to 10:00, whose timestamps mostly rise: some are up to two minutes early, so that a time has messages
-    of before it after its first one. Messages that are not decoded stand among the others."""
+    """Returns a day of three stocks from 9:30 to 10:00, whose timestamps are mostly in order. Some are up to two minutes early, so that
+    messages before a time may follow the first one at that time. There are also messages that are not decoded."""
     rng = random.Random(5)
     day, live, time = [large.entry(locate) for locate in (1, 2, 3)], [], 570 * MINUTE
     for reference in range(1, 6001):
@@ -63,7 +63,7 @@ def timed():
 
 
 def refusal(call, *words, **named):
-    """The reason, the detail and the number that a call is refused with, or None."""
+    """Returns the reason, the detail and the number with which a call is refused, or None."""
     try:
         call(*words, **named)
     except Refused as refused:
@@ -72,7 +72,7 @@ def refusal(call, *words, **named):
 
 
 def raised(call, *words, **named):
-    """The name of the exception that a call raises, or None."""
+    """Returns the name of the exception that a call raises, or None."""
     try:
         call(*words, **named)
     except Exception as error:
@@ -81,7 +81,7 @@ def raised(call, *words, **named):
 
 
 def said(call, *words, **named):
-    """The text of what a call raises, or None."""
+    """Returns the text of the exception that a call raises, or None."""
     try:
         call(*words, **named)
     except Exception as error:
@@ -90,7 +90,7 @@ def said(call, *words, **named):
 
 
 def ran_python(script, *words, **environment):
-    """What a script prints in a Python of its own, away from this checkout unless its path is in the environment."""
+    """Returns the output of a script in a new Python, away from this checkout unless its path is in the environment."""
     with tempfile.TemporaryDirectory() as folder:
         clean = {name: value for name, value in os.environ.items() if not name.startswith("PYTHON")}
         done = subprocess.run([sys.executable, "-B", "-c", script, *map(str, words)], cwd=folder, env={**clean, **environment},

@@ -1,8 +1,8 @@
 """Both ends of a session, row by row of the tables of docs/FORMATS.md.
 
-A packet of the wrong side is none for the library, and leaves a session as it was.
+For the library, a packet of the wrong side is not a packet, and leaves a session unchanged.
 
-RUNS lists the runs. Each is a function that yields the differences.
+RUNS lists the runs: functions that yield the differences found.
 """
 import samples
 from common import differs
@@ -14,7 +14,7 @@ WORDS = {"session": "ITCHSNAP", "now_ms": 0}
 LOGIN = b"Luser  secret    " + b" " * 10 + b"1".rjust(20)
 ACCEPTED = b"A  ITCHSNAP" + b"3".rjust(20)
 LOGINS = [
-    # user, password, session, number; what the server of 4 messages says
+    # user, password, session, number; the answer of a server of 4 messages
     ("user", "secret", "", "3", Received(Event.ACCEPTED, 3)), ("USER", "SECRET", "ITCHSNAP", "5", Received(Event.ACCEPTED, 5)),
     ("user", "secret", "  ITCHSNAP", "", Received(Event.ACCEPTED, 1)), ("user", "secret", "", "0", Received(Event.ACCEPTED, 1)),
     (" user", "secret", "", "1", Received(Event.REJECTED, None, "A")), ("user", "secrets", "", "1", Received(Event.REJECTED, None, "A")),
@@ -32,7 +32,7 @@ def client(start=3):
 
 
 def told(make, *packets):
-    """What a new session answers to the last of these packets, after the others."""
+    """Returns the answer of a new session to the last of these packets, after the others."""
     with make() as session:
         for packet in packets[:-1]:
             session.receive(packet, 1)
@@ -42,7 +42,7 @@ def told(make, *packets):
 
 
 def closes(make, *packets):
-    """Whether a new session is closed after these packets, the last of which may be refused."""
+    """Returns whether a new session is closed after these packets, the last of which may be refused."""
     with make() as session:
         for packet in packets:
             refusal(session.receive, packet, 1)
@@ -50,7 +50,7 @@ def closes(make, *packets):
 
 
 def side(make, accepting, rows):
-    """The rows of a side: a packet, what it is before the login and after it, and whether each closes."""
+    """Checks the rows of a side: a packet, what it means before and after the login, and whether it closes the session."""
     for packet, before, after in rows:
         for name, first, (wanted, closing) in (("before", [], before), ("accepted", [accepting], after)):
             yield from differs(f"{packet[:1]} {name}", told(make, *first, packet), wanted)

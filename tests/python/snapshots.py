@@ -1,6 +1,6 @@
 """`Snapshot`: as a value, as a file, and limited to some locates.
 
-RUNS lists the runs. Each is a function that yields the differences.
+RUNS lists the runs: functions that yield the differences found.
 """
 import copy
 import pickle
@@ -25,7 +25,7 @@ def the_snapshot_of_a_day_is_that_of_the_program():
 
 
 def a_market_may_have_more_than_is_expected():
-    """Positions of a thousand participants, whose snapshot is longer than the room that is first made for it."""
+    """The positions of a thousand participants make the snapshot longer than the buffer that is tried first."""
     position = common.blocks()["POSITION_ABCD"]
     day = common.file("AAPL") + b"".join(position.replace(b"ABCD", b"%04d" % number) for number in range(1000))
     with Market() as market:

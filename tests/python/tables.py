@@ -1,6 +1,6 @@
 """Orders and levels as tables: against the program's output, as sequences, and in numpy, pandas and pyarrow, if installed.
 
-RUNS lists the runs. Each is a function that yields the differences.
+RUNS lists the runs: functions that yield the differences found.
 """
 import csv
 import ctypes
@@ -18,7 +18,7 @@ LOCATES = "1-50"
 
 
 def left_out(what, *modules):
-    """Whether one of these modules is missing, which is said with what is left out."""
+    """Returns whether one of these modules is missing, and if so prints what is skipped."""
     missing = [module for module in modules if importlib.util.find_spec(module) is None]
     if missing:
         print(f"skipped: {what}: no {', no '.join(missing)} here")
@@ -26,21 +26,21 @@ def left_out(what, *modules):
 
 
 def ten_thousandths(price):
-    """A price that the program prints, as the package has it."""
+    """Returns a price that the program prints in the form of the package."""
     dollars, decimals = price.split(".")
     return int(dollars) * 10_000 + int(decimals)
 
 
 def printed_levels(day):
-    """The levels that `book --csv` prints."""
+    """Returns the levels that `book --csv` prints."""
     lines = samples.program("book", LOCATES, "--csv", day=day)[1].decode().splitlines()
     return [Level(int(locate), stock, side, ten_thousandths(price), int(shares), int(orders))
             for locate, stock, side, price, shares, orders in csv.reader(lines[1:])]
 
 
 def printed_orders(snapshot):
-    """The orders that `show --types AF` prints of a snapshot: a line is its number, type, locate, tracking number, timestamp, reference,
-    side, shares, stock, price and participant."""
+    """Returns the orders that `show --types AF` prints for a snapshot. A line contains the number, type, locate, tracking number,
+    timestamp, reference, side, shares, stock, price and participant."""
     rows = []
     for line in samples.program("show", "--types", "AF", day=snapshot)[1].decode().splitlines():
         _, _, locate, _, _, reference, side, shares, stock, price, *mpid = line.split()
@@ -105,7 +105,7 @@ def the_greatest_values_fit():
 
 
 def large_levels():
-    """A table of a level with more shares than 64 bits hold, which no market here has room for."""
+    """Returns a table with a level of more shares than 64 bits can hold. No market that fits into memory here has such a level."""
     array = (PriceLevel * 1)(PriceLevel(5, 1, 2**32, 7))
     return Levels(array, {1: "AAPL"}, [Part(1, "B", 1), Part(1, "S", 1)])
 
@@ -139,7 +139,7 @@ def frames_of_pandas():
     for table, kind in ((snapshot.orders, Order), (snapshot.levels, Level)):
         frame = table.to_pandas()
         yield from differs("columns", tuple(frame.columns), kind._fields)
-        # A missing value is not equal to itself.
+        # A missing value does not equal itself.
         rows = [kind(*(None if value != value else value for value in row)) for row in frame.itertuples(index=False)]
         yield from differs("rows", rows, list(table))
 

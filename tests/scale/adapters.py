@@ -1,6 +1,6 @@
-"""The adapters, over GNU parallel and Dask if installed, and over stand-ins for the parts of them that are used.
+"""The adapters, over GNU parallel and Dask if installed, and over stand-ins for the parts of them that they use.
 
-RUNS lists the runs of each engine. Each is a function that is given a folder and yields the differences.
+RUNS lists the runs of each engine: functions that take a folder and yield the differences found.
 """
 import contextlib
 import csv
@@ -24,7 +24,7 @@ REFUSED, MISSING, USAGE = 1, 3, 2
 
 
 class Engine:
-    """An adapter over an engine, with its words for three jobs at a time."""
+    """An adapter over an engine, with its arguments for three jobs at a time."""
 
     def __init__(self, name, adapter, here, **environment):
         self.name, self.adapter, self.here, self.environment = name, TOP / "scale" / adapter, here, {**os.environ, **environment}
@@ -33,20 +33,20 @@ class Engine:
         return kit.started([self.adapter, *words], stdout=subprocess.PIPE, stderr=subprocess.PIPE, text=True, env=self.environment)
 
     def run(self, *words):
-        """The status of the adapter, its lines, and its errors."""
+        """Runs the adapter, and returns its status, its lines, and its errors."""
         with self.started(*words) as process:
             output, error = process.communicate(timeout=3 * PATIENCE)
         return process.returncode, output.splitlines(), error
 
     def worker_of(self, job):
-        """What has to be killed for a worker that is lost with its job: GNU parallel has no other worker than the job."""
+        """Returns the process to kill so that a worker is lost with its job. In GNU parallel the job is its own worker."""
         return kit.parent_of(job) if self.adapter.name == "on-dask" else job
 
 
 def engines():
-    """The stand-ins, and each engine that is here. Says which is not."""
+    """Yields the stand-ins, and each engine that is installed. Prints which are not."""
     path = f"{STAND_INS / 'bin'}:{os.environ['PATH']}"
-    # On each machine the user has a shell that runs nothing: the lines are not for it. Without a home GNU parallel warns.
+    # The user's shell on each machine runs nothing, since the commands must not depend on it. GNU parallel warns if there is no HOME.
     user = {"PARALLEL_SSH": str(STAND_INS / "bin/here"), "SHELL": "/bin/false", "HOME": os.environ.get("HOME", tempfile.gettempdir())}
     yield Engine("a stand-in for GNU parallel", "on-parallel", ["--jobs", "3"], PATH=path, **user)
     yield Engine("a stand-in for Dask", "on-dask", ["--workers", "3"], PYTHONPATH=str(STAND_INS))
@@ -77,7 +77,7 @@ def does_days_in_parts_with_tables(engine, folder):
 
 
 def sums_differ(lines, tables):
-    """Whether the levels, shares and orders of each table are as Python counts them."""
+    """Yields a difference unless the levels, shares and orders of each table are as Python counts them."""
     for table in tables:
         with open(table, newline="") as file:
             rows = list(csv.DictReader(file))
@@ -87,7 +87,7 @@ def sums_differ(lines, tables):
 
 
 def makes_a_table_after_its_snapshot(engine, folder):
-    """There is a worker for each job, but the table waits, however long its snapshot takes."""
+    """There is a worker for each job, but the table waits for its snapshot, however long that takes."""
     [day], out, watched = days_in(folder, 1), folder / "out", Watched(folder)
     watched.hold()
     with engine.started(*engine.here, "--out", out, "--program", watched.path, "--tables", day) as process:
@@ -105,7 +105,8 @@ def makes_a_table_after_its_snapshot(engine, folder):
 
 @contextlib.contextmanager
 def elsewhere(engine, folder):
-    """The words for workers that are not the adapter's own: two machines by a stand-in for ssh, or those of a scheduler."""
+    """Yields the arguments for workers that are not the adapter's own: two machines through a stand-in for ssh, or those of a
+    scheduler."""
     if engine.adapter.name == "on-parallel":
         engine.environment["HOSTS_NOTED"] = str(folder / "hosts")
         yield ["--on", "2/node1,1/node2"]
@@ -142,7 +143,7 @@ def does_days_on_other_machines(engine, folder):
 
 
 def loses_nothing_with_a_worker(engine, folder):
-    """A worker is killed in the middle of a job. Only that one is done again."""
+    """A worker is killed in the middle of a job. Only that job is done again."""
     days, out, watched = days_in(folder, 6), folder / "out", Watched(folder)
     watched.hold()
     with engine.started(*engine.here, "--out", out, "--program", watched.path, *days) as process:
@@ -159,7 +160,7 @@ def loses_nothing_with_a_worker(engine, folder):
 
 
 def goes_on_after_its_end(engine, folder):
-    """The adapter and its engine are killed in mid-job. The same command does what is missing."""
+    """The adapter and its engine are killed in the middle of a job. The same command then does the remaining jobs."""
     days, out, watched = days_in(folder, 9), folder / "out", Watched(folder)
     words = *engine.here, "--out", out, "--program", watched.path, *days
     with engine.started(*words) as process:
@@ -173,7 +174,7 @@ def goes_on_after_its_end(engine, folder):
     watched.release()
     status, lines, error = engine.run(*words)
     yield from differs("end", (status, lines[-1:]), (0, ["9 results, 0 refused, 0 missing"]))
-    # A job that the engine left behind may have been done meanwhile.
+    # The engine may have left a job running, which may be done by now.
     if len(watched.runs()) > missing or not 0 < missing < len(days) - 1:
         yield f"{len(watched.runs())} runs of the program, where {missing} results were missing"
     for day, snapshot in days.items():
@@ -209,7 +210,7 @@ def refuses_words(engine, folder):
 
 
 def adapters_say_what_is_not_installed(folder):
-    """With a folder of programs in which there is no engine."""
+    """With a PATH that contains no engine."""
     for name in "bash", "dirname", "grep", "python3", "readlink", "env":
         (folder / name).symlink_to(sys.executable if name == "python3" else shutil.which(name))
     for adapter, engine in ("on-parallel", "GNU parallel"), ("on-dask", "Dask"):
@@ -221,7 +222,7 @@ def adapters_say_what_is_not_installed(folder):
 
 
 def each_script_prints_its_usage(folder):
-    """With an engine, which would do what it is given, and without one: nothing is run."""
+    """With an engine that would run any job, and without one. Nothing is run."""
     out, day, parallel = folder / "out", kit.write_day(folder / "day.itch", b""), next(engines())
     scripts = [path for path in (TOP / "scale").iterdir() if path.is_file() and os.access(path, os.X_OK)]
     yield from differs("scripts", sorted(path.name for path in scripts), ["job", "on-dask", "on-parallel"])
@@ -235,7 +236,7 @@ def each_script_prints_its_usage(folder):
             done = subprocess.run(words, env=environment, capture_output=True, text=True, timeout=PATIENCE)
             if (done.returncode, done.stdout[:7], done.stderr) != (0, "usage: ", "") or "made" in done.stdout:
                 yield f"{words}: {done}"
-    # A usage error prints no line of a plan, so the engine gets none.
+    # After a usage error no line of a plan is printed, so the engine receives none.
     for words in [TOP / "scale/job", "plan"], [TOP / "scale/on-parallel"], [TOP / "scale/on-dask"]:
         done = subprocess.run([*words, "--he", "--out", out, day], env=parallel.environment, capture_output=True, text=True)
         yield from differs(f"{words} --he", (done.returncode, done.stdout), (USAGE, ""))
@@ -243,7 +244,7 @@ def each_script_prints_its_usage(folder):
 
 
 def run_of(engine, run):
-    """A run over one engine."""
+    """Returns a run over one engine."""
     def of_engine(folder):
         return run(engine, folder)
     of_engine.__name__ = f"{engine.name} {run.__name__}"

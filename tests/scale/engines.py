@@ -1,6 +1,6 @@
 """Jobs of many days at a time, by `xargs` and by processes of Python's own, which are killed and resumed.
 
-RUNS lists the runs. Each is a function that is given a folder and yields the differences.
+RUNS lists the runs: functions that take a folder and yield the differences found.
 """
 import os
 import random
@@ -19,19 +19,19 @@ XARGS = "xargs", "-d", "\\n", "-P", "3", "-I{}", "sh", "-c", "{}"
 
 
 def results_differ(out, days):
-    """Whether the result of each day is there, and is the snapshot that was worked out for it."""
+    """Yields a difference unless the result of each day exists and equals the snapshot computed for it."""
     for day, snapshot in days.items():
         yield from differs(f"result of {day.name}", bytes_of(out / name_of(day) / "end.snap"), snapshot)
     yield from differs("report", job("report", "--out", out, *days), Ended(0, f"{len(days)} results, 0 refused, 0 missing\n", ""))
 
 
 def whole_results(out):
-    """How many results are there, with their manifests."""
+    """Returns how many results exist, with their manifests."""
     return len(list(out.glob("*/*.json")))
 
 
 def torn_results(out):
-    """Results whose size is not that of their manifest: under a name there is a complete file or none."""
+    """Returns results whose size is not that of their manifest. A file must be complete or missing."""
     return [path.name for path in out.glob("*/*.snap") if path.with_name(f"{path.name}.json").exists()
             and manifest(path)["result"]["bytes"] != path.stat().st_size]
 
@@ -47,7 +47,7 @@ def xargs_does_a_plan(folder):
 
 
 class Workers:
-    """An engine of three workers, each of which does a job as a command and tries one that fails up to this many times."""
+    """An engine of three workers. Each runs a job as a command, and retries a failed one up to this many times."""
 
     def __init__(self, tries):
         self.tries, self.running, self.tried = tries, set(), 0
@@ -69,7 +69,7 @@ class Workers:
 
 
 def workers_that_are_killed_lose_nothing(folder):
-    """Jobs are killed at times of chance, in whatever they do, about one in two. Meanwhile no result is torn."""
+    """About half of the jobs are killed at random times, whatever they are doing. Meanwhile no result is incomplete."""
     days, out = days_in(folder, 12, orders=3000), folder / "out"
     begin = time.monotonic()
     job("snapshots", "--out", folder / "tried", [*days][0])
@@ -102,7 +102,8 @@ def workers_that_are_killed_lose_nothing(folder):
 
 
 def a_driver_that_is_killed_is_gone_on_with(folder):
-    """The engine and all that it started are killed in mid-job. Started again, it does what is missing and nothing else."""
+    """The engine and everything that it started are killed in the middle of a job. When restarted, it does the remaining jobs and nothing
+    else."""
     days, out, watched = days_in(folder, 12), folder / "out", Watched(folder)
     plan = job("plan", "--out", out, "--program", watched.path, *days).output
     with kit.started(XARGS, stdin=subprocess.PIPE, stdout=subprocess.DEVNULL, stderr=subprocess.DEVNULL, text=True) as driver:
@@ -126,7 +127,7 @@ def a_driver_that_is_killed_is_gone_on_with(folder):
 
 
 def a_job_that_goes_on_beside_its_retry_does_no_harm(folder):
-    """The engine takes a job for lost, and does it again, while it continues."""
+    """The engine believes that a job is lost, and runs it again while the first one continues."""
     [(day, snapshot)] = days_in(folder, 1).items()
     watched = Watched(folder)
     line = job("plan", "--out", folder / "out", "--program", watched.path, day).output

@@ -1,4 +1,4 @@
-"""What the runs of scale/ share: days, `scale/job`, and a program that can be stopped in the middle of a job."""
+"""Helpers for the runs of scale/: days, `scale/job`, and a program that can be stopped in the middle of a job."""
 import contextlib
 import json
 import os
@@ -17,8 +17,8 @@ JOB = TOP / "scale/job"
 PROGRAM = TOP / "release/itchsnap"
 PATIENCE = 60
 
-# The program, noting each run, and each job that asks for its version. While there is a file `hold` it stops in the middle of its output,
-# and `held` has its number and the job's.
+# The program, except that it notes each run, and each job that asks for its version. While a file `hold` exists, it stops in the middle
+# of its output, and writes its process number and that of the job to `held`.
 WATCHED = """#!/bin/bash
 if [[ $1 == --version ]]; then
     echo $PPID >>{folder}/jobs
@@ -48,18 +48,18 @@ class Ended(NamedTuple):
 
 
 def job(*words):
-    """What `scale/job` ends with."""
+    """Runs `scale/job`, and returns how it ended."""
     done = subprocess.run([JOB, *map(str, words)], capture_output=True, text=True, stdin=subprocess.DEVNULL, timeout=PATIENCE)
     return Ended(done.returncode, done.stdout, done.stderr)
 
 
 def program(*words):
-    """What the program prints."""
+    """Returns the output of the program."""
     return subprocess.run([PROGRAM, *map(str, words)], capture_output=True, check=True, timeout=PATIENCE).stdout
 
 
 def write_day(path, day):
-    """Writes a day file, compressed as its suffix says."""
+    """Writes a day file, compressed according to its suffix."""
     if path.suffix == ".gz":
         day = zlib.compress(day, level=1, wbits=31)
     elif path.suffix == ".zst":
@@ -69,12 +69,12 @@ def write_day(path, day):
 
 
 def generated(messages, symbols, *more):
-    """A day of `bench/generate`."""
+    """Returns a day of `bench/generate`."""
     return subprocess.run([TOP / "bench/generate", *map(str, (messages, symbols, *more))], capture_output=True, check=True).stdout
 
 
 def days_in(folder, count, orders=300):
-    """Days plain, .gz and .zst in turn, each with the bytes of its snapshot, which are worked out without the program."""
+    """Returns days that are plain, .gz and .zst in turn, each with the bytes of its snapshot, which are computed without the program."""
     (folder / "days").mkdir()
     days = {}
     for number in range(count):
@@ -109,7 +109,7 @@ def wait_until(holds, what):
 
 
 def runs_on(process):
-    """Whether a process of this number is there, and is not one that ended and was not waited for."""
+    """Returns whether there is a process with this number that is not a zombie."""
     try:
         return Path(f"/proc/{process}/stat").read_text().rpartition(")")[2].split()[0] != "Z"
     except FileNotFoundError:
@@ -126,7 +126,7 @@ def kill(process):
 
 @contextlib.contextmanager
 def started(words, **more):
-    """A process with all that it starts, of which nothing is left at the end."""
+    """Yields a process. Kills it and everything that it started in the end."""
     with subprocess.Popen([*map(str, words)], start_new_session=True, **more) as process:
         try:
             yield process
@@ -136,7 +136,7 @@ def started(words, **more):
 
 
 class Watched:
-    """A program in a folder of its own, as WATCHED has it."""
+    """A program in a folder of its own, which behaves like WATCHED."""
 
     def __init__(self, folder):
         self.folder = folder / "watched"
@@ -150,11 +150,11 @@ class Watched:
         return noted.read_text().splitlines() if noted.exists() else []
 
     def runs(self):
-        """The words of each run so far."""
+        """Returns the arguments of each run so far."""
         return self.noted("runs")
 
     def jobs(self):
-        """The number of each job so far."""
+        """Returns the process number of each job so far."""
         return self.noted("jobs")
 
     def forget(self):
@@ -167,7 +167,7 @@ class Watched:
         (self.folder / "hold").unlink()
 
     def held(self):
-        """The numbers of a program that is stopped and of its job, once there is one."""
+        """Waits for a stopped program, and returns its process number and that of its job."""
         [found, *_] = wait_until(lambda: list(self.folder.glob("held.*")), "a job is held")
         numbers = tuple(map(int, found.read_text().split()))
         found.unlink()

@@ -1,6 +1,6 @@
 """Days in parts, which together are the complete day, and tables of price levels.
 
-RUNS lists the runs. Each is a function that is given a folder and yields the differences.
+RUNS lists the runs: functions that take a folder and yield the differences found.
 """
 import subprocess
 
@@ -16,7 +16,7 @@ BOOK = TOP / "examples/book.itch"
 
 
 def done(*words):
-    """Does the jobs of a plan one after the other. Returns their lines and the report's."""
+    """Runs the jobs of a plan one after the other. Returns their lines and the report's."""
     lines = subprocess.run(["bash", "-c", job("plan", *words).output], capture_output=True, text=True)
     return lines.stdout + lines.stderr, job("report", *words)
 
@@ -44,7 +44,7 @@ def a_part_has_its_locates_alone(folder):
 
 
 def what_no_part_sees_is_refused_by_the_check(folder):
-    """A reference is live at two locates, each of which another part has."""
+    """A reference is live at two locates, which belong to different parts."""
     twice = large.block(b"A", 2, (1).to_bytes(8, "big") + b"B" + (100).to_bytes(4, "big") + b"MSFT    " + (1500000).to_bytes(4, "big"))
     day = write_day(folder / "day.itch", file("AAPL MSFT BUY_1") + twice)
     refusal = "message 4: duplicate reference"

@@ -1,6 +1,6 @@
 """Plans of jobs, reports on them, and usage errors.
 
-RUNS lists the runs. Each is a function that is given a folder and yields the differences.
+RUNS lists the runs: functions that take a folder and yield the differences found.
 """
 import os
 import shlex

@@ -1,6 +1,6 @@
 """Jobs of one day: their results, when a result is made again, and days that are refused or cannot be read.
 
-RUNS lists the runs. Each is a function that is given a folder and yields the differences.
+RUNS lists the runs: functions that take a folder and yield the differences found.
 """
 import contextlib
 import gzip
@@ -91,7 +91,7 @@ def points_of_one_kind_are_one_pass(folder):
 
 
 def times_have_fractions_of_any_length(folder):
-    """In one pass over several times; the messages come each millisecond."""
+    """In one pass over several times. There is a message every millisecond."""
     blocks = split(large.orders(30, symbols=5)[0])
     data = b"".join(it[:7] + (number * 10**6).to_bytes(6, "big") + it[13:] for number, it in enumerate(blocks))
     day, points = write_day(folder / "day.itch", data), ("00:00:00.01", "00:00:00.0205", "00:00:01")
@@ -102,7 +102,7 @@ def times_have_fractions_of_any_length(folder):
 
 
 def what_is_not_on_the_disk_is_not_there(folder):
-    """Where a result or its manifest cannot be synced, the job fails, and the next one makes it."""
+    """If a result or its manifest cannot be synced, the job fails, and the next job makes it."""
     shim = failing.build_shim(folder)
     day, out = write_day(folder / "day.itch", large.orders(50, symbols=5)[0]), folder / "out"
     for nth in 1, 2:
@@ -113,7 +113,7 @@ def what_is_not_on_the_disk_is_not_there(folder):
     yield from differs("again", snapshots(out, day), Ended(0, "made day/end.snap\n", ""))
 
 
-# Changes in the text of a manifest.
+# Changes to the text of a manifest.
 CHANGES = {
     "without a result": ('"result"', '"other"'),
     "without a size": ('"result": {', '"result": 7, "other": {'),
@@ -127,7 +127,7 @@ CHANGES = {
 
 
 def harmed(result):
-    """Ways in which a result or its manifest may be harmed, each with what does it."""
+    """Yields ways to damage a result or its manifest, each with a function that does it."""
     beside = result.with_name(f"{result.name}.json")
     whole, told = result.read_bytes(), beside.read_text()
     middle = len(whole) // 2
@@ -175,7 +175,7 @@ def another_day_or_program_makes_it_again(folder):
 
 def a_refused_day_is_an_answer(folder):
     watched = Watched(folder)
-    # The rest is more than a pipe holds: the decompressor is ended by SIGPIPE.
+    # The rest is larger than a pipe's buffer, so the decompressor is ended by SIGPIPE.
     rest = large.orders(20000, symbols=5)[0]
     for suffix in "", ".gz", ".zst":
         day, out = write_day(folder / f"day.itch{suffix}", REFUSED_DAY + rest), folder / f"out{suffix}"
@@ -215,7 +215,7 @@ def a_day_without_messages_is_refused(folder):
 
 
 def cut_between_messages(data, messages):
-    """A .gz that is cut where what comes out of it is complete messages."""
+    """The .gz is cut, but the part that can be decompressed consists of complete messages."""
     packer = zlib.compressobj(wbits=31)
     return packer.compress(messages) + packer.flush(zlib.Z_FULL_FLUSH), packer.compress(data[len(messages):]) + packer.flush()
 
@@ -225,7 +225,7 @@ def a_cut_day_is_a_failure_until_it_is_whole(folder):
     begun, rest = cut_between_messages(data, b"".join(large.entry(locate) for locate in range(1, 21)))
     bad_sum = gzip.compress(data)[:-8] + bytes(8)
     whole_zst = subprocess.run(["zstd", "-qc"], input=data, capture_output=True, check=True).stdout
-    # The output of the first one looks like a day to the program, so a pipe has to pass the failure on.
+    # The output of the first command looks like a day to the program, so the pipeline must pass the failure on.
     seen = subprocess.run(["bash", "-c", f"gzip -dc | {PROGRAM} check"], input=begun, capture_output=True).stdout
     yield from differs("the program over a cut .gz", seen, b"ok 20 messages\n")
     for name, cut, whole in (("one.gz", begun, begun + rest), ("two.gz", gzip.compress(data)[:-9], gzip.compress(data)),
@@ -258,7 +258,7 @@ def failures_leave_nothing(folder):
         status, output, error = snapshots(out, *words)
         if (status, output) != (3, "") or "No such file" not in error:
             yield f"without {label}: {status}, {output!r}, {error!r}"
-    # Without a decompressor: nothing is on this path but Python.
+    # There are no decompressors: this PATH contains only Python.
     (folder / "bin").mkdir()
     (folder / "bin/python3").symlink_to(shutil.which("python3"))
     packed = write_day(folder / "packed.itch.zst", b"")
@@ -278,7 +278,8 @@ def the_other_points_are_made_where_one_fails(folder):
 
 @contextlib.contextmanager
 def held_job(folder, *before, after=()):
-    """A job that is stopped in the middle, with its watched program, the numbers of both, and the snapshot that it should make."""
+    """Yields a job that is stopped in the middle, with its watched program, the process numbers of both, and the snapshot that it should
+    make."""
     watched = Watched(folder)
     data, snapshot = large.orders(300, symbols=20)
     day = write_day(folder / "day.itch.gz", data)
@@ -289,7 +290,7 @@ def held_job(folder, *before, after=()):
 
 
 def there(folder):
-    """The results in a folder, without those of attempts."""
+    """Returns the results in a folder, without those of attempts."""
     return sorted(path.name for path in (folder / "out/day").iterdir() if not path.name.startswith("."))
 
 
@@ -313,7 +314,7 @@ def a_job_ends_with_its_parent_where_that_is_asked_for(folder):
     for words, ends in ((("--with-parent",), True), ((), False)):
         room = folder / str(ends)
         room.mkdir()
-        # The shell has something to do after the job, so that it is the job's parent.
+        # The shell has a command after the job, so that it remains the job's parent.
         with held_job(room, "bash", "-c", '"$@"; true', "bash", after=words) as (watched, process, (program, number), _):
             process.kill()
             process.wait()

@@ -1,4 +1,4 @@
-"""What a run of `rt ci` beside this one has proved so far: its libraries."""
+"""The libraries that a concurrent run of `rt ci` has proved so far."""
 import contextlib
 import os
 import re
@@ -8,7 +8,7 @@ from pathlib import Path
 
 from kit import rt
 
-# What rt ci says of a crate that it has proved, now or in an earlier run: its library is there then.
+# The line that rt ci prints for a crate that it has proved, now or in an earlier run. Its library then exists.
 PROVED = re.compile(r"^rt: (\w+) (?:proved|is kept: .*)$", re.MULTILINE)
 
 
@@ -28,7 +28,7 @@ class Turns:
     def turn(self):
         """Waits for a turn, and keeps it until the task has ended."""
         with self.changing:
-            # (nobody says when rt ci has ended)
+            # (nothing signals the end of rt ci)
             while not self.changing.wait_for(self.is_free, timeout=1):
                 pass
             self.running += 1
@@ -41,7 +41,7 @@ class Turns:
 
 
 class Proofs:
-    """Follows the log of `rt ci`, and takes copies of what it makes: as it ends, it may put older libraries in place of its own."""
+    """Follows the log of `rt ci`, and copies the libraries that it makes: when it ends, it may replace them with older ones."""
 
     def __init__(self, log, crates, room):
         self.log = Path(log)
@@ -64,7 +64,7 @@ class Proofs:
             self.have_ended = True
 
     def look(self):
-        """Takes what was made since the last look."""
+        """Copies the libraries made since the last look."""
         said = self.log.read_text(encoding="utf-8", errors="replace")
         for name in PROVED.findall(said):
             if name not in self.seen:
@@ -72,7 +72,7 @@ class Proofs:
                 (self.proved if self.take_library(self.crates[name]) else self.lost).add(name)
 
     def take_library(self, crate):
-        """Has checks use a copy of the library, and returns whether it is that of rt ci, which writes no stamp, as other checks do."""
+        """Makes checks use a copy of the library. Returns whether it is from rt ci, which, unlike other checks, writes no stamp."""
         if not crate.makes_rlib():
             return True
         to = f"{self.room}/libraries/{crate.name}"
@@ -86,7 +86,7 @@ class Proofs:
         return True
 
     def leave(self):
-        """Has checks use the libraries in the crates' own folders again."""
+        """Makes checks use the libraries in the crates' own folders again."""
         for it in self.crates.values():
             it.rlib = f"{it.folder}/out/rlib/{it.name}.rlib"
 

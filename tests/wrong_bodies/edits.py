@@ -1,17 +1,18 @@
-"""A wrong body in `crates/NAME/wrong`, and which of them can be tried together."""
+"""The wrong bodies (edits) in `crates/NAME/wrong`, and which of them can be tried together."""
 from collections import Counter
 from dataclasses import dataclass, field
 from pathlib import Path
 
 from kit import rt
 
-# A check costs some seconds before it comes to the first edit, and those of one round have one processor.
+# A check takes some seconds before it reaches the first edit, and the edits of one round share one processor.
 MOST_IN_A_ROUND = 20
 
 
 @dataclass(frozen=True)
 class Edit:
-    """An edit's file, the functions that it changes, as rattle names them below the crate, and their files. The prover must refuse one of them."""
+    """An edit's file; the functions that it changes, as rattle names them below the crate; and their files. The prover must refuse one of the
+    functions."""
 
     path: Path
     functions: tuple[str, ...]
@@ -31,7 +32,8 @@ class Round:
     texts: dict[str, str] = field(default_factory=dict)
 
     def takes(self, edit, folder):
-        """Adds the edit, and returns whether it could: its functions are none of the round's, and its texts are there once."""
+        """Adds the edit, and returns whether that was possible: the round must have none of its functions, and each text that it replaces must
+        occur once."""
         if self.functions & {*edit.functions}:
             return False
         texts = applied(edit, folder, self.texts)
@@ -56,7 +58,7 @@ def read(path):
 
 
 def applied(edit, folder, before):
-    """Returns the texts once the edit is made over those of before, or None where it cannot be, or changes more than src/."""
+    """Returns the texts after the edit, given those before. Returns None if it cannot be made, or changes files outside src/."""
     texts, path, old = dict(before), "", ""
     for line in edit.path.read_text(encoding="utf-8").split("\n"):
         if line.startswith("file: "):
@@ -72,13 +74,13 @@ def applied(edit, folder, before):
 
 
 def rounds_of(edits, folder):
-    """Returns rounds with every edit that applies and names a function, about as many in each, and the edits that are to be tried alone."""
+    """Returns rounds of about the same size that contain every edit that applies and names a function, and the edits that must be tried alone."""
     fit = [it for it in edits if it.functions and not rt.read_edit(str(it.path), folder)[1]]
     alone = [it for it in edits if it not in fit]
     edits_in = Counter(function for it in fit for function in it.functions)
     number = max([-(-len(fit) // MOST_IN_A_ROUND), *edits_in.values()])
     rounds = [Round() for _ in range(number)]
-    # (those of the functions with most edits first: each needs a round of its own)
+    # (begins with the functions that have the most edits, since each edit of a function needs a round of its own)
     for edit in sorted(fit, key=lambda it: -max(edits_in[function] for function in it.functions)):
         smallest = sorted(rounds, key=lambda it: len(it.edits))
         if not any(it.takes(edit, folder) for it in smallest):

@@ -1,4 +1,5 @@
-"""The toolchain's own `rt`, as modules: the words of a check and the test of an edit are rt's, and not written a second time."""
+"""The toolchain's own `rt`, as modules. The arguments of a check and the test of an edit come from rt, and are not duplicated
+here."""
 import importlib.machinery
 import importlib.util
 import os
@@ -16,7 +17,7 @@ def load(name, path):
 
 
 def load_rt():
-    """Loads rt from beside the page that `rt doc` names."""
+    """Loads rt from the folder of the page that `rt doc` names."""
     try:
         page = subprocess.run(["rt", "doc"], capture_output=True, text=True, check=True).stdout.strip()
     except (OSError, subprocess.CalledProcessError) as error:

@@ -1,4 +1,4 @@
-"""`edits.record`: what each edit rested on when the prover last refused it."""
+"""`edits.record`: a hash of everything on which the refusal of each edit depended when the prover last refused it."""
 import hashlib
 import os
 import re
@@ -10,13 +10,13 @@ from kit import toolchain_line
 HERE = Path(__file__).resolve().parent
 TOP = HERE.parent.parent
 FILE = HERE / "edits.record"
-# What decides whether an edit was refused.
+# The files that decide whether an edit was refused.
 JUDGE = HERE / "checking.py"
 WRITING = threading.Lock()
 
 
 def text_that_counts(path):
-    """Returns what a check reads of a file: no lines that are all comment (`//`, `///`, `//!`, `--`), nor blank ones."""
+    """Returns the part of a file that a check reads: without blank lines and comment lines (`//`, `///`, `//!`, `--`)."""
     lines = path.read_bytes().split(b"\n")
     mark = {".rt": b"//", ".antt": b"--", ".py": b"#"}.get(path.suffix)
     if not mark:
@@ -30,12 +30,13 @@ def files_below(folder):
 
 
 def traits(folder):
-    """Returns the sources below a folder that declare a trait, whose contracts its impls meet."""
+    """Returns the sources below a folder that declare a trait, whose contracts its impls must meet."""
     return [it for it in files_below(folder) if re.search(rb"^(pub )?trait ", it.read_bytes(), re.MULTILINE)]
 
 
 def files_behind(crate, edit):
-    """Returns the files that an edit's refusal rests on first: the edit, what it changes, its functions' proofs, and the crate's traits and definitions."""
+    """Returns the files on which an edit's refusal mainly depends: the edit, the files that it changes, the proofs of its functions, and the crate's
+    traits and definitions."""
     folder = Path(crate.folder)
     found = [JUDGE, edit.path, *(folder / it for it in edit.files)]
     for function in edit.functions:
@@ -44,7 +45,7 @@ def files_behind(crate, edit):
 
 
 def hash_of(crate, edit):
-    """Hashes the toolchain, and the files that an edit's refusal rests on first."""
+    """Hashes the toolchain, and the files on which an edit's refusal mainly depends."""
     found = hashlib.sha256(toolchain_line().encode())
     for it in files_behind(crate, edit):
         found.update(f"{it.relative_to(TOP)} {hashlib.sha256(text_that_counts(it)).hexdigest()}\n".encode())
@@ -60,14 +61,14 @@ def is_there(name):
 
 
 def lines():
-    """Returns the hash at which each edit was last refused, by `CRATE/NAME`."""
+    """Returns the hash with which each edit was last refused, by `CRATE/NAME`."""
     if not FILE.is_file():
         return {}
     return dict(it.split() for it in FILE.read_text(encoding="utf-8").splitlines()[1:])
 
 
 def write(hashes):
-    """Records these edits by their hashes, and forgets those that have none, or no file. Other edits' lines stay."""
+    """Records these edits with their hashes, and removes those that have no hash or no file. The lines of other edits stay."""
     with WRITING:
         rows = [f"{it} {text}" for it, text in sorted({**lines(), **hashes}.items()) if text and is_there(it)]
         beside = FILE.with_name(f"{FILE.name}.{os.getpid()}")

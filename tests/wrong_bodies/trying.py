@@ -1,4 +1,4 @@
-"""Tries edits of one crate, in rounds and then alone, as tasks that run side by side."""
+"""Tries the edits of one crate, in rounds and then alone, as parallel tasks."""
 import contextlib
 import os
 import re
@@ -11,17 +11,17 @@ from edits import Round, rounds_of
 from kit import rt
 
 ONE_JOB = ["--jobs", "1"]
-# The lines of a crate that take about as long to check as one edit of it: a round with more edits begins earlier.
+# The number of lines of a crate that take about as long to check as one edit of it. A round with more edits begins earlier.
 LINES_OF_AN_EDIT = 150
-# What rattle says of a goal that has no answer, where a proof file answers others.
+# Rattle's message about a goal without an answer, when a proof file answers others.
 UNPROVED = re.compile(r"^note: (src/\S+:\d+:\d+: it is not proved that .*)", re.MULTILINE)
-# What rattle says of a name that no function has.
+# Rattle's message about a name that no function has.
 UNKNOWN = re.compile(r"has no function `([^`]+)`")
 
 
 @dataclass(frozen=True)
 class Outcome:
-    """What came of one edit."""
+    """The result of one edit."""
 
     name: str
     refused: bool
@@ -45,7 +45,8 @@ def in_round(crate, label, ran, together):
 
 
 def unproved(ran, edit, together):
-    """Returns the outcome of the only edit of a round, if a goal lacks its proof: whose goal it is need not be told then."""
+    """Returns the outcome of the only edit of a round, if a goal lacks its proof. With one edit, it does not matter whose goal it
+    is."""
     goal = UNPROVED.search(ran.stdout)
     if not goal or not reached_the_prover(ran, together.texts):
         return {}
@@ -53,9 +54,10 @@ def unproved(ran, edit, together):
 
 
 def by_itself(crate, edit):
-    """Tries an edit as `rt must-fail` does, from nothing.
+    """Tries an edit from scratch, as `rt must-fail` does.
 
-    It is refused if the prover says so of a contract: not by a limit of its own, and not only since a proof file names what is gone."""
+    It counts as refused if the prover refuses a contract, not if the prover reaches a limit, or if only a proof file names what is
+    gone."""
     kind, text = rt.must_fail(crate, str(edit.path), ONE_JOB)
     refused = kind == rt.REFUSED and "only because a proof file names" not in text
     return Outcome(edit.name, refused, f"alone: {text.partition(': ')[2]}")
@@ -63,7 +65,7 @@ def by_itself(crate, edit):
 
 @contextlib.contextmanager
 def copy_of(seed, name):
-    """Gives a copy of the seed next to it, for one check."""
+    """Yields a copy of the seed, next to it, for one check."""
     over = f"{os.path.dirname(seed)}/{name}"
     rt.linked(seed, over)
     try:
@@ -73,7 +75,8 @@ def copy_of(seed, name):
 
 
 class Tries:
-    """The tries of some edits of one crate, each over a copy of the seed: what a check of their functions, as they stand, proved."""
+    """The tries of some edits of one crate. Each uses a copy of the seed, which is the result of checking their functions without the
+    edits."""
 
     def __init__(self, crate, edits, checker: Checker):
         self.crate = crate
@@ -86,7 +89,7 @@ class Tries:
         self.unknown = ""
 
     def tasks(self, end):
-        """Returns the tasks as rt runs them side by side. The last one calls `end` with the outcomes."""
+        """Returns the tasks in the form that rt runs in parallel. The last one calls `end` with the outcomes."""
         name, lines, memory = self.crate.name, self.crate.count(rb"\n"), rt.need(self.crate)
         seed, rounds = (name, "proof"), [(name, "round", number) for number in range(1, len(self.rounds) + 1)]
         found = {seed: ([], lines, memory, lambda _given, jobs: self.make_seed(jobs))}
@@ -98,7 +101,7 @@ class Tries:
         return found
 
     def make_seed(self, jobs):
-        """Proves the edits' functions as they stand: a function that is refused later is so because of its edit."""
+        """Proves the functions without the edits, so that a later refusal of one is due to its edit."""
         seed = f"{self.room.name}/seed"
         os.mkdir(seed)
         functions = {function for it in self.rounds for function in it.functions}
@@ -117,9 +120,9 @@ class Tries:
             return in_round(self.crate, label, self.checker.checked(self.crate, together.texts, flags, over), together)
 
     def end(self, rounds):
-        """Returns the outcomes of all edits, once the rounds have ended: what was not clearly refused is tried alone."""
+        """Returns the outcomes of all edits after the rounds. Edits that were not clearly refused are tried alone."""
         found = {edit: it for outcomes in rounds for edit, it in outcomes.items()}
-        # (the copies share files with the seed, which a check replaces and does not change)
+        # (the copies share files with the seed, which a check replaces but does not modify)
         if self.seed and rt.listing(self.seed) != self.files:
             found, self.seed = {}, None
         tried = [found.get(it) or self.alone(it) for it in self.edits]
@@ -127,7 +130,7 @@ class Tries:
         return tried
 
     def alone(self, edit):
-        """Tries an edit in a round of its own, and by itself where that does not clearly refuse it."""
+        """Tries an edit in a round of its own, and from scratch if that does not clearly refuse it."""
         if self.unknown:
             return Outcome(edit.name, False, f"not tried: an edit names {self.unknown}, which is no function")
         together = Round()

@@ -1,5 +1,5 @@
-"""Stands in for Dask's `distributed`, for what scale/on-dask uses of it. A worker is a process that does one try of one task, and a
-scheduler's address is how many workers it has."""
+"""Stands in for the parts of Dask's `distributed` that scale/on-dask uses. A worker is a process that makes one try of one task,
+and the address of a scheduler is its number of workers."""
 import os
 import pickle
 import queue
@@ -7,7 +7,8 @@ import threading
 
 
 def in_a_worker(function, values):
-    """What a function returns in a process of its own, or the fault that it raises; a fault too where the process is killed."""
+    """Returns the result of a function in a process of its own, or raises its exception; also raises one if the process is
+    killed."""
     read, write = os.pipe()
     worker = os.fork()
     if worker == 0:
