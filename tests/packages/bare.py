@@ -78,7 +78,7 @@ def kept(kind):
     archive = KEPT / f"{SUITE}-{kind}.tar"
     if not archive.exists():
         if not may_be_made:
-            raise Skipped(f"there is no {archive}: tests/packages/run without --quick makes it")
+            raise Skipped(f"{archive} does not exist: tests/packages/run without --quick makes it")
         need("debootstrap")
         KEPT.mkdir(parents=True, exist_ok=True)
         with tempfile.TemporaryDirectory(dir=KEPT) as name:
@@ -99,7 +99,7 @@ def unpacked(kind, root):
 def debian(kind):
     """Yields a new system, with a day file, the C caller and all packages in /srv/day."""
     if os.geteuid() != 0:
-        raise Skipped("only root enters another system")
+        raise Skipped("only root can enter another system")
     need("unshare", "chroot", "tar")
     with tempfile.TemporaryDirectory() as name:
         root = Path(name) / "root"

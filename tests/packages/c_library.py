@@ -37,9 +37,9 @@ void rattle_realloc(void) {}
 def no_compiler_warns_of_the_header():
     found = [(language, it) for language, them in COMPILERS.items() for it in them if shutil.which(it)]
     for it in sorted({it for them in COMPILERS.values() for it in them} - {it for _, it in found}):
-        print(f"skipped: what {it} says of the header: no {it} here")
+        print(f"skipped: the header with {it}: {it} is not installed")
     if not found:
-        raise Skipped("no compiler here")
+        raise Skipped("no compiler is installed")
     with tempfile.TemporaryDirectory() as name:
         for language, compiler in found:
             source = Path(name) / "caller.c"

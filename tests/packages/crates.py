@@ -54,7 +54,7 @@ def the_crates_pass_their_tests_without_a_warning():
 def clippy_has_no_warning_of_the_crates():
     with target() as folder:
         if cargo(folder, "clippy", "--version")[0]:
-            raise Skipped("cargo has no clippy here")
+            raise Skipped("clippy is not installed")
         status, said = cargo(folder, "clippy", "--offline", "--all-targets", "--", "-D", "warnings")
         if status:
             yield said

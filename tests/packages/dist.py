@@ -27,8 +27,8 @@ def the_packages_are_those_of_the_release():
     if (DIST / "SHA256SUMS").read_text() == (folder / "SHA256SUMS").read_text():
         return
     if (DIST / "TOOLS").read_text() != (folder / "TOOLS").read_text():
-        raise Skipped("the checksums differ, and so do the tools that packed, which are those of release/dist/TOOLS")
-    yield "release/dist is of another release or of other files: run ./make-release, or if only they changed, tools/pack release/dist"
+        raise Skipped("the checksums differ, but the packages were made by other tools (release/dist/TOOLS)")
+    yield "release/dist is out of date: run ./make-release or, if only packed files have changed, tools/pack release/dist"
 
 
 def the_checksums_are_of_each_package():
@@ -85,7 +85,7 @@ def the_archive_has_the_program_and_what_belongs_to_it():
                                                        "share/zsh/site-functions/_itchsnap", *SERVICE]))
     yield from differs("others", [it for it, file in SERVICE.items() if files.get(it) != (TOP / file).read_bytes()], [])
     if files["bin/itchsnap"] != (RELEASE / "itchsnap").read_bytes():
-        yield "the program is not that of release/"
+        yield "the program differs from release/itchsnap"
 
 
 def the_package_has_a_unit_and_starts_nothing():

@@ -21,7 +21,7 @@ class Skipped(Exception):
 def need(*tools):
     """Skips the run if a tool is missing."""
     if missing := [it for it in tools if not shutil.which(it)]:
-        raise Skipped(f"no {', no '.join(missing)} here")
+        raise Skipped(f"not installed: {', '.join(missing)}")
 
 
 def ran(*words, folder=None, timeout=600, **environment):

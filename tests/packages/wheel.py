@@ -18,7 +18,7 @@ def environment(folder):
         if shutil.which(python) and ran(python, "-m", "venv", folder)[0] == 0:
             return folder / "bin/python"
         shutil.rmtree(folder, ignore_errors=True)
-    raise Skipped("no Python here makes virtual environments: Debian has that in python3-venv")
+    raise Skipped("no Python that can make virtual environments is installed: on Debian, install python3-venv")
 
 
 def the_wheel_installs_without_an_index_and_without_a_build():

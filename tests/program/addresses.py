@@ -22,7 +22,7 @@ def named(label):
     """Yields a folder whose file `hosts` gives the host its addresses, and the prefix with which a command sees that file. Yields None if this
     machine cannot do that."""
     if subprocess.run([*ALONE, "true"], stderr=subprocess.DEVNULL).returncode != 0:
-        print(f"skipped: {label}: no namespaces of its own here")
+        print(f"skipped: {label}: this machine does not allow namespaces")
         yield None
         return
     with folder_with(hosts=HOSTS) as folder:

@@ -45,7 +45,7 @@ def failing_in_turn(attempt, kinds):
                 for nth, (differences, has_failed) in zip(numbers, side_by_side.map(functools.partial(attempt, kind), numbers)):
                     yield from (f"{kind} {nth}: {it}" for it in differences)
                     if nth == 1 and not has_failed:
-                        yield f"no {kind} to fail"
+                        yield f"no call of {kind} was made"
                 first += BESIDE
 
 

@@ -54,11 +54,11 @@ def sixty_four_clients_at_once(program):
         yield from differs("clients with their answer", right, fast)
         yield from differs("nonsense is told", nonsense.result(), b"")
         if not whole.startswith(without_first_beats(slow.result())):
-            yield "a client that takes a byte a second was told something else"
+            yield "a client that reads a byte per second received something else"
         with contextlib.suppress(OSError):
             got = received(never)
             if len(got) == len(whole):
-                yield "a client that never read was told all"
+                yield "a client that never reads received everything"
         # One snapshot for all, at 43 bytes per message, and the buffers of each client.
         room = 43 * len(split(whole)) + PLACES * 65_537 + (4 << 20)
         for kind, kilobytes in memory_of(server.process).items():
@@ -135,7 +135,7 @@ def captured(pieces):
 def wireshark_reads_the_packets(program):
     """Wireshark's SoupBinTCP dissector finds the packets of a client's session: its login, and everything that it receives."""
     if not (tshark := shutil.which("tshark")):
-        print("skipped: what Wireshark makes of a session: no tshark here")
+        print("skipped: a session in Wireshark's dissector: tshark is not installed")
         return
     day, wanted = day_of(50)
     end = threading.Event()

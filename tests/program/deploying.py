@@ -38,7 +38,7 @@ NETWORKS = itertools.count(64)
 def tool(name, what):
     """Returns a tool. If it is not installed, prints what is skipped, and returns None."""
     if not (found := shutil.which(name)):
-        print(f"skipped: {what}: no {name} here")
+        print(f"skipped: {what}: {name} is not installed")
     return found
 
 
@@ -188,7 +188,7 @@ def the_unit_allows_each_system_call(program):
     if not analyze or not strace:
         return
     if says(strace, "-o", "/dev/null", "true")[0]:
-        print("skipped: the system calls that the unit allows: strace may trace nothing here")
+        print("skipped: the system calls that the unit allows: strace cannot trace processes on this machine")
         return
     allowed = set()
     for filter in setting("SystemCallFilter"):

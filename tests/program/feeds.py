@@ -206,7 +206,7 @@ def an_unknown_host_cannot_be_opened(program):
 
 def a_feed_of_an_ipv6_address_is_followed(program):
     if not has_ipv6():
-        print("skipped: a feed of an IPv6 address: there is no IPv6 here")
+        print("skipped: a feed at an IPv6 address: this machine has no IPv6")
         return
     day, _ = day_of(20)
     with folder_with(day=day) as folder, feeding(program, folder / "day", "--bind", "::1") as feed:

@@ -77,7 +77,7 @@ def canonical(program, data):
 def equal_bytes_are_equal_markets(program):
     for one, other, same in PAIRS:
         if (canonical(program, file(one)) == canonical(program, file(other))) != same:
-            yield f"{one} and {other} leave {'other' if same else 'the same'} bytes"
+            yield f"{one} and {other} end in {'different' if same else 'the same'} bytes"
 
 
 def a_snapshot_stands_for_what_came_before(program):

@@ -1,8 +1,8 @@
 """Runs that would take minutes, by a faster clock (hurry.c): feeds that fail in turn, stay for a minute or stay away, names that are resolved late,
 and what is logged once a minute.
 
-RUNS lists the runs. Each is a function that is given the program and yields the
-differences. `hurried.py PROGRAM SHIM`, in a user and a network namespace of its own, prints what differs where two feeds fail in turn.
+RUNS lists the runs: functions that take the program and yield the differences found. `hurried.py PROGRAM SHIM`, in its own user and network
+namespaces, prints the differences of the run in which two feeds fail in turn.
 """
 import contextlib
 import ctypes
@@ -43,7 +43,7 @@ def two_feeds_in_two_namespaces_fail_in_turn(program):
     """They close the connection, reset it, or their network is down. Each time the other one is tried, with the same session and from the next
     message, and the record equals the day."""
     if not shutil.which("ip") or subprocess.run([*APART, "true"], stderr=subprocess.DEVNULL).returncode != 0:
-        print("skipped: feeds in network namespaces: no namespaces of their own here")
+        print("skipped: feeds in network namespaces: this machine does not allow namespaces")
         return
     with tempfile.TemporaryDirectory() as folder:
         words = [*APART, sys.executable, __file__, program, build_shim(folder, "hurry.c")]
@@ -138,7 +138,7 @@ def sequence_differs(asked):
     yield from differs("sessions", {session for _, session, _ in asked[1:]}, {SESSION.strip()})
     for (_, _, before), (name, _, number) in zip(asked, asked[1:]):
         if not before <= number <= before + EACH:
-            yield f"{name} is asked for {number} after {before}"
+            yield f"{name} was asked for {number} after {before}"
 
 
 def a_minute_of_success_makes_the_pauses_short_again(program):
@@ -300,7 +300,7 @@ def a_client_that_waited_has_its_time_after_the_answer_too(program):
             yield from differs("told", without_first_beats(acceptance(1) + received(client)) == answer(snapshot), True)
             server.has_lines(1)
             if (seconds := (time.monotonic() - begun) * TIMES) < SILENCE / 2:
-                yield f"it was closed {seconds:.1f} seconds after it was told all"
+                yield f"the connection was closed {seconds:.1f} seconds after the client had received everything"
 
 
 RUNS = [

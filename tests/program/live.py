@@ -244,7 +244,7 @@ def each_client_is_told_what_it_asks(program):
     wanted = [accepted, "rejected A", "rejected S", "fault", accepted, "left", accepted, accepted, "left"]
     yield from differs("endings", (status, sorted(endings)), (0, sorted(wanted)))
     if "secret" in "".join(server.lines) + output.decode():
-        yield "a password in a line"
+        yield "a log line contains a password"
 
 
 def a_client_that_takes_nothing_hinders_no_other(program):
@@ -420,7 +420,7 @@ def one_place_is_given_to_one_client_at_a_time(program):
             yield from differs("first, its beginning", received(first, len(acceptance(1))), acceptance(1))
             second.sendall(LOGIN)
             if readable([second], 1):
-                yield "the second is told something"
+                yield "the second client received something"
             yield from differs("first", without_first_beats(acceptance(1) + received(first)) == whole, True)
             yield from differs("second", without_first_beats(received(second)) == whole, True)
         end.set()

@@ -136,7 +136,7 @@ def a_file_that_is_wrong_changes_nothing(program):
             line = f"users: cannot reload {path}: {why}\n"
             wanted.append(line)
             if not server.said("users: .*" + why.replace("(", ".").replace(")", ".")):
-                yield f"not said: {line}"
+                yield f"missing line: {line}"
             yield from differs(why, answered(server.port, "user", "secret"), ACCEPTED)
         path.unlink()
         wanted.append(f"users: cannot reload {path}: No such file or directory (os error 2)\n")

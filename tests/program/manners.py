@@ -34,13 +34,13 @@ def the_version_is_that_of_the_changes_and_the_toolchain(program):
     if not parts or parts[1] != newest:
         yield f"printed {printed!r}, where the newest changes are those of {newest}"
     elif f"`rt version`: {parts[2]})" not in (TOP / "README.md").read_text():
-        yield f"README has another toolchain than {parts[2]}"
+        yield f"README does not name the toolchain {parts[2]}"
     elif shutil.which("rt"):
         line = subprocess.run(["rt", "version"], capture_output=True, text=True, check=True).stdout.strip()
         if parts[2] != line:
             yield f"the program says {parts[2]}, and rt version {line}"
     else:
-        print("skipped: the toolchain of the version: no rt here")
+        print("skipped: the toolchain in the version: rt is not installed")
 
 
 def ended(words, ignored):
@@ -197,7 +197,7 @@ def what_is_wrongly_shown(error, length):
     lines = re.findall(rb"%s(?:%s)?" % (SHOWN, LEFT), error)
     for place, (so_far, messages, share) in enumerate(lines, 1):
         if not place * 2**26 <= int(so_far) < place * 2**26 + 2**16:
-            yield f"line {place} is of byte {so_far}"
+            yield f"line {place} is at byte {so_far}"
         wanted = sum(1 + (size - entry) // len(TRADE) for size in (min(int(so_far), length), int(so_far) - length) if size > 0)
         if int(messages) != wanted:
             yield f"{messages} messages at byte {so_far}, not {wanted}"

@@ -116,7 +116,7 @@ def a_device_is_written_as_it_is(program):
     with folder_of_files() as folder:
         yield from differs("/dev/null", ended_in(folder, program, "snap", "day.itch", "--output", "/dev/null"), (0, b"", b""))
         if not stat.S_ISCHR(os.stat("/dev/null").st_mode):
-            yield "/dev/null is no device any more"
+            yield "/dev/null is no longer a device"
         yield from differs("/dev/full", ended_in(folder, program, "snap", "day.itch", "--output", "/dev/full"),
                            (3, b"", b"itchsnap: write failed\n  /dev/full: No space left on device (os error 28)\n"))
         os.mkfifo(folder / "pipe")

@@ -171,7 +171,7 @@ def a_late_number_of_a_long_day_is_played_at_once(program):
         yield from differs("told", got, acceptance(count) + packet(b"\0\1z") + ENDED)
         # A hundred and twenty turns, which would take ten times as long with a pause after each.
         if (seconds := time.monotonic() - begun) > 6:
-            yield f"told after {seconds:.1f} seconds"
+            yield f"received after {seconds:.1f} seconds"
 
 
 def one_of_many_who_guess_waits_longer_each_time(program):
@@ -193,7 +193,7 @@ def one_of_many_who_guess_waits_longer_each_time(program):
         guess(server.port, "127.2.0.2")
         times += [guess(server.port, "127.2.0.1")]
         if any(time < pause - TICK for time, pause in zip(times, PAUSES)):
-            yield f"told after {[round(it, 3) for it in times]} seconds"
+            yield f"answered after {[round(it, 3) for it in times]} seconds"
         end.set()
 
 

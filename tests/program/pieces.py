@@ -1,6 +1,6 @@
 """Each command over files with pieces of one byte: each read, write and allocation failing in turn, and each beginning of each file.
 
-What is wanted is worked out from the blocks of the files. RUNS lists the runs. Each is a function that is given the program and yields the differences.
+The expected output is computed from the blocks of the files. RUNS lists the runs: functions that take the program and yield the differences found.
 """
 import bisect
 import contextlib

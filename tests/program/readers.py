@@ -90,7 +90,7 @@ def twelve_slow_readers_have_room(program):
             held.enter_context(Reader(server.port, 100_000, 4096)).has_begun()
         told = told_within(server.port, 10)
         if told.pause > PAUSE or not market().is_told(told.data):
-            yield f"the next one had {len(told.data)} bytes after {told.seconds:.1f} seconds, and nothing for {told.pause:.1f}"
+            yield f"the next client had {len(told.data)} bytes after {told.seconds:.1f} seconds, and received nothing for {told.pause:.1f}"
         yield from differs("cut off", endings(server, "cut off as the slowest"), 0)
 
 
@@ -145,7 +145,7 @@ def eight_slow_readers_hinder_no_other(program):
             readers.enter_context(Reader(server.port, 100_000, 4096))
         told = told_within(server.port, 10)
         if told.seconds > bound or told.pause > PAUSE or not market().is_told(told.data):
-            yield f"the ninth had {len(told.data)} bytes after {told.seconds:.1f} seconds, and nothing for {told.pause:.1f}"
+            yield f"the ninth client had {len(told.data)} bytes after {told.seconds:.1f} seconds, and received nothing for {told.pause:.1f}"
 
 
 def a_slow_reader_is_not_cut_off(program):

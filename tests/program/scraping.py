@@ -143,7 +143,7 @@ def forms_differ(program, server):
 
 def metrics_that_prometheus_takes(program):
     if not (tool := shutil.which("promtool")):
-        print("skipped: what Prometheus makes of the metrics: no promtool here")
+        print("skipped: the metrics checked by Prometheus: promtool is not installed")
         return
     day, _ = day_of(20)
     with Feed(plays(day, wait=threading.Event())) as feed, watched(program, feed.port) as server:
@@ -155,7 +155,7 @@ def metrics_that_prometheus_takes(program):
 def what_prometheus_scrapes(program):
     """Prometheus discovers the server, and a query returns how long ago the last message was received."""
     if not (tool := shutil.which("prometheus")):
-        print("skipped: what Prometheus scrapes: no prometheus here")
+        print("skipped: the metrics scraped by Prometheus: prometheus is not installed")
         return
     day, _ = day_of(20)
     with folder_with() as folder, Feed(plays(day, wait=threading.Event())) as feed, watched(program, feed.port) as server:
@@ -194,7 +194,7 @@ def asked_of(port, query):
 def what_a_browser_shows(program):
     """The document of the page after rendering: the browser has refused no part of it."""
     if not (tool := shutil.which("chromium")):
-        print("skipped: what a browser shows of the status: no chromium here")
+        print("skipped: the status page in a browser: chromium is not installed")
         return
     day, _ = day_of(20)
     with folder_with() as folder, Feed(plays(day, wait=threading.Event())) as feed, watched(program, feed.port) as server:
@@ -250,7 +250,7 @@ def connections_that_say_nothing(program):
         with contextlib.suppress(ConnectionError):
             yield from differs("told", status_of(received(peers[0])), "HTTP/1.1 408 Request Timeout")
         if not LIMIT - 1 < (seconds := time.monotonic() - begun) < 4 * LIMIT:
-            yield f"one that said nothing was told so after {seconds:.1f} seconds"
+            yield f"a silent connection was told that its time was over after {seconds:.1f} seconds"
         held.close()
         yield from differs("after that", waits_for(lambda: page(server, "/healthz")[2]), b"ok\n")
 
@@ -278,7 +278,7 @@ def messages_are_not_delayed_by_scrapers(program):
     """Each of 100,000 messages per second is in the record within 50 ms, while `wrk` requests as many pages as it can, and `curl` one. The record is
     not synced, since that takes as long as the disk does. A busy machine delays the test itself, so one success in several attempts suffices."""
     if lacking := [it for it in ("wrk", "curl") if not shutil.which(it)]:
-        print(f"skipped: messages are not delayed by scrapers: no {' and no '.join(lacking)} here")
+        print(f"skipped: messages are not delayed by scrapers: not installed: {', '.join(lacking)}")
         return
     blocks = split(day_of(300_000)[0])
 

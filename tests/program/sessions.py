@@ -248,7 +248,7 @@ def a_peer_that_breaks_the_protocol_is_not_waited_for(program):
         peer.sendall(b"\0\0")
         yield from fetched_differs(fetch(program, server.port), wanted)
         if time.monotonic() - begun > 10:
-            yield f"it was waited for, for {time.monotonic() - begun:.1f} seconds"
+            yield f"the next client had to wait for {time.monotonic() - begun:.1f} seconds"
         yield from server.differences("fault", f"accepted from 1, {messages(wanted)} packets")
 
 

@@ -143,7 +143,7 @@ def a_name_that_is_not_found_is_looked_up_again(program):
     with Feed(plays(day, then=ENDED)) as feed, live(program, at(feed.port), words=("--glimpse", UNKNOWN), **QUICK) as server:
         yield from differs("snapshot", server.said("glimpse: "), f"glimpse: not found ({UNKNOWN})\n")
     if subprocess.run([*ALONE, "true"], stderr=subprocess.DEVNULL).returncode != 0:
-        print("skipped: a name that is found later: no namespaces of its own here")
+        print("skipped: a name that is found later: this machine does not allow namespaces")
         return
     end = threading.Event()
     with folder_with(hosts=b"") as folder, Feed(plays(day, wait=end, held=ENDED)) as feed:
@@ -162,7 +162,7 @@ def a_name_whose_address_changes_is_looked_up_again(program):
     """When its server is lost, the feed continues at the new address."""
     day, _ = day_of(20)
     if subprocess.run([*ALONE, "true"], stderr=subprocess.DEVNULL).returncode != 0:
-        print("skipped: a name whose address changes: no namespaces of its own here")
+        print("skipped: a name whose address changes: this machine does not allow namespaces")
         return
     moved = threading.Event()
 

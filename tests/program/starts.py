@@ -173,7 +173,7 @@ def a_release_that_is_not_proved_is_not_made(_program):
     """The old release stays, and nothing is left next to it."""
     with checkout() as copy:
         if subprocess.run([copy.top / "tools/pack", "--tools"], capture_output=True).returncode:
-            print("skipped: a release that is not proved: no tools for its packages here")
+            print("skipped: a release that is not proved: the tools for its packages are not installed")
             return
         before = contents_below(copy.top / "release")
         copy.change()

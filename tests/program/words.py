@@ -366,7 +366,7 @@ def each_command_has_an_example(program):
     for command in commands(program):
         example = example_of(program, command)
         if not example:
-            yield f"{command} has none"
+            yield f"{command} has no example"
             continue
         if command in ("serve", "fetch", "live", "follow", "feed", "status"):
             continue
@@ -411,13 +411,13 @@ def completions_have_every_option(program):
         for command in commands(program):
             for option in re.findall(r"^ +--([a-z-]+)", ended(program, command, "--help")[1].decode(), re.M):
                 if option.encode() not in script:
-                    yield f"{shell} has no --{option} of {command}"
+                    yield f"{shell} does not complete --{option} of {command}"
         if found := shutil.which(shell):
             done = subprocess.run([found, "-n"], input=script, capture_output=True, timeout=60)
             if done.returncode or done.stderr:
                 yield f"{shell}: {done}"
         else:
-            print(f"skipped: how {shell} reads its completions: no {shell} here")
+            print(f"skipped: how {shell} reads its completions: {shell} is not installed")
 
 
 def quotes_of_completions_are_closed(program):

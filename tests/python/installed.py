@@ -48,7 +48,7 @@ def installed(python, folder):
 def pip_installs_a_package_that_stands_alone():
     python = installer()
     if python is None:
-        print(f"skipped: the installation by pip: no Python here with {', '.join(NEEDED)}")
+        print(f"skipped: the installation by pip: no Python is installed with {', '.join(NEEDED)}")
         return
     with tempfile.TemporaryDirectory() as name:
         folder = Path(name)
@@ -59,7 +59,7 @@ def pip_installs_a_package_that_stands_alone():
         yield from differs("the files", {it.name for it in (folder / "sundrekk").iterdir() if it.name != "__pycache__"}, sources)
         library = folder / "sundrekk/libitchsnap.so"
         if library.read_bytes() != (samples.TOP / "release/libitchsnap.so").read_bytes():
-            yield "the library is not that of release/"
+            yield "the library differs from that in release/"
         yield from metadata(folder)
         done = subprocess.run([sys.executable, "-B", "-c", SNAP, samples.EXAMPLES / "first_order.itch"], cwd=folder,
                               env={"PYTHONPATH": name}, capture_output=True, timeout=60)
@@ -81,7 +81,7 @@ def the_version_is_that_of_the_program():
 
 def the_library_is_that_of_the_release():
     if (PACKAGE / "sundrekk/libitchsnap.so").read_bytes() != (samples.TOP / "release/libitchsnap.so").read_bytes():
-        yield "the library of the package is not that of release/"
+        yield "the library in the package differs from that in release/"
 
 
 RUNS = [pip_installs_a_package_that_stands_alone, the_version_is_that_of_the_program, the_library_is_that_of_the_release]

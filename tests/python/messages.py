@@ -156,7 +156,7 @@ def compressed_days_are_read_as_others():
     makers = {"gz": gzip.compress, "bz2": bz2.compress, "xz": lzma.compress, "zst": lambda data: subprocess.run(
         ["zstd", "-q", "-c"], input=data, stdout=subprocess.PIPE, check=True).stdout}
     if not shutil.which("zstd"):
-        print("skipped: days that zstd compressed: no zstd here")
+        print("skipped: days compressed with zstd: zstd is not installed")
         del makers["zst"]
     with tempfile.TemporaryDirectory() as folder:
         for ending, compressed in makers.items():

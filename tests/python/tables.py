@@ -21,7 +21,7 @@ def left_out(what, *modules):
     """Returns whether one of these modules is missing, and if so prints what is skipped."""
     missing = [module for module in modules if importlib.util.find_spec(module) is None]
     if missing:
-        print(f"skipped: {what}: no {', no '.join(missing)} here")
+        print(f"skipped: {what}: not installed: {', '.join(missing)}")
     return bool(missing)
 
 

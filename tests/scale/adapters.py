@@ -54,11 +54,11 @@ def engines():
     if (version or "").startswith("GNU parallel"):
         yield Engine("GNU parallel", "on-parallel", ["--jobs", "3"], **user)
     else:
-        print("skipped: the runs over GNU parallel itself: no GNU parallel here")
+        print("skipped: the runs over GNU parallel itself: GNU parallel is not installed")
     if find_spec("distributed"):
         yield Engine("Dask", "on-dask", ["--workers", "3"])
     else:
-        print("skipped: the runs over Dask itself: no Dask here")
+        print("skipped: the runs over Dask itself: Dask is not installed")
 
 
 def does_days_in_parts_with_tables(engine, folder):

@@ -81,7 +81,7 @@ def parts_of_other_moments_are_not_laid_together(folder):
                                ("one without", (event, first), "first has another system event")):
         try:
             layout.lay_together(parts, 2, folder / "whole")
-            yield f"{label} was taken"
+            yield f"{label} was accepted"
         except Failure as failure:
             yield from differs(label, str(failure), said)
 
