@@ -39,7 +39,7 @@ def picture(stock, levels):
 
 
 def main():
-    words = argparse.ArgumentParser(description="Draws the depth of a book as a picture in SVG.")
+    words = argparse.ArgumentParser(description="Draws the depth of a book as an SVG picture.")
     words.add_argument("day", metavar="DAY")
     words.add_argument("stock", metavar="STOCK")
     words.add_argument("--until", metavar="TIME")

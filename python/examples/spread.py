@@ -36,7 +36,7 @@ def locates_of(market, stocks):
 
 
 def main():
-    words = argparse.ArgumentParser(description="The spread of some stocks at each minute of a day.")
+    words = argparse.ArgumentParser(description="Prints the spread of some stocks at each minute of a day.")
     words.add_argument("day", metavar="DAY")
     words.add_argument("stocks", metavar="STOCK", nargs="+")
     words.add_argument("--begin", type=nanoseconds, default="09:30")

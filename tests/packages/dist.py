@@ -60,7 +60,7 @@ def packages_stay_where_packing_fails():
         status, _ = ran(TOP / "tools/pack", folder, PATH=f"{tools}:{os.environ['PATH']}")
         yield from differs("status", status != 0, True)
         yield from differs("kept", [(it.name, it.read_text()) for it in folder.iterdir()], [("SHA256SUMS", "those of an earlier release\n")])
-        yield from differs("left beside", sorted(it.name for it in Path(name).iterdir()), ["dist", "tools"])
+        yield from differs("left next to it", sorted(it.name for it in Path(name).iterdir()), ["dist", "tools"])
 
 
 def packages_are_the_same_whoever_packs_them():

@@ -52,7 +52,7 @@ def sixty_four_clients_at_once(program):
         answers = [clients.submit(told_within, server.port, 2 * PATIENCE) for _ in range(fast)]
         right = sum(without_first_beats(it.result().data) == whole for it in answers)
         yield from differs("clients with their answer", right, fast)
-        yield from differs("nonsense is told", nonsense.result(), b"")
+        yield from differs("the answer to nonsense", nonsense.result(), b"")
         if not whole.startswith(without_first_beats(slow.result())):
             yield "a client that reads a byte per second received something else"
         with contextlib.suppress(OSError):

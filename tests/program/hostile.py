@@ -1,4 +1,4 @@
-"""`live` with hostile clients, with side outputs that fail, and at feeds that refuse it once or send quickly.
+"""`live` with hostile clients, with side outputs that fail, and at feeds that refuse it once or send at full speed.
 
 RUNS lists the runs: functions that take the program and yield the differences found.
 """
@@ -33,7 +33,7 @@ DESCRIPTORS = 4096
 # A client hears something every second. This is the longest permitted silence on a busy machine.
 PAUSE = 1.9
 
-# Clients that log in, read an acceptance, leave and return until the process is killed. Arguments: the port, and how many at a time.
+# Clients that log in, read an acceptance, leave and return until the process is killed. Arguments: the port, how many at a time, and the login.
 HAMMER = """
 import socket, sys, threading
 port, count, login = int(sys.argv[1]), int(sys.argv[2]), bytes.fromhex(sys.argv[3])
@@ -246,7 +246,7 @@ def a_thousand_that_never_log_in_hinder_nobody(program):
         waiting = threading.Thread(target=lambda: closing.extend(until_closed(came, list(came)[::2])))
         waiting.start()
         told = told_within(server.port, 5)
-        yield from differs("a client beside them is told", without_beats(told.data), answer(wanted))
+        yield from differs("another client receives", without_beats(told.data), answer(wanted))
         waiting.join()
         early = [it for it in closing if it is not None and it < SILENCE - 2]
         late = [it for it in closing if it is None or it >= SILENCE + 3]

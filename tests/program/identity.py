@@ -159,7 +159,7 @@ def a_snapshot_of_another_session_is_not_joined(program):
 
 
 def a_feed_names_its_day(program):
-    """By the name of its file, or the name given. A server behind two consecutive days serves the first one, and reports that the other is another
+    """By the name of its file, or the name given. A server behind two consecutive days serves the first one, and reports that the other has another
     session."""
     first, wanted = day_of(40)
     second, _ = day_of(60)

@@ -370,7 +370,7 @@ def a_client_that_leaves_before_it_is_rejected_was_rejected(program):
 
 
 def a_client_that_resets_its_connection_is_a_fault(program):
-    """That is, if it has not logged in yet. A client that is being played to is said to have left."""
+    """That is, if it has not logged in yet. A client that is being played to is reported as having left."""
     day, _ = day_of(5)
     linger = struct.pack("ii", 1, 0)
 

@@ -100,7 +100,7 @@ def a_snapshot_waits_for_memory(program):
         first.has_begun()
         told = told_within(server.port)
         first.thread.join()
-        yield from differs("the second is told the market", market().is_told(told.data), True)
+        yield from differs("the second client receives the market", market().is_told(told.data), True)
         yield from differs("it waits", BEAT in split(told.data), True)
         if abs(first.count - len(told.data)) > 1000:
             yield f"the first has {first.count} bytes, and the second {len(told.data)}"
@@ -128,7 +128,7 @@ def the_reader_that_was_slow_for_longest_makes_room(program):
         seconds, (_, told) = time.monotonic() - coming.begun, coming.told()
         if seconds < ROOM - 0.02:
             yield f"the slowest is cut off after {seconds:.3f} seconds"
-        yield from differs("the next one is told the market", market().is_told(told), True)
+        yield from differs("the next client receives the market", market().is_told(told), True)
         coming.peer.close()
         waits_for(lambda: lines_of(server)[-1][1].startswith("accepted at "))
         (slowest, _), (next_one, _) = lines_of(server)[-2:]

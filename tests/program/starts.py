@@ -181,7 +181,7 @@ def a_release_that_is_not_proved_is_not_made(_program):
             status, output, faults = copy.start(script="make-release", rt=True, FAILS=fails, PATH=f"{copy.folder}:{PLAIN}:{os.environ['PATH']}")
             yield from differs(f"where {fails} fails", (status, output, faults.splitlines()[-1]), (1, "", "rt: not proved"))
             yield from differs("the release", contents_below(copy.top / "release") == before, True)
-            yield from differs("left beside it", [it.name for it in copy.top.glob("release?*")], [])
+            yield from differs("left next to it", [it.name for it in copy.top.glob("release?*")], [])
 
 
 def contents_below(folder):

@@ -126,7 +126,7 @@ def kill(process):
 
 @contextlib.contextmanager
 def started(words, **more):
-    """Yields a process. Kills it and everything that it started in the end."""
+    """Yields a process. In the end kills it and everything that it started."""
     with subprocess.Popen([*map(str, words)], start_new_session=True, **more) as process:
         try:
             yield process
