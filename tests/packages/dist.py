@@ -1,4 +1,4 @@
-"""The packages: they are those of the release, and lintian finds no error in them.
+"""The packages: they match the release, and lintian finds no errors in them.
 
 RUNS lists the runs: functions that yield the differences found.
 """

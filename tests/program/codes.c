@@ -1,8 +1,8 @@
-/* codes.c: each code of itchsnap.h, and what it adds, by a call that returns it.
+/* codes.c: for each code of itchsnap.h, a call that returns it, with the details that belong to it.
  *
- *   codes    ends with status 1 at the first call that returns another
+ *   codes    ends with status 1 at the first call that returns another code
  *
- * OUT_OF_MEMORY and TAKEN_NO_MEMORY are those of memory.c. UNREAD and BROKEN_SESSION do not happen. */
+ * memory.c tests OUT_OF_MEMORY and TAKEN_NO_MEMORY. UNREAD and BROKEN_SESSION do not happen. */
 #include "itchsnap.h"
 
 #include <stdio.h>

@@ -1,10 +1,10 @@
-/* memory.c: the library's calls where a request of memory is refused, and where none is.
+/* memory.c: the library's calls with each memory request refused in turn, and with none refused.
  *
- *   memory DAY    ends with status 1 at the first call that does not do as it must
+ *   memory DAY    ends with status 1 at the first call that behaves wrongly
  *
- * It is linked so that the library's calls of malloc, realloc and free come here (--wrap). Each scene is played with its first request
- * refused, then with its second, and so on until it is played without a refusal. A call says out of memory exactly where a request in
- * it was refused, and made again it does as it says. After each scene all memory has been given back. */
+ * It is linked so that the library's calls of malloc, realloc and free are redirected to this file (--wrap). Each scene is played with
+ * its first request refused, then with its second, and so on until no request is refused. A call must return out of memory if and only
+ * if a request in it was refused, and must succeed when repeated. After each scene all memory must have been freed. */
 #include "itchsnap.h"
 
 #include <inttypes.h>
