@@ -69,7 +69,7 @@ def words_that_ask_for_nothing_are_refused(folder):
                         (("plan", *out, "--program", folder / "none", day), "is not a file"),
                         *((("merge", *out, "--parts", parts, day), "every locate once") for parts in
                           ("0-5", "0-5,7-65535", "1-65535", "0-5,5-65535", "6-65535,0-5", "0-5,6-3,4-65535", "0-65534", "0-65536")),
-                        (("merge", *out, "--parts", "0-5,6", day), "'6' is no range"), (("merge", *out, day), "--parts"), ((), "command")):
+                        (("merge", *out, "--parts", "0-5,6", day), "'6' is not a range"), (("merge", *out, day), "--parts"), ((), "command")):
         status, output, error = job(*words)
         if (status, output) != (USAGE, "") or said not in error:
             yield f"{words}: {status}, {output!r}, {error!r}"
