@@ -15,8 +15,19 @@ from pathlib import Path
 TOP = Path(__file__).resolve().parent.parent.parent
 # A PATH without a toolchain.
 PLAIN = "/usr/bin:/bin"
-NAMES = ("itch_frame itch_codec itch_status itch_day itch_history itch_checkpoints itch_book itch_market itch_snapshot itch_soup itch_join itch_live "
-         "itch_commands itch_sessions itch_records itch_clients itchsnap_live itchsnap_cli itch_tool").split()
+
+
+def crates_of_the_program():
+    """Returns the program's crate and those that it is built from, in the order of crates.txt."""
+    rows = [line.partition(":") for line in (TOP / "crates.txt").read_text().splitlines() if not line.startswith("#")]
+    uses = {name.split()[0]: below.split() for name, _, below in rows}
+    wanted = ["itch_tool"]
+    for name in wanted:
+        wanted += [it for it in uses[name] if it in uses and it not in wanted]
+    return [name for name in uses if name in wanted]
+
+
+NAMES = crates_of_the_program()
 CHANGED = "crates/itch_frame/src/lib.rt"
 # Where ./install puts the program and its other files, in its order.
 PLACES = ["bin/itchsnap", "share/man/man1/itchsnap.1", "share/bash-completion/completions/itchsnap", "share/zsh/site-functions/_itchsnap",
