@@ -44,11 +44,11 @@ LARGE, LEAST = 256 << 20, 16 << 10
 
 
 def of_program(day, **options):
-    """Returns the program's snapshot, or its refusal in the wording of the package."""
+    """Returns the program's snapshot, or the first line of its refusal, in the wording of the package."""
     words = [word for name, value in options.items() for word in (f"--{name}", str(value))]
     status, output, error = samples.program("snap", *words, day=day)
-    error = re.sub(r"wrong length for .: (want \d+), got \d+", r"wrong length: \1", error).replace("itchsnap: ", "")
-    return output if status == 0 else error.strip()
+    error = re.sub(r"wrong length for .: (want \d+), got \d+", r"wrong length: \1", error.partition("\n")[0]).replace("itchsnap: ", "")
+    return output if status == 0 else error
 
 
 def of_package(day, **options):
