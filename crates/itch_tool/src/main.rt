@@ -17,6 +17,8 @@ mod feed;
 mod final_status;
 mod hints;
 mod history;
+mod indexed;
+mod indexing;
 mod lacked_locate;
 mod live;
 mod locate_list;

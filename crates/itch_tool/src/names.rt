@@ -7,8 +7,8 @@ use crate::selected::Selected;
 use itch_commands::{Command, FileKind, PairCommand, Request, Source};
 use itch_sessions::{SessionDevice, SessionFault};
 use itchsnap_cli::words::{
-    BookWords, FeedWords, FollowWords, HistoryWords, Job, LiveWords, PointWords, Server,
-    StatusWords,
+    BookWords, FeedWords, FollowWords, HistoryWords, IndexWords, IndexedWords, IndexedWork, Job,
+    LiveWords, PointWords, Server, StatusWords,
 };
 use std::fmt;
 use std::net::SocketAddr;
@@ -181,6 +181,24 @@ impl<'a> CommandFiles<'a> {
         ensures { result.last.path ≡ Some words.now.file }
     {
         CommandFiles::of_one(Some(words.file), "", SnapshotFlag::NotTaken, None)
+    }
+
+    pub fn of_index(words: &IndexWords<'a>) -> Self
+        ensures file { result.last.path ≡ words.now.file }
+        ensures output { result.output ≡ words.now.output }
+    {
+        CommandFiles::of_one(words.file, "index", SnapshotFlag::NotTaken, words.output)
+    }
+
+    pub fn of_indexed(words: &IndexedWords<'a>) -> Self
+        ensures file { result.last.path ≡ Some words.now.file }
+        ensures output { result.output ≡ words.now.output }
+    {
+        let (standard, flag) = match &words.work {
+            IndexedWork::Command(command) => (words_of(command), flag_of(command)),
+            IndexedWork::History(_) => ("", SnapshotFlag::NotTaken),
+        };
+        CommandFiles::of_one(Some(words.file), standard, flag, words.output)
     }
 
     pub fn of_points(words: &PointWords<'a>) -> Self
@@ -361,6 +379,8 @@ impl<'a> JobNames<'a> {
                 output,
                 ..
             } => JobNames::of_files(CommandFiles::of_request(request, *output)),
+            Job::Index(words) => JobNames::of_files(CommandFiles::of_index(words)),
+            Job::Indexed(words) => JobNames::of_files(CommandFiles::of_indexed(words)),
             Job::History(words) => JobNames::of_files(CommandFiles::of_history(words)),
             Job::Points(words) => JobNames::of_files(CommandFiles::of_points(words)),
             Job::Books(words) => JobNames::of_files(CommandFiles::of_books(words)),
