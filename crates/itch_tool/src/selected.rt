@@ -1,7 +1,7 @@
 //! The selection of a request, and the part of its file.
 
 use itch_commands::{Command, FileKind, Limit, PairCommand, Request, Selection};
-use itchsnap_cli::words::{BookWords, HistoryWords, Job, PointWords, Times};
+use itchsnap_cli::words::{BookWords, ChangeWords, HistoryWords, Job, PointWords, Times};
 
 /// The list of locates or of stocks that a request selects, and the part of its one file that it reads.
 #[derive(Clone, Copy)]
@@ -21,6 +21,13 @@ impl<'a> Selected<'a> {
             }
             Job::Points(PointWords { only, .. }) => Selected::new(*only, None, None),
             Job::Books(words) => Selected::of_books(words),
+            Job::Changes(
+                ChangeWords {
+                    selection,
+                    limit,
+                    ..
+                },
+            ) => { Selected::by(*selection, Some(*limit)) }
             _ => Selected::nothing(),
         }
     }

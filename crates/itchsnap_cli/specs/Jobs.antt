@@ -1,7 +1,7 @@
 -- The jobs of the program.
 use Rattle.std.specs.Prelude.{ℕ, Bool, true, false, List, Option, Some, None, option_map}
 use Rattle.itchsnap_cli.specs.declared.words.job.Job.{Job}
-use Rattle.itchsnap_cli.specs.declared.words.job.Job.TheVariants.{Files, History, Points, Books, Serve, Fetch, Live, Follow, Feed, Status, Completions}
+use Rattle.itchsnap_cli.specs.declared.words.job.Job.TheVariants.{Files, History, Points, Books, Changes, Serve, Fetch, Live, Follow, Feed, Status, Completions}
 use Rattle.itch_sessions.specs.declared.follow_form.FollowForm.{FollowForm}
 use Rattle.itch_sessions.specs.declared.follow_form.FollowForm.TheVariants as form
 use Rattle.itch_commands.specs.Requests.{is_binary}
@@ -25,6 +25,7 @@ writes_snapshot (Files request progress output) = is_binary request
 writes_snapshot (History words) = false
 writes_snapshot (Points words) = false
 writes_snapshot (Books words) = false
+writes_snapshot (Changes words) = false
 writes_snapshot (Serve file kind address login session count progress) = false
 writes_snapshot (Fetch server login from output) = true
 writes_snapshot (Live live) = false
