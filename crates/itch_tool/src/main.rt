@@ -9,6 +9,7 @@ mod answers;
 mod at;
 mod beginning;
 mod books;
+mod changes;
 mod checkpoints;
 mod counts;
 mod explaining;

@@ -7,8 +7,8 @@ use crate::selected::Selected;
 use itch_commands::{Command, FileKind, PairCommand, Request, Source};
 use itch_sessions::{SessionDevice, SessionFault};
 use itchsnap_cli::words::{
-    BookWords, FeedWords, FollowWords, HistoryWords, IndexWords, IndexedWords, IndexedWork, Job,
-    LiveWords, PointWords, Server, StatusWords,
+    FeedWords, FollowWords, HistoryWords, IndexWords, IndexedWords, IndexedWork, Job, LiveWords,
+    PointWords, Server, StatusWords,
 };
 use std::fmt;
 use std::net::SocketAddr;
@@ -209,10 +209,10 @@ impl<'a> CommandFiles<'a> {
         CommandFiles::of_one(words.file, "snap --to ..", SnapshotFlag::NotTaken, folder)
     }
 
-    pub fn of_books(words: &BookWords<'a>) -> Self
-        ensures { result.last.path ≡ words.now.file }
+    pub fn of_books(path: Option<&'a str>) -> Self
+        ensures { result.last.path ≡ path.entry }
     {
-        CommandFiles::of_one(words.file, "book ..", SnapshotFlag::NotTaken, None)
+        CommandFiles::of_one(path, "book ..", SnapshotFlag::NotTaken, None)
     }
 
     pub fn of_served(path: Option<&'a str>, kind: FileKind) -> Self
@@ -383,7 +383,8 @@ impl<'a> JobNames<'a> {
             Job::Indexed(words) => JobNames::of_files(CommandFiles::of_indexed(words)),
             Job::History(words) => JobNames::of_files(CommandFiles::of_history(words)),
             Job::Points(words) => JobNames::of_files(CommandFiles::of_points(words)),
-            Job::Books(words) => JobNames::of_files(CommandFiles::of_books(words)),
+            Job::Books(words) => JobNames::of_files(CommandFiles::of_books(words.file)),
+            Job::Changes(words) => JobNames::of_files(CommandFiles::of_books(words.file)),
             Job::Serve {
                 file,
                 kind,

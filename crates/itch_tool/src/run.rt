@@ -3,6 +3,7 @@
 use crate::at::join_at;
 use crate::beginning::Beginning;
 use crate::books::run_books;
+use crate::changes::run_changes;
 use crate::failure::Failure;
 use crate::history::run_history;
 use crate::indexed::run_indexed;
@@ -46,6 +47,7 @@ where
         Job::History(words) => run_history(rt, words, beginning),
         Job::Points(words) => run_points(rt, words, beginning),
         Job::Books(words) => run_books(rt, words, beginning),
+        Job::Changes(words) => run_changes(rt, words, beginning),
         Job::Serve {
             file,
             kind,

@@ -2,7 +2,7 @@
 
 use itch_commands::{Command, FileKind, Limit, PairCommand, Request, Selection};
 use itchsnap_cli::words::{
-    BookWords, HistoryWords, IndexedWords, IndexedWork, Job, PointWords, Times,
+    BookWords, ChangeWords, HistoryWords, IndexedWords, IndexedWork, Job, PointWords, Times,
 };
 
 /// The list of locates or of stocks that a request selects, and the part of its one file that it reads.
@@ -25,6 +25,13 @@ impl<'a> Selected<'a> {
             Job::History(words) => Selected::of_history(words),
             Job::Points(PointWords { only, .. }) => Selected::new(*only, None, None),
             Job::Books(words) => Selected::of_books(words),
+            Job::Changes(
+                ChangeWords {
+                    selection,
+                    limit,
+                    ..
+                },
+            ) => { Selected::by(*selection, Some(*limit)) }
             _ => Selected::nothing(),
         }
     }

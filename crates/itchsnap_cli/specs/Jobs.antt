@@ -1,7 +1,7 @@
 -- The jobs of the program.
 use Rattle.std.specs.Prelude.{ℕ, Bool, true, false, List, Option, Some, None, option_map}
 use Rattle.itchsnap_cli.specs.declared.words.job.Job.{Job}
-use Rattle.itchsnap_cli.specs.declared.words.job.Job.TheVariants.{Files, Index, Indexed, History, Points, Books, Serve, Fetch, Live, Follow, Feed, Status, Completions}
+use Rattle.itchsnap_cli.specs.declared.words.job.Job.TheVariants.{Files, Index, Indexed, History, Points, Books, Changes, Serve, Fetch, Live, Follow, Feed, Status, Completions}
 use Rattle.itchsnap_cli.specs.declared.words.indexed.IndexedWork.{IndexedWork}
 use Rattle.itchsnap_cli.specs.declared.words.indexed.IndexedWork.TheVariants as work
 use Rattle.itch_commands.specs.declared.request.Command.TheVariants.{Cut}
@@ -37,6 +37,7 @@ writes_snapshot (Indexed words) = cuts words.work
 writes_snapshot (History words) = false
 writes_snapshot (Points words) = false
 writes_snapshot (Books words) = false
+writes_snapshot (Changes words) = false
 writes_snapshot (Serve file kind address login session count progress) = false
 writes_snapshot (Fetch server login from output) = true
 writes_snapshot (Live live) = false

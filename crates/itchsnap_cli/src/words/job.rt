@@ -3,6 +3,7 @@ ghost use Rattle.std.specs.Prelude.{◌≡◌, option_map};
 ghost use Rattle.itchsnap_cli.specs.Jobs.{output_of, writes_snapshot};
 
 use crate::words::books::{BookWords, read_book_words};
+use crate::words::changes::{ChangeWords, read_changes};
 use crate::words::commands::command;
 use crate::words::completions::Shell;
 use crate::words::fault::{Fault, usage_fault};
@@ -45,6 +46,8 @@ pub enum Job<'a> {
     Points(PointWords<'a>),
     /// Write the books of a day file at several times.
     Books(BookWords<'a>),
+    /// Write the best prices of one stock after each message that changes them.
+    Changes(ChangeWords<'a>),
     /// Serve the market of a file, or of standard input if none is named, to `count` connections. Port 0 means a free port.
     Serve {
         file: Option<&'a str>,
@@ -101,6 +104,7 @@ fn writes_snapshot(job: &Job<'_>) -> bool
         | Job::History(_)
         | Job::Points(_)
         | Job::Books(_)
+        | Job::Changes(_)
         | Job::Serve { .. }
         | Job::Live(_)
         | Job::Feed(_)
@@ -165,6 +169,9 @@ fn read_matched<'a>(
         },
         Some(("index", options)) => Ok(Job::Index(read_index_words(alloc, options)?)),
         Some(("show", options)) | Some(("cut", options)) => read_shown(alloc, matches, options),
+        Some(("book", options)) if options.get_flag("changes") => {
+            Ok(Job::Changes(read_changes(alloc, options)?))
+        }
         Some(("book", options)) => match read_book_words(alloc, options)? {
             Some(words) => Ok(Job::Books(words)),
             None => files(alloc, options, read_request(alloc, matches)?),
