@@ -139,10 +139,16 @@ impl<A: Allocator> Table<A> {
         ensures link { at self.old key ≡ Some result }
         ensures updates { Updates self.old self.new key None }
     {
-        self.len -= 1;
         match self.near.remove(key) {
-            Some(link) => link,
-            None => self.far.remove(&key).unwrap(),
+            Some(link) => {
+                self.len -= 1;
+                link
+            }
+            None => {
+                let link = self.far.remove(&key).unwrap();
+                self.len -= 1;
+                link
+            }
         }
     }
 }
