@@ -79,6 +79,16 @@ impl<A: Allocator> Table<A> {
         self.far.get(&key).copied()
     }
 
+    /// Returns the link of a key, and the number of keys of its page that have a link: so it reads everything that removing the key reads.
+    #[inline(always)]
+    pub(crate) fn read(&self, key: u64) -> (Option<u32>, usize) {
+        let (link, live) = self.near.read(key);
+        if link.is_some() || self.far.is_empty() {
+            return (link, live);
+        }
+        (self.far.get(&key).copied(), live)
+    }
+
     /// Returns whether the page of a key exists: then inserting a link for the key allocates no memory.
     #[inline(always)]
     pub fn has_room(&self, key: u64) -> bool
