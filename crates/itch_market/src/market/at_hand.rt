@@ -1,14 +1,32 @@
 //! Applies messages about orders directly from their payloads, if nothing prevents it.
-ghost use Rattle.std.specs.Prelude.{◌≡◌};
+ghost use Rattle.std.specs.Prelude.{◌≡◌, None, IsTrue};
+ghost use Rattle.itch_market.specs.Content.{Content};
+ghost use Rattle.itch_market.specs.Reasons.{reason};
+ghost use Rattle.itch_market.specs.Effects.{effect};
 ghost use Rattle.itch_codec.specs.declared.message.Message.TheVariants as is;
 ghost use Rattle.itch_market.specs.AtHand.{IsTried, IsTaken, IsApplied};
 
 use super::Market;
 use itch_book::OrderBook;
 use itch_codec::{
-    AddOrder, AttributedAddOrder, OrderCancel, OrderDelete, OrderExecuted, OrderExecutedWithPrice,
-    OrderReplace,
+    AddOrder, AttributedAddOrder, Message, OrderCancel, OrderDelete, OrderExecuted,
+    OrderExecutedWithPrice, OrderReplace, decode,
 };
+
+// Returns whether messages of a type change the market other than its orders, or end a snapshot.
+fn changes_market(kind: u8) -> bool {
+    matches!(kind, b'S' | b'R' | b'H' | b'Y' | b'h' | b'L' | b'G')
+}
+
+// Returns whether a message is never refused and never changes anything.
+fn is_plain(message: &Message<'_>) -> bool
+    ensures { IsTrue result → (m : Content) → (reason m message.now ≡ None) × (effect m message.now ≡ m) }
+{
+    matches!(
+        message,
+        Message::Trade(_) | Message::CrossTrade(_) | Message::BrokenTrade(_) | Message::Other(_)
+    )
+}
 
 impl<B: OrderBook> Market<B> {
     /// Applies the message of a payload and returns true, if it is about an order, no rule refuses it, and it probably needs no allocation.
@@ -51,7 +69,20 @@ impl<B: OrderBook> Market<B> {
                 Some(x) => self.try_replace(x),
                 None => false,
             },
+            Some(kind) if !changes_market(*kind) => self.passes(payload),
             _ => false,
+        }
+    }
+
+    // Returns whether a payload is that of a message that is not refused and changes nothing.
+    #[inline(never)]
+    fn passes(&self, payload: &[u8]) -> bool
+        ensures { IsApplied self.now payload.now result self.now }
+    {
+        self.recall_invariant();
+        match decode(payload) {
+            Ok(message) => is_plain(&message),
+            Err(_) => false,
         }
     }
 
