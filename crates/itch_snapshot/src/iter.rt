@@ -5,7 +5,7 @@ ghost use Rattle.std.specs.List.{filter};
 ghost use Rattle.itch_codec.specs.declared.message.Message.{Message};
 ghost use Rattle.itch_market.specs.Partial.{only};
 ghost use Rattle.itch_market.specs.Wanted.{has};
-ghost use Rattle.itch_snapshot.specs.Snapshot.{snap};
+ghost use Rattle.itch_snapshot.specs.Snapshot.{snap, order_part};
 ghost use Rattle.itch_snapshot.specs.Cursor.{cut_to, left, in_set, IsCursor};
 
 use crate::messages::{header_at, named, order_message};
@@ -73,6 +73,20 @@ impl<'a, B: OrderBook> SnapshotIter<'a, B> {
         }
     }
 
+    // Removes and returns the next message, if it is that of an order.
+    #[inline(always)]
+    pub(crate) fn take_order(&mut self) -> Option<NamedOrder>
+        ensures { MatchOption result (self.new ≡ self.old) (λ x. self.old ≡ order_part x.stock x.order ∷ self.new) }
+    {
+        if self.event.is_some() || self.states.is_some() {
+            return None;
+        }
+        let next = self.order?;
+        let book = self.market.book();
+        self.order = named(next.stock, book.after(next.order.reference, next.place));
+        Some(next)
+    }
+
     /// Returns the number of remaining messages. It iterates over them to count them.
     pub fn remaining(&self) -> u64
         requires { length self.now < 2 ^ 64 }
@@ -116,11 +130,10 @@ impl<'a, B: OrderBook> Iterator for SnapshotIter<'a, B> {
         if let Some(message) = next_state(&mut self.states) {
             return Some(message);
         }
-        let book = self.market.book();
-        if let Some(next) = self.order {
-            self.order = named(next.stock, book.after(next.order.reference, next.place));
+        if let Some(next) = self.take_order() {
             return Some(order_message(next));
         }
+        let book = self.market.book();
         let locate = next_wanted(&mut self.locates, self.set)?;
         let security = self.market.security(locate)?;
         let entry = security.entry;
