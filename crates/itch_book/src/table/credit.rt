@@ -7,6 +7,9 @@ const FIRST: u64 = 1 << 22;
 
 const MOST_FOR_KEY: u64 = 64;
 
+// More keys than this do not increase the maximum.
+const MANY: u64 = 1 << 48;
+
 // The credit that a key earns in an existing page: there it takes no memory, and in the hash map it would take about this much.
 const SAVED: u64 = 64;
 
@@ -60,9 +63,10 @@ impl Credit {
         ensures earned { result.bytes + spent self.bytes cost ≤ self.bytes + 64 }
         ensures most { result.bytes ≤ 4194304 + 64 * keys }
     {
-        let most = FIRST.saturating_add((keys as u64).saturating_mul(MOST_FOR_KEY));
+        // (so many keys do not fit into memory, and no number overflows)
+        let most = FIRST + (keys as u64).min(MANY) * MOST_FOR_KEY;
         let bytes = match cost {
-            Cost::Nothing => self.bytes.saturating_add(SAVED),
+            Cost::Nothing => self.bytes.min(most - SAVED) + SAVED,
             Cost::Bytes(bytes) if bytes <= self.bytes => self.bytes - bytes,
             Cost::Bytes(_) | Cost::Beyond if page == self.page => self.bytes.saturating_add(RISING),
             Cost::Bytes(_) | Cost::Beyond => self.bytes,
