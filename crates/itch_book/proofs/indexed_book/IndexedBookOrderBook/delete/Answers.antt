@@ -1,5 +1,0 @@
-use Rattle.itch_book.proofs.KeptLemmas.{kept_without}
-use Rattle.itch_book.proofs.indexed_book.IndexedBookOrderBook.delete.Goals as goal
-
-pub invariant_of-self : goal.invariant_of-self
-invariant_of-self g c = record { is_kept = kept_without c.args.reference c.args.self.now.index c.delete.new.self c.args.self.now.is_kept c.delete.ensures.orders }

@@ -1,3 +1,0 @@
-pub mod Fingerprints
-pub mod IndexLines
-pub mod Checkpoints

@@ -1,4 +1,0 @@
-pub mod Budgets
-pub mod Openings
-pub mod Paces
-pub mod Rooms

@@ -1,5 +1,0 @@
-pub mod Marks
-pub mod PassedBlocks
-pub mod Progress
-pub mod Batches
-pub mod Joined

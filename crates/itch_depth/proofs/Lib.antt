@@ -1,5 +1,0 @@
-pub mod TimedLines
-pub mod OneTime
-pub mod PartsOfDays
-pub mod TimesInTurn
-pub mod MultiplesInTurn

@@ -1,9 +1,0 @@
-pub mod BufferedBytes
-pub mod BlockLemmas
-pub mod Fronts
-pub mod Days
-pub mod Filling
-pub mod FirstSplits
-pub mod SplitterLemmas
-pub mod Writes
-pub mod PassedMessages

@@ -1,3 +1,0 @@
-pub mod Replacements
-pub mod Searches
-pub mod Lives

@@ -1,7 +1,0 @@
-pub mod DayFiles
-pub mod LiveFaults
-pub mod Readiness
-pub mod Recordings
-pub mod Savings
-pub mod Steps
-pub mod Watching

@@ -1,6 +1,0 @@
--- A read that is interrupted consumes nothing.
-use Rattle.std.specs.Io.KnownBytes.{Keeps}
-use Rattle.itch_sessions.proofs.sessions.patient.PatientRead.read.Given as goal
-
-abbrev pub invariant-loop : goal.invariant-loop
-invariant-loop g l = Keeps (g.S.Read.remaining l.initial.self.stream) (g.S.Read.remaining l.self.stream)

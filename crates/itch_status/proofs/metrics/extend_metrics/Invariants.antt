@@ -1,7 +1,0 @@
-use Rattle.std.proofs.Common.{◌≡◌, ◌++◌, take}
-use Rattle.std.specs.List.{flat_map}
-use Rattle.itch_status.specs.MetricTexts.{metric}
-use Rattle.itch_status.proofs.metrics.extend_metrics.Given as goal
-
-abbrev pub invariant-loop-figure : goal.invariant-loop-figure
-invariant-loop-figure l = l.text.items ≡ l.fn.text.items ++ flat_map (metric l.figures) (take l.figure-index l.shown)

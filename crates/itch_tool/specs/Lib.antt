@@ -1,5 +1,0 @@
-pub mod Endings
-pub mod Hints
-pub mod Histories
-pub mod Names
-pub mod Serving

@@ -1,8 +1,0 @@
-//! The program's command line, and the input of its commands.
-//!
-//! [`words`] parses the command line into a job. [`input`] is a file or standard input, and shows the progress of reading it.
-#![tactic(auto)]
-
-pub mod input;
-pub mod laws;
-pub mod words;

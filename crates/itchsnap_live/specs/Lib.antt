@@ -1,3 +1,0 @@
-pub mod FeedLines
-pub mod Losses
-pub mod Questions

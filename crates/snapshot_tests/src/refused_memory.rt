@@ -1,7 +1,0 @@
-//! Memory refused: each call of each layer that grows, with its first allocation refused, then its second, and so on, until nothing is
-//! refused. A run ends with the ordinary result or because memory ran out. In the second case the state is the one before the call, or as
-//! documented, and the same call succeeds with memory.
-//!
-//! Joiners are tested in `join`.
-mod sessions;
-mod snapshots;

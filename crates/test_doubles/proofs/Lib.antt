@@ -1,2 +1,0 @@
-mod Admissions
-mod OneRefusal
