@@ -17,7 +17,7 @@ begin() {
 changelog() {
     echo "itchsnap ($version) unstable; urgency=medium"
     echo
-    echo "  * CHANGELOG.md of the sources has what changed."
+    echo "  * See CHANGELOG.md in the sources."
     echo
     echo " -- $maintainer  $(date -u -R -d "@$SOURCE_DATE_EPOCH")"
 }
@@ -80,7 +80,7 @@ pack_shared() {
  Markets, snapshots, joiners and sessions for programs in C, C++ and other
  languages. Its code is proved.
  .
- This package has the shared library." same
+ This package contains the shared library." same
 }
 
 pack_development() {
@@ -90,7 +90,7 @@ pack_development() {
  Markets, snapshots, joiners and sessions for programs in C, C++ and other
  languages. Its code is proved.
  .
- This package has the header, the static library, and the files for pkg-config
+ This package contains the header, the static library, and the files for pkg-config
  and CMake." same
 }
 

@@ -55,7 +55,7 @@ def copy_body(part, event, number, whole):
             raise Failure(f"{part.name} has another system event")
         size = snapshot.seek(-END_LENGTH, 2)
         if snapshot.read() != end_block(number):
-            raise Failure(f"{part.name} has not the {number - 1} messages of the check")
+            raise Failure(f"{part.name} does not end after the {number - 1} messages of its check")
         snapshot.seek(len(event))
         whole.write(snapshot.read(size - len(event)))
 

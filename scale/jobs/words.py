@@ -26,7 +26,7 @@ USAGE, FAILED = 2, 3
 def matching(pattern, what):
     def read(text):
         if not pattern.fullmatch(text):
-            raise argparse.ArgumentTypeError(f"{text!r} is no {what}")
+            raise argparse.ArgumentTypeError(f"{text!r} is not a {what}")
         return text
     return read
 
@@ -122,12 +122,12 @@ def plan_for(words, fault):
     if not wanted.parts <= wanted.locates <= LAST_LOCATE:
         fault(f"--locates is from the number of parts to {LAST_LOCATE}")
     if not words.program.is_file():
-        fault(f"{words.program} is no file")
+        fault(f"{words.program} is not a file")
     days = [Day(path) for path in words.days]
     names = {}
     for day in days:
         if not day.path.is_file():
-            fault(f"{day.path} is no file")
+            fault(f"{day.path} is not a file")
         if names.setdefault(day.name, day.path) != day.path:
             fault(f"{names[day.name]} and {day.path} have the same name")
     return plan_of(Site(words.out, Program(words.program)), days, wanted)

@@ -42,7 +42,7 @@ def another_folder_is_left_alone():
     with tempfile.TemporaryDirectory() as folder:
         kept = Path(folder) / "kept"
         kept.touch()
-        yield from differs("pack", ran(TOP / "tools/pack", folder), (1, f"pack: {folder} is there, and is no folder of packages\n"))
+        yield from differs("pack", ran(TOP / "tools/pack", folder), (1, f"pack: {folder} exists, and is not a folder of packages\n"))
         yield from differs("kept", kept.exists(), True)
 
 

@@ -200,7 +200,7 @@ def the_gate_refuses_a_changed_source(_program):
     with checkout() as copy:
         copy.change()
         status, output, _ = copy.start(script="test", rt=True)
-        if status == 0 or "release/RECORD is of other sources of the program" not in output or (copy.folder / "calls").exists():
+        if status == 0 or "release/RECORD describes other sources of the program" not in output or (copy.folder / "calls").exists():
             yield f"the gate ended with {status}: {output}"
 
 

@@ -203,7 +203,7 @@ def says_what_is_refused_and_what_is_missing(engine, folder):
 
 
 def refuses_words(engine, folder):
-    for words, said in (((*engine.here, "--out", folder, folder / "none"), "is no file"), (engine.here[:1], engine.here[0])):
+    for words, said in (((*engine.here, "--out", folder, folder / "none"), "is not a file"), (engine.here[:1], engine.here[0])):
         status, lines, error = engine.run(*words)
         if (status, lines) != (USAGE, []) or said not in error:
             yield f"{words}: {status}, {lines}, {error!r}"

@@ -76,7 +76,7 @@ def parts_that_are_not_there_are_not_laid_together(folder):
 def parts_of_other_moments_are_not_laid_together(folder):
     first, later, event = (write_day(folder / name, file(blocks)) for name, blocks in
                            (("first", "AAPL END_2"), ("later", "MSFT END_3"), ("event", "START AAPL END_2")))
-    for label, parts, said in (("a later one", (first, later), "later has not the 1 messages of the check"),
+    for label, parts, said in (("a later one", (first, later), "later does not end after the 1 messages of its check"),
                                ("one with an event", (first, event), "event has another system event"),
                                ("one without", (event, first), "first has another system event")):
         try:

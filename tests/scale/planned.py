@@ -56,20 +56,20 @@ def words_that_ask_for_nothing_are_refused(folder):
     (folder / "other").mkdir()
     same = write_day(folder / "other/day.itch.gz", b"")
     out = "--out", folder / "out"
-    for words, said in ((("plan", *out, day, same), "have the same name"), (("plan", *out, folder / "none"), "is no file"),
-                        (("plan", *out, folder), "is no file"), (("plan", *out), "DAY"), (("plan", day), "--out"),
+    for words, said in ((("plan", *out, day, same), "have the same name"), (("plan", *out, folder / "none"), "is not a file"),
+                        (("plan", *out, folder), "is not a file"), (("plan", *out), "DAY"), (("plan", day), "--out"),
                         (("plan", *out, "--parts", 0, day), "--parts"),
                         (("plan", *out, "--parts", 3, "--locates", 2, day), "from the number of parts"),
                         (("plan", *out, "--locates", 65536, "--parts", 2, day), "from the number of parts"),
                         (("plan", *out, "--parts", 2, "--points", "7", day), "takes as long as the whole"),
-                        (("snapshots", *out, "--points", "noon", day), "'noon' is no point"),
-                        (("snapshots", *out, "--points", "7,", day), "'' is no point"),
-                        (("snapshots", *out, "--points", "24:00", day), "'24:00' is no point"),
-                        (("snapshots", *out, "--part", "../1", day), "'../1' is no list of locates"),
-                        (("plan", *out, "--program", folder / "none", day), "is no file"),
+                        (("snapshots", *out, "--points", "noon", day), "'noon' is not a point"),
+                        (("snapshots", *out, "--points", "7,", day), "'' is not a point"),
+                        (("snapshots", *out, "--points", "24:00", day), "'24:00' is not a point"),
+                        (("snapshots", *out, "--part", "../1", day), "'../1' is not a list of locates"),
+                        (("plan", *out, "--program", folder / "none", day), "is not a file"),
                         *((("merge", *out, "--parts", parts, day), "every locate once") for parts in
                           ("0-5", "0-5,7-65535", "1-65535", "0-5,5-65535", "6-65535,0-5", "0-5,6-3,4-65535", "0-65534", "0-65536")),
-                        (("merge", *out, "--parts", "0-5,6", day), "'6' is no range"), (("merge", *out, day), "--parts"), ((), "command")):
+                        (("merge", *out, "--parts", "0-5,6", day), "'6' is not a range"), (("merge", *out, day), "--parts"), ((), "command")):
         status, output, error = job(*words)
         if (status, output) != (USAGE, "") or said not in error:
             yield f"{words}: {status}, {output!r}, {error!r}"
