@@ -55,6 +55,20 @@ FAULTS = [
     "join - -",
     "join a.snap",
     "join a.snap b.itch c.itch",
+    "show --index day.idx",
+    "show - --index day.idx",
+    "show day.itch --index",
+    "show day.itch --index day.idx --index day.idx",
+    "show day.itch --index day.idx --snapshot",
+    "show day.itch --index day.idx --history",
+    "cut --index day.idx",
+    "cut - --index day.idx",
+    "snap day.itch --index day.idx",
+    "book 1 day.itch --index day.idx",
+    "index a.itch b.itch",
+    "index day.itch --from 2",
+    "index day.itch --json",
+    "index day.itch --after",
     "show --progress=1",
     "show --names --json",
     "show --names=1",
@@ -292,6 +306,7 @@ RULES = {
     "show --snapshot --until 9:30": "the argument '--snapshot' cannot be used with '--until <TIME>'",
     "show --snapshot --from 1": "the argument '--snapshot' cannot be used with '--from <N>'",
     "show --snapshot --since 9:30": "the argument '--snapshot' cannot be used with '--since <TIME>'",
+    "show --snapshot --index i": "the argument '--snapshot' cannot be used with '--index <PATH>'",
     "show --orders --snapshot": "the argument '--orders' cannot be used with '--snapshot'",
     "book 1 --json --csv": "the argument '--json' cannot be used with '--csv'",
     "book 1 --snapshot --after 1": "the argument '--snapshot' cannot be used with '--after <N>'",
@@ -438,7 +453,7 @@ def zsh_completions_escape_what_ends_a_help_text(program):
 def paths_are_completed_where_they_are_written(program):
     """Both where a file or a folder is written and where one is read. No path is completed where a number is expected."""
     zsh, fish = (ended(program, "completions", shell)[1].decode() for shell in ("zsh", "fish"))
-    for option in ("output", "to", "record", "records", "users", "pass-file", "feed-pass-file"):
+    for option in ("output", "index", "to", "record", "records", "users", "pass-file", "feed-pass-file"):
         yield from differs(f"{option} of zsh", set(re.findall(rf"'--{option}\[.*\](.*)'", zsh)), {":file:_files"})
         yield from differs(f"{option} of fish", set(re.findall(rf" -l {option}( -\w)? -d ", fish)), {" -r"})
     for option in ("port", "after", "clients"):

@@ -170,8 +170,9 @@ impl<A: Allocator + Copy> Arrivals<A> {
         if arrival == u64::MAX {
             return Err(AllocError);
         }
+        let stored = put(&mut self.references, Arrived { order, arrival });
         self.is_settled = false;
-        put(&mut self.references, Arrived { order, arrival })?;
+        stored?;
         self.next = arrival + 1;
         Ok(())
     }
@@ -185,9 +186,9 @@ impl<A: Allocator + Copy> Arrivals<A> {
     {
         let (place, arrived) = known(&self.references, reference, place);
         let left = arrived.order.shares - shares;
-        self.is_settled = false;
         if left == 0 {
             cut(&mut self.references, reference);
+            self.is_settled = false;
             return Taken::Gone;
         }
         let order = Order {
@@ -195,6 +196,7 @@ impl<A: Allocator + Copy> Arrivals<A> {
             ..arrived.order
         };
         write(&mut self.references, place, Arrived { order, ..arrived });
+        self.is_settled = false;
         Taken::Left(left)
     }
 
@@ -205,8 +207,9 @@ impl<A: Allocator + Copy> Arrivals<A> {
         ensures orders { self.new.orders ≡ lay (without reference self.old.orders) }
         ensures order { get self.old.orders reference ≡ Some result }
     {
+        let removed = cut(&mut self.references, reference);
         self.is_settled = false;
-        cut(&mut self.references, reference).order
+        removed.order
     }
 
     /// Replaces an order by a new one, last at its price, with the side, locate and attribution of the original. The original is not searched
@@ -239,13 +242,14 @@ impl<A: Allocator + Copy> Arrivals<A> {
             price,
             ..old.order
         };
-        self.is_settled = false;
-        swap(
+        let stored = swap(
             &mut self.references,
             at,
             original,
             Arrived { order, arrival },
-        )?;
+        );
+        self.is_settled = false;
+        stored?;
         self.next = arrival + 1;
         Ok(())
     }

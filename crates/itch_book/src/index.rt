@@ -194,8 +194,8 @@ impl<A: Allocator + Copy> Index<A> {
     /// Reads the orders of the first of these references into the processor's cache, with the data that changes together with them.
     pub(crate) fn look_ahead(&self, references: &[u64]) {
         if self.len() >= MANY {
-            let nodes = links_of(&self.references, references);
-            self.touched.set(self.queues.read_around(&nodes));
+            let (nodes, seen) = links_of(&self.references, references);
+            self.touched.set(self.queues.read_around(&nodes) ^ seen as u64);
         }
     }
 

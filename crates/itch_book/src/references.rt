@@ -106,8 +106,8 @@ impl<A: Allocator> References<A> {
         ensures { self.new ≡ self.old }
     {
         if self.orders.len() >= MANY {
-            let places = links_of(&self.places, references);
-            self.seen = seen_at(&self.orders, &places);
+            let (places, seen) = links_of(&self.places, references);
+            self.seen = seen_at(&self.orders, &places) ^ seen as u64;
         }
     }
 

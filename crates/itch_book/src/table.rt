@@ -79,6 +79,16 @@ impl<A: Allocator> Table<A> {
         self.far.get(&key).copied()
     }
 
+    /// Returns the link of a key, and the number of keys of its page that have a link: so it reads everything that removing the key reads.
+    #[inline(always)]
+    pub(crate) fn read(&self, key: u64) -> (Option<u32>, usize) {
+        let (link, live) = self.near.read(key);
+        if link.is_some() || self.far.is_empty() {
+            return (link, live);
+        }
+        (self.far.get(&key).copied(), live)
+    }
+
     /// Returns whether the page of a key exists: then inserting a link for the key allocates no memory.
     #[inline(always)]
     pub fn has_room(&self, key: u64) -> bool
@@ -139,10 +149,16 @@ impl<A: Allocator> Table<A> {
         ensures link { at self.old key ≡ Some result }
         ensures updates { Updates self.old self.new key None }
     {
-        self.len -= 1;
         match self.near.remove(key) {
-            Some(link) => link,
-            None => self.far.remove(&key).unwrap(),
+            Some(link) => {
+                self.len -= 1;
+                link
+            }
+            None => {
+                let link = self.far.remove(&key).unwrap();
+                self.len -= 1;
+                link
+            }
         }
     }
 }

@@ -1,16 +1,8 @@
 //! Facts about a payload that are known before it is decoded.
-ghost use Rattle.std.specs.Prelude.{◌≡◌, ◌≤◌, ◌||◌, ◌==◌, length};
+ghost use Rattle.std.specs.Prelude.{◌≡◌, ◌≤◌, length};
 ghost use Rattle.itch_codec.specs.Numbers.{number_at};
 
 use crate::fields::u64_at;
-
-/// Returns whether messages of a type change or end a live order: executions, cancels, deletes and replaces.
-#[inline(always)]
-pub fn changes_order(kind: u8) -> bool
-    ensures { result ≡ ((((kind == 69) || (kind == 67)) || (kind == 88)) || (kind == 68)) || (kind == 85) }
-{
-    matches!(kind, b'E' | b'C' | b'X' | b'D' | b'U')
-}
 
 /// Returns the order reference number after the header of a message about an order; of a replace it is the original number. In a payload of
 /// another type these bytes have another meaning.

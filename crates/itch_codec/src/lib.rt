@@ -50,7 +50,7 @@ pub use decoding::decode;
 pub use encoded::Encoded;
 pub use encoding::{Encoder, encode};
 pub use fault::CodecFault;
-pub use glance::{changes_order, reference_in};
+pub use glance::reference_in;
 pub use header::{Header, Stamp};
 pub use json_lines::{JsonText, json};
 pub use message::Message;

@@ -50,13 +50,13 @@ module _ {W T N M : Type 0} (contents : W → Option (List ℕ)) (failures : W �
   SameNames s t = (name t ≡ name s) × (choice_name t ≡ choice_name s)
 
   -- the blocks of the kept ones of these payloads were written
-  record AreCut (s : T) (ps : List (List ℕ)) (t : T) : Type 0 where
+  pub record AreCut (s : T) (ps : List (List ℕ)) (t : T) : Type 0 where
     pub named : SameNames s t
     pub clean : AllByRecursion IsClean ps
     pub chosen : choice t ≡ chosen_past (choice s) (map message_of ps)
     pub wrote : Wrote contents failures (blocks (kept_of (choice s) ps)) (at s) (at t)
 
-  are_cut : (s t : T) (count : ℕ) (ps : List (List ℕ)) → TakesAll Cut s count ps t → AreCut s ps t
+  pub are_cut : (s t : T) (count : ℕ) (ps : List (List ℕ)) → TakesAll Cut s count ps t → AreCut s ps t
   are_cut s t count [] takes = record {
     named = (ap name takes, ap choice_name takes);
     clean = tt;

@@ -6,6 +6,8 @@ pub mod Expectations
 pub mod ShownLines
 pub mod ShownRanges
 pub mod CutBlocks
+pub mod FurtherParts
+pub mod ListedBlocks
 pub mod CutDays
 pub mod ListedLines
 pub mod OrdersLeft

@@ -116,7 +116,7 @@ module _ {W T N M : Type 0} (contents : W → Option (List ℕ)) (failures : W �
   Unshown s number payload why t = (name t ≡ name s) × (choice_name t ≡ choice_name s) × WithholdsMessage contents failures (form s) number payload (choice s) (at s) why (at t)
 
   -- the lines of these payloads were written; the first has this number
-  record AreShown (s : T) (number : ℕ) (ps : List (List ℕ)) (t : T) : Type 0 where
+  pub record AreShown (s : T) (number : ℕ) (ps : List (List ℕ)) (t : T) : Type 0 where
     pub named : name t ≡ name s
     pub choice_named : choice_name t ≡ choice_name s
     pub formed : form t ≡ form s
@@ -124,7 +124,7 @@ module _ {W T N M : Type 0} (contents : W → Option (List ℕ)) (failures : W �
     pub chosen : choice t ≡ chosen_past (choice s) (map message_of ps)
     pub wrote : Wrote contents failures (chosen_lines (form s) (choice s) number (map message_of ps)) (at s) (at t)
 
-  are_shown : (s t : T) (count : ℕ) (ps : List (List ℕ)) → TakesAll Shown s count ps t → AreShown s (count + 1) ps t
+  pub are_shown : (s t : T) (count : ℕ) (ps : List (List ℕ)) → TakesAll Shown s count ps t → AreShown s (count + 1) ps t
   are_shown s t count [] takes = record {
     named = ap name takes;
     choice_named = ap choice_name takes;

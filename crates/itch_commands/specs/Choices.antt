@@ -1,5 +1,5 @@
 -- The messages that `show` chooses, and their form.
-use Rattle.std.specs.Prelude.{ℕ, ◌+◌, ◌==◌, ◌&&◌, Bool, true, false, List, [], ◌∷◌, ◌++◌, Option, Some, None, option_map, if◌then◌else◌}
+use Rattle.std.specs.Prelude.{ℕ, ◌+◌, ◌==◌, ◌&&◌, Bool, true, false, List, [], ◌∷◌, ◌++◌, Option, Some, None, is_some, option_map, if◌then◌else◌}
 use Rattle.std.specs.List.{list_any}
 use Rattle.itch_codec.specs.Headers.{header, kind_of, reference_of, time_of}
 use Rattle.itch_codec.specs.Json.{json_line}
@@ -8,14 +8,15 @@ use Rattle.itch_codec.specs.Named.{named_line}
 use Rattle.itch_codec.specs.declared.header.Header.{Header}
 use Rattle.itch_codec.specs.declared.message.Message.{Message}
 use Rattle.itch_codec.specs.declared.message.Message.TheVariants as is
+use Rattle.itch_day.specs.declared.mark.Mark.{Mark}
 use Rattle.itch_market.specs.Wanted.{Wanted, has}
 use Rattle.itch_commands.specs.declared.filters.Filters.{Filters}
 use Rattle.itch_commands.specs.declared.form.ShowForm.{ShowForm}
 use Rattle.itch_commands.specs.declared.form.ShowForm.TheVariants as form
 use Rattle.itch_commands.specs.declared.start.Start.{Start}
 use Rattle.itch_commands.specs.Rows.{row_of}
-use Rattle.itch_commands.specs.Starts.{first, is_begun, start_after}
-use Rattle.itch_commands.specs.Sought.{Sought, sought, sought_after, is_sought, are_found}
+use Rattle.itch_commands.specs.Starts.{first, is_begun, start_after, start_past}
+use Rattle.itch_commands.specs.Sought.{Sought, listed, sought, sought_after, is_sought, are_found}
 use Rattle.itch_commands.specs.Stocks.{names_of}
 
 -- The criteria for choosing a message, if they are given: the start of a range among the remaining messages, the locates, the stocks, the
@@ -94,6 +95,24 @@ chosen_after chosen message = record {
 unfoldable pub chosen_past : Chosen → List Message → Chosen
 chosen_past chosen [] = chosen
 chosen_past chosen (message ∷ messages) = chosen_past (chosen_after chosen message) messages
+
+-- the choice after the messages of a mark, which are before the range: no stock is looked up in them, and no order is followed
+abbrev pub chosen_past_mark : Chosen → Mark → Chosen
+chosen_past_mark chosen mark = record chosen { start = start_past chosen.start mark }
+
+-- the choice once stocks are looked up in this message
+abbrev pub chosen_listing : Chosen → Message → Chosen
+chosen_listing chosen message = record chosen { stocks = option_map (sought_after message) chosen.stocks }
+
+-- the choice once stocks are looked up in these messages
+unfoldable pub chosen_listing_all : Chosen → List Message → Chosen
+chosen_listing_all chosen [] = chosen
+chosen_listing_all chosen (message ∷ messages) = chosen_listing_all (chosen_listing chosen message) messages
+
+-- the Stock Directory messages among these
+unfoldable pub directory_of : List Message → List Message
+directory_of [] = []
+directory_of (message ∷ messages) = if is_some (listed message) then message ∷ directory_of messages else directory_of messages
 
 -- each of the stocks searched for has come after these messages
 abbrev pub are_found_in : Chosen → List Message → Bool

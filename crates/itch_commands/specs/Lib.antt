@@ -30,3 +30,4 @@ pub mod ListedOrders
 pub mod Cuts
 pub mod Tallies
 pub mod Infos
+pub mod Further

@@ -1,8 +1,9 @@
 -- The beginning of a range in the messages of a file.
-use Rattle.std.specs.Prelude.{ℕ, ◌-◌, ◌==◌, ◌&&◌, Bool, true, List, [], ◌∷◌, Option, None, Some, if◌then◌else◌}
+use Rattle.std.specs.Prelude.{ℕ, ◌-◌, ◌==◌, ◌&&◌, ◌||◌, nat_le, not, Bool, true, List, [], ◌∷◌, Option, None, Some, if◌then◌else◌}
 use Rattle.itch_codec.specs.Headers.{time_of}
 use Rattle.itch_codec.specs.declared.message.Message.{Message}
 use Rattle.itch_day.specs.Limits.{is_from, is_late}
+use Rattle.itch_day.specs.declared.mark.Mark.{Mark}
 use Rattle.itch_commands.specs.declared.start.Start.{Start}
 
 -- the first message
@@ -25,6 +26,20 @@ is_begun start time = (start.before == 0) && is_since start.since time
 -- the beginning of the range in the messages after one with this time
 abbrev pub start_after : Start → Option ℕ → Start
 start_after start time = record { before = start.before - 1; since = since_after start.since time }
+
+-- All messages of a mark are before a range: there are no more of them than messages before the range, or none of them is at the time where
+-- the range begins, or later.
+abbrev pub is_beyond : Start → Mark → Bool
+is_beyond start mark = nat_le mark.count start.before || not (is_since start.since mark.latest)
+
+-- the beginning of the range in the messages after those of a mark
+abbrev pub start_past : Start → Mark → Start
+start_past start mark = record { before = start.before - mark.count; since = since_after start.since mark.latest }
+
+-- the beginning of the range in the messages after these
+unfoldable pub start_after_all : Start → List Message → Start
+start_after_all start [] = start
+start_after_all start (message ∷ messages) = start_after_all (start_after start (time_of message)) messages
 
 -- the messages before a range: those before the first one in it
 unfoldable pub before_range : Start → List Message → List Message

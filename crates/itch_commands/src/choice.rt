@@ -1,7 +1,7 @@
 //! The choice of messages.
 ghost use Rattle.std.specs.Prelude.{◌≡◌, IsSome, MatchResult, option_map};
 ghost use Rattle.std.specs.Option.{option_copied};
-ghost use Rattle.itch_commands.specs.Choices.{everything, chosen_by, is_located, is_typed, is_about, is_chosen, renamed, chosen_after};
+ghost use Rattle.itch_commands.specs.Choices.{everything, chosen_by, is_located, is_typed, is_about, is_chosen, renamed, chosen_after, chosen_listing, chosen_past_mark};
 ghost use Rattle.itch_commands.specs.Cuts.{Skips, has_stock, is_in, is_kept, is_of_stocks, stock_of};
 ghost use Rattle.itch_commands.specs.Sought.{are_found, is_sought, sought};
 ghost use Rattle.itch_commands.specs.Stocks.{names_of};
@@ -12,6 +12,7 @@ use crate::filters::Filters;
 use crate::sought::SoughtStocks;
 use crate::start::Start;
 use itch_codec::Message;
+use itch_day::Mark;
 use itch_market::LocateSet;
 use std::alloc::Allocator;
 use std::marker::Model;
@@ -140,6 +141,23 @@ impl<'a, A: Allocator> Choice<'a, A> {
         }
         if let Some(reference) = self.reference {
             self.reference = Some(renamed(message, reference));
+        }
+    }
+
+    /// Passes the messages of a mark, all of which are before the range. Their Stock Directory messages are passed by [`Choice::list`], and no
+    /// order is followed through them.
+    pub fn pass_mark(&mut self, mark: Mark)
+        ensures { self.new ≡ chosen_past_mark self.old mark }
+    {
+        self.start = self.start.past(mark);
+    }
+
+    /// Looks up stocks in a message before the range, which [`Choice::pass_mark`] has passed.
+    pub fn list(&mut self, message: &Message<'_>)
+        ensures { self.new ≡ chosen_listing self.old message.now }
+    {
+        if let Some(sought) = &mut self.stocks {
+            sought.pass(message);
         }
     }
 

@@ -2,6 +2,7 @@
 ghost use Rattle.std.specs.Option.{option_copied};
 ghost use Rattle.itch_commands.specs.Cuts.{Cuts, CutsFile, CutsPart};
 
+mod after;
 mod at_hand;
 mod sink;
 
@@ -9,6 +10,7 @@ use crate::choice::Choice;
 use crate::fault::ToolFault;
 use crate::filters::Filters;
 use crate::show::{answer, if_found};
+pub use after::cut_after;
 pub(crate) use at_hand::order_at;
 use itch_day::{Limit, pass_stop, read_part};
 use itch_frame::{BlockReader, CountedRead, CountedWrite};

@@ -14,6 +14,7 @@
 //! ```
 #![tactic(auto)]
 
+mod begun;
 pub mod book;
 pub mod canon;
 pub mod check;
@@ -45,7 +46,9 @@ mod stock_names;
 mod stocks;
 mod writing;
 
+pub use begun::Begun;
 pub use choice::Choice;
+pub use cut::cut_after;
 pub use expected::{Expected, Unmet};
 pub use fault::{Source, ToolFault, status, system_fault};
 pub use feed_part::{FeedPart, Misfit};

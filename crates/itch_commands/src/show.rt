@@ -7,6 +7,7 @@ ghost use Rattle.itch_commands.specs.Showing.{Shows, ShowsPart, answer_of};
 ghost use Rattle.itch_commands.specs.declared.fault.ToolFault.TheVariants.{OutOfMemory};
 ghost use Rattle.itch_commands.specs.declared.form.ShowForm.TheVariants.{Text};
 
+mod after;
 mod found;
 mod headings;
 mod lines;
@@ -18,6 +19,7 @@ mod sink;
 use crate::choice::Choice;
 use crate::fault::{Source, ToolFault};
 use crate::form::ShowForm;
+pub use after::show_after;
 pub(crate) use found::if_found;
 pub(crate) use headings::write_heading;
 use itch_day::{Limit, Stop as PartStop, pass_stop, read_part};

@@ -1,6 +1,8 @@
 //! The beginning of a range in the messages of a file.
 ghost use Rattle.std.specs.Prelude.{◌≡◌};
-ghost use Rattle.itch_commands.specs.Starts.{first, is_begun, is_since, since_after, start_after};
+ghost use Rattle.itch_commands.specs.Starts.{first, is_begun, is_beyond, is_since, since_after, start_after, start_past};
+
+use itch_day::Mark;
 
 /// The beginning of a range in the messages of a file: the later of the two. The range ends with the file, or with the part that is read.
 #[derive(Clone, Copy, Debug, PartialEq, Eq)]
@@ -38,6 +40,24 @@ impl Start {
         Start {
             before: self.before.saturating_sub(1),
             since: since_after(self.since, time),
+        }
+    }
+
+    /// Returns whether all messages of a mark are before the range: there are no more of them than messages before the range, or none of them
+    /// is at the time where the range begins, or later.
+    pub fn is_beyond(&self, mark: &Mark) -> bool
+        ensures { result ≡ is_beyond self.now mark.now }
+    {
+        mark.count <= self.before || !is_since(self.since, mark.latest)
+    }
+
+    /// Returns the beginning of the range in the messages after those of a mark.
+    pub fn past(self, mark: Mark) -> Start
+        ensures { result ≡ start_past self mark }
+    {
+        Start {
+            before: self.before.saturating_sub(mark.count),
+            since: since_after(self.since, mark.latest),
         }
     }
 }

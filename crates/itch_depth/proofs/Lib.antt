@@ -3,3 +3,13 @@ pub mod OneTime
 pub mod PartsOfDays
 pub mod TimesInTurn
 pub mod MultiplesInTurn
+pub mod PartsInTurn
+pub mod JsonArrays
+pub mod ChangedBooks
+pub mod BestPrices
+pub mod LookedAt
+pub mod BetterPrices
+pub mod ChangedOrders
+pub mod OwnMarkets
+pub mod FollowedStocks
+pub mod Followings

@@ -1,2 +1,5 @@
 pub mod Timed
 pub mod Series
+pub mod Changes
+pub mod ChangedPrices
+pub mod Following

@@ -13,7 +13,7 @@ mod at_hand;
 mod plain;
 mod rules;
 
-use crate::ahead::Ahead;
+use crate::ahead::{MOST_ORDERS, note_orders};
 use crate::locates::Locates;
 use crate::refusal::Refusal;
 use crate::securities::Securities;
@@ -115,9 +115,10 @@ impl<B: OrderBook> Market<B> {
     pub fn look_ahead(&mut self, blocks: &[u8]) -> u64
         ensures { self.new ≡ self.old }
     {
-        let ahead = Ahead::of(blocks);
-        self.book.look_ahead(ahead.references());
-        ahead.messages
+        let mut references = [0; MOST_ORDERS];
+        let (orders, messages) = note_orders(blocks, &mut references);
+        self.book.look_ahead(&references[..orders.min(MOST_ORDERS)]);
+        messages
     }
 
     /// Returns the live orders.

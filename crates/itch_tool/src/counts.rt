@@ -2,7 +2,7 @@
 ghost use Rattle.std.specs.Prelude.{◌<◌, IfSome};
 
 use itch_commands::{Command, FileKind, PairCommand, Request};
-use itchsnap_cli::words::{Job, PointWords, Points};
+use itchsnap_cli::words::{IndexedWork, Job, PointWords, Points};
 
 /// The number of messages after which a command stops, and the number that it expects.
 #[derive(Clone, Copy)]
@@ -15,6 +15,12 @@ impl Counts {
     pub fn of(job: &Job<'_>) -> Counts {
         match job {
             Job::Files { request, .. } => Counts::of_request(*request),
+            Job::Index(words) => Counts::after(words.limit.after),
+            Job::Indexed(words) => match &words.work {
+                IndexedWork::Command(command) => Counts::of_command(*command),
+                IndexedWork::History(words) => Counts::after(words.limit.after),
+            },
+            Job::History(words) => Counts::after(words.limit.after),
             Job::Points(PointWords { points, .. }) => Counts::of_points(points),
             Job::Serve { kind, .. } => Counts::of_kind(*kind),
             _ => Counts::nothing(),

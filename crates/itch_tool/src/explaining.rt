@@ -6,14 +6,15 @@ use crate::failure::Failure;
 use crate::final_status::{ends_by_closed_pipe, final_status};
 use crate::hints::{MixedUp, login_hint, mixup_of};
 use crate::lacked_locate::{bad_list, lacked_locate};
-use crate::names::{CommandFiles, JobNames, Name, SessionNames, Subject};
-use crate::packed::packed_file;
+use crate::names::{CommandFiles, InputFile, JobNames, Name, SessionNames, Subject};
+use crate::packed::{PackedFile, packed_file};
 use crate::second_look::{lacked_stock, last_event};
 use crate::selected::Selected;
 use clap::Error;
 use clap::error::ErrorKind;
 use itch_checkpoints::Unfit;
 use itch_commands::{Source, ToolFault, Unmet, system_fault};
+use itch_offsets::Unfit as IndexUnfit;
 use itch_records::{LiveFault, Names};
 use itch_sessions::{SessionCause, SessionDevice, SessionFault};
 use itch_soup::SoupFault;
@@ -138,6 +139,17 @@ fn say<R: Files + Eprint + AllocGlobal>(
         Failure::OnlyOnce { path } => {
             rt.eprintln("itchsnap: cannot read twice")?;
             eprintln!(rt; "  {path}: --history needs a regular file")
+        }
+        Failure::NotPlaced { path } => {
+            rt.eprintln("itchsnap: cannot seek")?;
+            eprintln!(rt; "  {path}: --index needs a regular file")
+        }
+        Failure::Index { why, detail } => {
+            let file = InputFile {
+                words: "",
+                ..names.files.last()
+            };
+            say_index(rt, *why, detail.as_str(), file, beginning)
         }
         Failure::Checkpoint { why, detail } => {
             let feed = names.files.subject(Source::Only);
@@ -267,6 +279,28 @@ fn say_unfit<R: Files + Eprint>(
         Unfit::Beyond | Unfit::OtherDay => packed_file(rt, feed, beginning),
         Unfit::Partial => None,
     };
+    say_detail(rt, packed, detail)
+}
+
+// Writes why an index does not fit. The file may have other bytes because it is compressed.
+fn say_index<R: Files + Eprint>(
+    rt: &R,
+    why: IndexUnfit,
+    detail: &str,
+    file: InputFile<'_>,
+    beginning: &Beginning,
+) -> io::Result<()> {
+    eprintln!(rt; "itchsnap: {why}")?;
+    let packed = match why {
+        IndexUnfit::Beyond | IndexUnfit::OtherDay => {
+            packed_file(rt, Subject::Input(file), beginning)
+        }
+        IndexUnfit::Invalid => None,
+    };
+    say_detail(rt, packed, detail)
+}
+
+fn say_detail(rt: &impl Eprint, packed: Option<PackedFile<'_>>, detail: &str) -> io::Result<()> {
     match packed {
         Some(packed) => eprintln!(rt; "  {packed}"),
         None => eprintln!(rt; "  {detail}"),

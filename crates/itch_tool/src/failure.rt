@@ -4,6 +4,7 @@ ghost use Rattle.itch_tool.specs.Endings.{failure_status};
 
 use itch_checkpoints::Unfit;
 use itch_commands::ToolFault;
+use itch_offsets::Unfit as IndexUnfit;
 use itch_sessions::{LoginsFault, SessionFault};
 use std::alloc::{AllocError, Global};
 use std::io::{self, ErrorKind};
@@ -34,6 +35,15 @@ pub enum Failure {
     /// The checkpoint nearest to a point of the day does not fit.
     Checkpoint {
         why: Unfit,
+        detail: String,
+    },
+    /// The file at this path cannot be read from any place: it is a pipe or a device.
+    NotPlaced {
+        path: String,
+    },
+    /// The index of a day file does not fit.
+    Index {
+        why: IndexUnfit,
         detail: String,
     },
     /// The users file at this path is invalid.
@@ -70,6 +80,8 @@ impl Failure {
             Failure::NoOrder { .. } => 1,
             Failure::OnlyOnce { .. } => 3,
             Failure::Checkpoint { .. } => 1,
+            Failure::NotPlaced { .. } => 3,
+            Failure::Index { .. } => 1,
             Failure::Users { .. } => 2,
             Failure::Said { status } => *status,
         }

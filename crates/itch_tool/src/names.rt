@@ -7,8 +7,8 @@ use crate::selected::Selected;
 use itch_commands::{Command, FileKind, PairCommand, Request, Source};
 use itch_sessions::{SessionDevice, SessionFault};
 use itchsnap_cli::words::{
-    BookWords, FeedWords, FollowWords, HistoryWords, Job, LiveWords, PointWords, Server,
-    StatusWords,
+    FeedWords, FollowWords, HistoryWords, IndexWords, IndexedWords, IndexedWork, Job, LiveWords,
+    PointWords, Server, StatusWords,
 };
 use std::fmt;
 use std::net::SocketAddr;
@@ -183,6 +183,24 @@ impl<'a> CommandFiles<'a> {
         CommandFiles::of_one(Some(words.file), "", SnapshotFlag::NotTaken, None)
     }
 
+    pub fn of_index(words: &IndexWords<'a>) -> Self
+        ensures file { result.last.path ≡ words.now.file }
+        ensures output { result.output ≡ words.now.output }
+    {
+        CommandFiles::of_one(words.file, "index", SnapshotFlag::NotTaken, words.output)
+    }
+
+    pub fn of_indexed(words: &IndexedWords<'a>) -> Self
+        ensures file { result.last.path ≡ Some words.now.file }
+        ensures output { result.output ≡ words.now.output }
+    {
+        let (standard, flag) = match &words.work {
+            IndexedWork::Command(command) => (words_of(command), flag_of(command)),
+            IndexedWork::History(_) => ("", SnapshotFlag::NotTaken),
+        };
+        CommandFiles::of_one(Some(words.file), standard, flag, words.output)
+    }
+
     pub fn of_points(words: &PointWords<'a>) -> Self
         ensures file { result.last.path ≡ words.now.file }
         ensures folder { result.output ≡ Some words.now.folder }
@@ -191,10 +209,10 @@ impl<'a> CommandFiles<'a> {
         CommandFiles::of_one(words.file, "snap --to ..", SnapshotFlag::NotTaken, folder)
     }
 
-    pub fn of_books(words: &BookWords<'a>) -> Self
-        ensures { result.last.path ≡ words.now.file }
+    pub fn of_books(path: Option<&'a str>) -> Self
+        ensures { result.last.path ≡ path.entry }
     {
-        CommandFiles::of_one(words.file, "book ..", SnapshotFlag::NotTaken, None)
+        CommandFiles::of_one(path, "book ..", SnapshotFlag::NotTaken, None)
     }
 
     pub fn of_served(path: Option<&'a str>, kind: FileKind) -> Self
@@ -361,9 +379,12 @@ impl<'a> JobNames<'a> {
                 output,
                 ..
             } => JobNames::of_files(CommandFiles::of_request(request, *output)),
+            Job::Index(words) => JobNames::of_files(CommandFiles::of_index(words)),
+            Job::Indexed(words) => JobNames::of_files(CommandFiles::of_indexed(words)),
             Job::History(words) => JobNames::of_files(CommandFiles::of_history(words)),
             Job::Points(words) => JobNames::of_files(CommandFiles::of_points(words)),
-            Job::Books(words) => JobNames::of_files(CommandFiles::of_books(words)),
+            Job::Books(words) => JobNames::of_files(CommandFiles::of_books(words.file)),
+            Job::Changes(words) => JobNames::of_files(CommandFiles::of_books(words.file)),
             Job::Serve {
                 file,
                 kind,

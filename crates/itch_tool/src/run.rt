@@ -3,8 +3,11 @@
 use crate::at::join_at;
 use crate::beginning::Beginning;
 use crate::books::run_books;
+use crate::changes::run_changes;
 use crate::failure::Failure;
 use crate::history::run_history;
+use crate::indexed::run_indexed;
+use crate::indexing::run_index;
 use crate::live::{run_feed, run_follow, run_live};
 use crate::locate_list::read_only;
 use crate::opened::open;
@@ -39,9 +42,12 @@ where
             progress,
             output,
         } => run_request(rt, *request, *progress, beginning, *output),
+        Job::Index(words) => run_index(rt, words, beginning),
+        Job::Indexed(words) => run_indexed(rt, words, beginning),
         Job::History(words) => run_history(rt, words, beginning),
         Job::Points(words) => run_points(rt, words, beginning),
         Job::Books(words) => run_books(rt, words, beginning),
+        Job::Changes(words) => run_changes(rt, words, beginning),
         Job::Serve {
             file,
             kind,
@@ -166,8 +172,8 @@ fn sources(command: &PairCommand<'_>) -> (Source, Source) {
     }
 }
 
-// Performs a command over the bytes of its file.
-fn perform_over<A: Allocator + Copy, R: Read + Drop, W: CountedWrite>(
+/// Performs a command over the bytes of its file.
+pub fn perform_over<A: Allocator + Copy, R: Read + Drop, W: CountedWrite>(
     alloc: A,
     command: Command<'_>,
     only: Option<&LocateSet<A>>,

@@ -1,7 +1,9 @@
 //! The selection of a request, and the part of its file.
 
 use itch_commands::{Command, FileKind, Limit, PairCommand, Request, Selection};
-use itchsnap_cli::words::{BookWords, HistoryWords, Job, PointWords, Times};
+use itchsnap_cli::words::{
+    BookWords, ChangeWords, HistoryWords, IndexedWords, IndexedWork, Job, PointWords, Times,
+};
 
 /// The list of locates or of stocks that a request selects, and the part of its one file that it reads.
 #[derive(Clone, Copy)]
@@ -16,13 +18,27 @@ impl<'a> Selected<'a> {
     pub fn of(job: &Job<'a>) -> Selected<'a> {
         match job {
             Job::Files { request, .. } => Selected::of_request(*request),
-            Job::History(HistoryWords { filters, limit, .. }) => {
-                Selected::new(filters.only, filters.stocks, Some(*limit))
-            }
+            Job::Indexed(IndexedWords { work, .. }) => match work {
+                IndexedWork::Command(command) => Selected::of_command(*command),
+                IndexedWork::History(words) => Selected::of_history(words),
+            },
+            Job::History(words) => Selected::of_history(words),
             Job::Points(PointWords { only, .. }) => Selected::new(*only, None, None),
             Job::Books(words) => Selected::of_books(words),
+            Job::Changes(
+                ChangeWords {
+                    selection,
+                    limit,
+                    ..
+                },
+            ) => { Selected::by(*selection, Some(*limit)) }
             _ => Selected::nothing(),
         }
+    }
+
+    fn of_history(words: &HistoryWords<'a>) -> Selected<'a> {
+        let filters = words.filters;
+        Selected::new(filters.only, filters.stocks, Some(words.limit))
     }
 
     pub fn nothing() -> Selected<'a> {

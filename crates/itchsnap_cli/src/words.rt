@@ -1,8 +1,8 @@
 //! Parses the command line of `itchsnap`.
 //!
-//! [`read_job`] parses it into a [`Job`]: a request over files, [`PointWords`], [`BookWords`], [`HistoryWords`], a session with its [`LoginWords`], a
-//! live server, a feed to follow or to play, or the [`Completions`] of a shell. Otherwise it returns a usage fault, or a request for help or the
-//! version.
+//! [`read_job`] parses it into a [`Job`]: a request over files, [`PointWords`], [`BookWords`], [`ChangeWords`], [`HistoryWords`], a session with
+//! its [`LoginWords`], a live server, a feed to follow or to play, or the [`Completions`] of a shell. Otherwise it returns a usage fault, or a
+//! request for help or the version.
 //!
 //! ```
 //! // of `itchsnap check day.itch`
@@ -16,12 +16,14 @@
 mod argument;
 mod arguments;
 mod books;
+mod changes;
 mod commands;
 mod completions;
 mod duration;
 mod fault;
 mod help;
 mod history;
+mod indexed;
 mod job;
 mod live;
 mod places;
@@ -33,9 +35,11 @@ mod status;
 mod time;
 
 pub use books::{BookWords, Times};
+pub use changes::ChangeWords;
 pub use commands::usage_error;
 pub use completions::{Completions, Shell};
 pub use history::{HistoryForm, HistoryWords};
+pub use indexed::{IndexWords, IndexedWords, IndexedWork};
 pub use job::{Job, read_job};
 pub use live::{FeedWords, FollowWords, LiveWords};
 pub use points::{PointWords, Points};

@@ -123,6 +123,18 @@ impl<A: Allocator> Pages<A> {
         }
     }
 
+    /// Returns the link of a key, and the number of keys of its page that have a link.
+    #[inline(always)]
+    pub(crate) fn read(&self, key: u64) -> (Option<u32>, usize) {
+        match place_at(&self.directory, (key / KEYS) as usize) {
+            Some(place) => {
+                let page = &self.pages[place as usize];
+                (link_of(page, (key % KEYS) as usize), page.live)
+            }
+            None => (None, 0),
+        }
+    }
+
     /// Replaces the link of a key.
     #[inline(always)]
     pub(crate) fn set(&mut self, key: u64, link: u32)

@@ -40,6 +40,12 @@ pub const SINCE: Argument = Argument::Optional {
     help: "Start with the first message at TIME or later, such as 9:30",
 };
 
+pub const INDEX: Argument = Argument::Optional {
+    long: "index",
+    value: Value::Path("PATH"),
+    help: "Start reading at the range, by this index of the file; the output is the same",
+};
+
 pub const RECORDED: Argument = Argument::Flag {
     long: "snapshot",
     help: "Read snapshots instead of day files",

@@ -72,13 +72,14 @@ The script completes commands, options, their fixed values, and the paths of fil
 };
 
 /// The commands, in the order of the help.
-pub const COMMANDS: [Entry; 17] = [
+pub const COMMANDS: [Entry; 18] = [
     files::CHECK,
     files::INFO,
     files::SHOW,
     files::BOOK,
     files::COMPARE,
     files::CUT,
+    files::INDEX_COMMAND,
     snapshots::SNAP,
     snapshots::JOIN,
     snapshots::AT,

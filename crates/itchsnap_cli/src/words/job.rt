@@ -3,11 +3,15 @@ ghost use Rattle.std.specs.Prelude.{◌≡◌, option_map};
 ghost use Rattle.itchsnap_cli.specs.Jobs.{output_of, writes_snapshot};
 
 use crate::words::books::{BookWords, read_book_words};
+use crate::words::changes::{ChangeWords, read_changes};
 use crate::words::commands::command;
 use crate::words::completions::Shell;
 use crate::words::fault::{Fault, usage_fault};
 use crate::words::help::with_program_help;
 use crate::words::history::{HistoryWords, read_history};
+use crate::words::indexed::{
+    IndexWords, IndexedWords, IndexedWork, read_index_words, read_indexed,
+};
 use crate::words::live::{FeedWords, FollowWords, LiveWords, read_feed, read_follow, read_live};
 use crate::words::points::{PointWords, SnapWords, read_snap_words};
 use crate::words::request::{read_kind, read_output, read_path, read_request, read_snap};
@@ -32,12 +36,18 @@ pub enum Job<'a> {
         progress: bool,
         output: Option<&'a str>,
     },
+    /// Write the index of a day file.
+    Index(IndexWords<'a>),
+    /// Show or cut a day file with its index.
+    Indexed(IndexedWords<'a>),
     /// Show the complete history of an order.
     History(HistoryWords<'a>),
     /// Write the snapshots of several points of a day file into a folder.
     Points(PointWords<'a>),
     /// Write the books of a day file at several times.
     Books(BookWords<'a>),
+    /// Write the best prices of one stock after each message that changes them.
+    Changes(ChangeWords<'a>),
     /// Serve the market of a file, or of standard input if none is named, to `count` connections. Port 0 means a free port.
     Serve {
         file: Option<&'a str>,
@@ -75,6 +85,8 @@ impl<'a> Job<'a> {
     {
         match self {
             Job::Files { output, .. } | Job::Fetch { output, .. } => *output,
+            Job::Index(words) => words.output,
+            Job::Indexed(words) => words.output,
             Job::Points(words) => Some(words.folder),
             _ => None,
         }
@@ -87,9 +99,12 @@ fn writes_snapshot(job: &Job<'_>) -> bool
 {
     match job {
         Job::Files { request, .. } => request.is_binary(),
-        Job::History(_)
+        Job::Indexed(words) => words.work.is_binary(),
+        Job::Index(_)
+        | Job::History(_)
         | Job::Points(_)
         | Job::Books(_)
+        | Job::Changes(_)
         | Job::Serve { .. }
         | Job::Live(_)
         | Job::Feed(_)
@@ -152,8 +167,10 @@ fn read_matched<'a>(
             SnapWords::Several(words) => Ok(Job::Points(words)),
             SnapWords::One(limit) => files(alloc, options, read_snap(alloc, options, limit)?),
         },
-        Some(("show", options)) if options.get_flag("history") => {
-            Ok(Job::History(read_history(alloc, options)?))
+        Some(("index", options)) => Ok(Job::Index(read_index_words(alloc, options)?)),
+        Some(("show", options)) | Some(("cut", options)) => read_shown(alloc, matches, options),
+        Some(("book", options)) if options.get_flag("changes") => {
+            Ok(Job::Changes(read_changes(alloc, options)?))
         }
         Some(("book", options)) => match read_book_words(alloc, options)? {
             Some(words) => Ok(Job::Books(words)),
@@ -162,6 +179,21 @@ fn read_matched<'a>(
         Some((_, options)) => files(alloc, options, read_request(alloc, matches)?),
         None => Err(usage_fault(alloc, "a command is missing")?),
     }
+}
+
+// Returns the job of `show` or `cut`.
+fn read_shown<'a>(
+    alloc: Global,
+    matches: &ArgMatches<'a>,
+    options: &ArgMatches<'a>,
+) -> Result<Job<'a>, Fault> {
+    if let Some(words) = read_indexed(alloc, matches, options)? {
+        return Ok(Job::Indexed(words));
+    }
+    if options.get_flag("history") {
+        return Ok(Job::History(read_history(alloc, options)?));
+    }
+    files(alloc, options, read_request(alloc, matches)?)
 }
 
 // Returns whether standard output would get a snapshot or a day file, which are not shown on a terminal.
@@ -180,7 +212,13 @@ fn terminal_fault(job: &Job<'_>) -> &'static str {
                 ..
             },
             ..
-        } => "messages are not written to a terminal: redirect the output, or give --output",
+        }
+        | Job::Indexed(
+            IndexedWords {
+                work: IndexedWork::Command(_),
+                ..
+            },
+        ) => "messages are not written to a terminal: redirect the output, or give --output",
         _ => "a snapshot is not written to a terminal: redirect the output, or give --output",
     }
 }

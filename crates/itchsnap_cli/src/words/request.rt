@@ -409,8 +409,8 @@ pub fn read_book_form<'a>(alloc: Global, options: &ArgMatches<'a>) -> Result<Boo
     }
 }
 
-// Reads the requested part of a file, after `--after` and `--until`.
-fn read_limit<'a>(alloc: Global, options: &ArgMatches<'a>) -> Result<Limit, Fault> {
+/// Reads the requested part of a file, after `--after` and `--until`.
+pub fn read_limit<'a>(alloc: Global, options: &ArgMatches<'a>) -> Result<Limit, Fault> {
     Ok(Limit {
         after: read_count(alloc, options, "after", "--after takes decimal digits")?,
         until: read_until(alloc, options)?,

@@ -2,8 +2,8 @@
 
 use crate::words::argument::{Argument, Value};
 use crate::words::arguments::{
-    AFTER, FILE, FROM, JSON, JSON_OR_CSV, MOST_COUNTED, NOT_AFTER, NOT_UNTIL, OUTPUT, PROGRESS,
-    RECORDED, SINCE, TYPES, UNTIL,
+    AFTER, FILE, FROM, INDEX, JSON, JSON_OR_CSV, MOST_COUNTED, NOT_AFTER, NOT_UNTIL, OUTPUT,
+    PROGRESS, RECORDED, SINCE, TYPES, UNTIL,
 };
 use crate::words::commands::{Entry, Group, Rule, Topic};
 
@@ -81,7 +81,7 @@ select messages.",
     groups: &[
         Group {
             heading: "Input",
-            takes: &[FROM, SINCE, AFTER, UNTIL, RECORDED],
+            takes: &[FROM, SINCE, AFTER, UNTIL, INDEX, RECORDED],
         },
         Group {
             heading: "Selection",
@@ -139,6 +139,7 @@ select messages.",
         NOT_UNTIL,
         Rule::Excludes("snapshot", "from"),
         Rule::Excludes("snapshot", "since"),
+        Rule::Excludes("snapshot", "index"),
     ],
     example: "Example: itchsnap show day.itch --reference 7",
 };
@@ -178,6 +179,10 @@ bids before asks, the best first.",
                     long: "every",
                     value: Value::Text("DURATION"),
                     help: "Print the books at each multiple of D since midnight, such as 1m or 500ms",
+                },
+                Argument::Flag {
+                    long: "changes",
+                    help: "Print the best prices of one stock after each message that changes them",
                 },
                 RECORDED,
             ],
@@ -220,6 +225,9 @@ bids before asks, the best first.",
         Rule::Excludes("every", "after"),
         Rule::Excludes("every", "until"),
         Rule::Excludes("every", "snapshot"),
+        Rule::Excludes("changes", "at"),
+        Rule::Excludes("changes", "every"),
+        Rule::Excludes("changes", "snapshot"),
     ],
     example: "Example: itchsnap book 1 day.itch --until 10:30 --depth 5",
 };
@@ -278,7 +286,7 @@ select messages.",
     groups: &[
         Group {
             heading: "Input",
-            takes: &[FROM, SINCE, AFTER, UNTIL],
+            takes: &[FROM, SINCE, AFTER, UNTIL, INDEX],
         },
         Group {
             heading: "Selection",
@@ -303,4 +311,27 @@ select messages.",
     ],
     rules: &[],
     example: "Example: itchsnap cut day.itch --stock AAPL --since 9:30 > aapl.itch",
+};
+
+pub const INDEX_COMMAND: Entry = Entry {
+    name: "index",
+    topic: Topic::Files,
+    about: "Write the index of a day file, with which `show` and `cut` begin at a range",
+    details: "Write the index of a day file, with which `show` and `cut` begin at a range
+
+It has a row for every 65,536 messages, and the stocks of the day. A file that `show` refuses is refused.",
+    usage: None,
+    words: &[FILE],
+    groups: &[
+        Group {
+            heading: "Input",
+            takes: &[AFTER, UNTIL],
+        },
+        Group {
+            heading: "Output",
+            takes: &[OUTPUT, PROGRESS],
+        },
+    ],
+    rules: &[],
+    example: "Example: itchsnap index day.itch --output day.idx",
 };

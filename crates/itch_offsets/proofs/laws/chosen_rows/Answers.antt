@@ -1,0 +1,19 @@
+use Rattle.std.proofs.Common.{None}
+use Rattle.itch_day.proofs.Marks.{in_part}
+use Rattle.itch_day.specs.Limits.{IsEarly}
+use Rattle.itch_day.specs.Marks.{is_before, is_in, is_within}
+use Rattle.itch_commands.specs.Starts.{is_beyond}
+use Rattle.itch_offsets.proofs.Beginnings.{and_first, and_second, begins, most}
+use Rattle.itch_offsets.proofs.laws.chosen_rows.Goals as goal
+
+pub returns-clause-found : goal.returns-clause-found
+returns-clause-found c = λ range rows. begins range None rows tt
+
+pub returns-clause-most : goal.returns-clause-most
+returns-clause-most c = λ range rows. most range None rows
+
+pub returns-clause-early : goal.returns-clause-early
+returns-clause-early c = λ range mark payloads is may.
+    let both = and_second (is_beyond range.start mark) (is_in range.limit mark) may in
+    in_part range.limit mark payloads is (and_first (is_within range.limit.after mark.count) (is_before range.limit.until mark.latest) both)
+    (and_second (is_within range.limit.after mark.count) (is_before range.limit.until mark.latest) both)

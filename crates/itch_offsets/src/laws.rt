@@ -1,0 +1,49 @@
+//! Laws of reading a range from a row of an index on.
+//!
+//! The functions do nothing: their clauses are the laws.
+ghost use Rattle.std.specs.Prelude.{◌≡◌, ◌+◌, ◌++◌, ◌≤◌, ℕ, true, List, None, IfSome, length, map};
+ghost use Rattle.std.specs.List.{AllByRecursion};
+ghost use Rattle.itch_codec.specs.Headers.{time_of};
+ghost use Rattle.itch_codec.specs.Messages.{message_of};
+ghost use Rattle.itch_codec.specs.declared.message.Message.{Message};
+ghost use Rattle.itch_commands.specs.Choices.{Chosen, chosen_lines, chosen_listing_all, chosen_past, chosen_past_mark, directory_of};
+ghost use Rattle.itch_commands.specs.Cuts.{kept_of};
+ghost use Rattle.itch_commands.specs.Starts.{before_range, is_beyond, start_after_all, start_past};
+ghost use Rattle.itch_commands.specs.declared.form.ShowForm.{ShowForm};
+ghost use Rattle.itch_commands.specs.declared.start.Start.{Start};
+ghost use Rattle.itch_day.specs.Limits.{IsEarly};
+ghost use Rattle.itch_day.specs.Marks.{IsMark};
+ghost use Rattle.itch_day.specs.declared.mark.Mark.{Mark};
+ghost use Rattle.itch_offsets.specs.Beginnings.{begin_after, may_begin, most_of};
+ghost use Rattle.itch_offsets.specs.declared.begin.Range.{Range};
+ghost use Rattle.itch_offsets.specs.declared.row.Row.{Row};
+
+/// The number of the messages of a mark and their latest timestamp determine whether all of them are before a range, and where the range
+/// begins in the messages after them.
+pub fn marked_ranges()
+    ensures beyond { (start : Start) → (mark : Mark) → (payloads : List (List ℕ)) → IsMark mark payloads → is_beyond start mark ≡ true
+        → before_range start (map message_of payloads) ≡ map message_of payloads }
+    ensures within { (start : Start) → (mark : Mark) → (payloads : List (List ℕ)) → IsMark mark payloads
+        → before_range start (map message_of payloads) ≡ map message_of payloads → is_beyond start mark ≡ true }
+    ensures past { (start : Start) → (mark : Mark) → (payloads : List (List ℕ)) → IsMark mark payloads
+        → start_after_all start (map message_of payloads) ≡ start_past start mark }
+{}
+
+/// If the messages of a mark are before the range and no order is followed, the choice after them is known from the mark and their Stock
+/// Directory messages. From there on the same lines are shown, and the same blocks kept, as from the beginning.
+pub fn marked_choices()
+    ensures choice { (chosen : Chosen) → (mark : Mark) → (payloads : List (List ℕ)) → IsMark mark payloads → Chosen.reference chosen ≡ None
+        → chosen_past chosen (map message_of payloads) ≡ chosen_listing_all (chosen_past_mark chosen mark) (directory_of (map message_of payloads)) }
+    ensures lines { (form : ShowForm) → (chosen : Chosen) → (number : ℕ) → (before after : List Message) → before_range (Chosen.start chosen) before ≡ before
+        → chosen_lines form chosen number (before ++ after) ≡ chosen_lines form (chosen_past chosen before) (number + length before) after }
+    ensures blocks { (chosen : Chosen) → (before after : List (List ℕ)) → before_range (Chosen.start chosen) (map message_of before) ≡ map message_of before
+        → kept_of chosen (before ++ after) ≡ kept_of (chosen_past chosen (map message_of before)) after }
+{}
+
+/// A range can be read from the chosen row on, and from no row with more messages. The messages before it are in the requested part.
+pub fn chosen_rows()
+    ensures found { (range : Range) → (rows : List Row) → IfSome (begin_after range None rows) (λ row. may_begin range row.mark ≡ true) }
+    ensures most { (range : Range) → (rows : List Row) → AllByRecursion (λ row. may_begin range row.mark ≡ true → row.mark.count ≤ most_of (begin_after range None rows)) rows }
+    ensures early { (range : Range) → (mark : Mark) → (payloads : List (List ℕ)) → IsMark mark payloads → may_begin range mark ≡ true
+        → IfSome range.limit.after (λ most. length payloads ≤ most) × AllByRecursion (IsEarly range.limit) payloads }
+{}
