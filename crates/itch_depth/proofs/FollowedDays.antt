@@ -298,7 +298,7 @@ module _ {W T N M : Type 0} (contents : W → Option (List ℕ)) (failures : W �
         line_is : change (request last) (count + 1) (message_of p) (market last) (market t) ≡ change_past (request s) ps p
         line_is =
             let m = run (map message_of ps) in
-            let (none, left, still) = taken_on m (market last) (market t) p are.good are.left took.0 took.1.0 took.1.1 in
+            let (none, left, still) = taken_on m (market last) (market t) p are.good are.left took.0 took.1 took.2 in
             let more : run (map message_of (ps ++ p ∷ [])) ≡ effect m (message_of p) = after_more empty ps p in
             ap (λ (r : ChangesRequest). change r (count + 1) (message_of p) (market last) (market t)) are.requested
             ∙ change-laid (request s) (count + 1) (message_of p) m (run (map message_of (ps ++ p ∷ []))) (market last) (market t) are.good (subst IsGood (sym more) still) are.left

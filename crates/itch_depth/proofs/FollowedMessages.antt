@@ -49,40 +49,40 @@ module _ {W : Type 0} (contents : W → Option (List ℕ)) (failures : W → Fai
 
     -- it changes no best price
     pub none_changed : (n : Content) → PassesOne R x m (Ok false) n → ListsOne contents failures R number x m out (Ok tt) n out
-    none_changed n passes = (passes.0, passes.1.0, writes_none (change R number x m n) out (told_lines false n passes))
+    none_changed n passes = (passes.0, passes.1, writes_none (change R number x m n) out (told_lines false n passes))
 
     -- it changes one, and the lines are written, or not
     pub some_changed : (n : Content) (result : Result (Unit {0}) Unfollowed) (after : W) → PassesOne R x m (Ok true) n
         → WritesLines contents failures (lines_of R number (time_or_midnight (time_of x)) n) out result after → ListsOne contents failures R number x m out result n after
     some_changed n (Ok done) after passes wrote =
-        (passes.0, passes.1.0, subst (λ lines. WritesLines contents failures lines out (Ok done) after) (sym (told_lines true n passes)) wrote)
+        (passes.0, passes.1, subst (λ lines. WritesLines contents failures lines out (Ok done) after) (sym (told_lines true n passes)) wrote)
     some_changed n (Err (unfollowed.Refused why)) after passes never = absurd never
     some_changed n (Err (unfollowed.Write error)) after passes wrote =
-        (passes.0, passes.1.0, subst (λ lines. WritesLines contents failures lines out (Err (unfollowed.Write error)) after) (sym (told_lines true n passes)) wrote)
-    some_changed n (Err unfollowed.OutOfMemory) after passes kept = (passes.0, passes.1.0, kept)
+        (passes.0, passes.1, subst (λ lines. WritesLines contents failures lines out (Err (unfollowed.Write error)) after) (sym (told_lines true n passes)) wrote)
+    some_changed n (Err unfollowed.OutOfMemory) after passes kept = (passes.0, passes.1, kept)
 
     -- the payload that spells the message is taken, or not
     module _ (payload : List ℕ) (n : Content) (after : W) (decodes : Decodes payload (Ok x)) where
       takes : reason m x ≡ None → n ≡ laid (effect m x) → TakesMessage m number payload n
       takes none left = (
-        ap (λ f. cause_by f m payload) decodes.0 ∙ ap (option_map stop.Rule) (ap (reason m) (sym decodes.1.0) ∙ none),
-        subst IsMessage decodes.1.0 decodes.1.1,
-        left ∙ ap (λ y. laid (effect m y)) decodes.1.0,
+        ap (λ f. cause_by f m payload) decodes.0 ∙ ap (option_map stop.Rule) (ap (reason m) (sym decodes.1) ∙ none),
+        subst IsMessage decodes.1 decodes.2,
+        left ∙ ap (λ y. laid (effect m y)) decodes.1,
       )
 
       pub decoded_so : (result : Result (Unit {0}) Unfollowed) → ListsOne contents failures R number x m out result n after
           → MatchResult result (λ _. FollowsMessage contents failures R number payload m out n after) (λ why. LeavesMessage contents failures R number payload m out why n after)
       decoded_so (Ok done) (none, left, wrote) =
-          (takes none left, subst (λ y. WritesText contents failures (change R number y m n) out (Ok tt) after) decodes.1.0 wrote)
+          (takes none left, subst (λ y. WritesText contents failures (change R number y m n) out (Ok tt) after) decodes.1 wrote)
       decoded_so (Err (unfollowed.Refused (refused.Rule why))) ((same, refusal), kept) =
-          ((same, (decodes.0, subst (λ y. IsRefusal (reason m y) (takes_memory m y) why) decodes.1.0 refusal)), kept)
+          ((same, (decodes.0, subst (λ y. IsRefusal (reason m y) (takes_memory m y) why) decodes.1 refusal)), kept)
       decoded_so (Err (unfollowed.Refused (refused.Codec f))) lists = absurd lists.0
       decoded_so (Err (unfollowed.Write error)) (none, left, wrote) =
-          (takes none left, subst (λ y. WritesText contents failures (change R number y m n) out (Err (tool.Write error)) after) decodes.1.0 wrote)
+          (takes none left, subst (λ y. WritesText contents failures (change R number y m n) out (Err (tool.Write error)) after) decodes.1 wrote)
       decoded_so (Err unfollowed.OutOfMemory) (none, left, kept) = (takes none left, kept)
 
 -- the same with facts that hold in each case
-pub with_kept : {E : Type 0} {P : Unit {0} → Type 0} {Q : E → Type 0} (A B C : Type 0) (result : Result (Unit {0}) E) → A → B → C → MatchResult result P Q
+pub with_kept : {E : Type 0} (P : Unit {0} → Type 0) (Q : E → Type 0) (A B C : Type 0) (result : Result (Unit {0}) E) → A → B → C → MatchResult result P Q
     → MatchResult result (λ done. A × B × C × P done) (λ why. A × B × Q why)
-with_kept A B C (Ok done) a b c is = (a, b, c, is)
-with_kept A B C (Err why) a b c is = (a, b, is)
+with_kept P Q A B C (Ok done) a b c is = (a, b, c, is)
+with_kept P Q A B C (Err why) a b c is = (a, b, is)
