@@ -45,30 +45,30 @@ pub(crate) fn block_of(line: &[u8]) -> Option<[u8; PAYLOAD + 2]> {
 
 /// The payloads of the Stock Directory messages that passed, one after another.
 #[derive(Drop)]
-pub(crate) struct Directory<A: Allocator> {
+pub(crate) struct DirectoryPayloads<A: Allocator> {
     pub(crate) payloads: Vec<u8, A>,
 }
 
 /// The reason why a message does not pass.
 #[derive(Drop)]
-pub(crate) enum NotPassed {
+pub(crate) enum PassFault {
     /// Its payload is not a valid message.
     Codec(CodecFault),
     /// Memory ran out for a Stock Directory message.
     OutOfMemory,
 }
 
-impl From<AllocError> for NotPassed {
-    fn from(_error: AllocError) -> NotPassed {
-        NotPassed::OutOfMemory
+impl From<AllocError> for PassFault {
+    fn from(_error: AllocError) -> PassFault {
+        PassFault::OutOfMemory
     }
 }
 
-impl<A: Allocator> Sink for Directory<A> {
+impl<A: Allocator> Sink for DirectoryPayloads<A> {
     ghost use Rattle.std.specs.Prelude.{◌≡◌};
     ghost use Rattle.itch_codec.specs.Messages.{fault};
 
-    type Fault = NotPassed;
+    type Fault = PassFault;
 
     ghost is_ready = { λ _ _. Unit {0} };
 
@@ -82,12 +82,12 @@ impl<A: Allocator> Sink for Directory<A> {
         number: u64,
         payload: &[u8],
         message: &Result<Message<'_>, CodecFault>,
-    ) -> Result<(), NotPassed> {
+    ) -> Result<(), PassFault> {
         let _number = number;
         match message {
             Ok(Message::StockDirectory(_)) => Ok(self.payloads.extend_from_slice(payload)?),
             Ok(_) => Ok(()),
-            Err(fault) => Err(NotPassed::Codec(*fault)),
+            Err(fault) => Err(PassFault::Codec(*fault)),
         }
     }
 }

@@ -1,6 +1,6 @@
 //! Reads a day file from row to row.
 
-use crate::directory::{Directory, NotPassed};
+use crate::directory::{DirectoryPayloads, PassFault};
 use itch_commands::{Limit, Source, ToolFault};
 use itch_day::{Mark, Marked, Stop as PartStop, read_part};
 use itch_frame::{BlockReader, CountedRead};
@@ -14,7 +14,7 @@ const ROW: u64 = 65_536;
 #[derive(Drop)]
 pub struct IndexPass<R: CountedRead, A: Allocator, B: Allocator> {
     reader: BlockReader<R, A>,
-    marked: Marked<Directory<B>>,
+    marked: Marked<DirectoryPayloads<B>>,
     ghost few: { marked.mark.count ≤ 10 ^ 19 - 1 },
 }
 
@@ -26,7 +26,7 @@ impl<R: CountedRead, A: Allocator, B: Allocator> IndexPass<R, A, B> {
         IndexPass {
             reader,
             marked: Marked {
-                sink: Directory {
+                sink: DirectoryPayloads {
                     payloads: Vec::new(alloc),
                 },
                 mark: Mark::new(),
@@ -61,7 +61,7 @@ impl<R: CountedRead, A: Allocator, B: Allocator> IndexPass<R, A, B> {
 }
 
 // Returns whether a part goes on after a stop of the reading after this many messages, at a row or before.
-fn answer(stop: PartStop<NotPassed>, limit: Limit, count: u64) -> Result<bool, ToolFault> {
+fn answer(stop: PartStop<PassFault>, limit: Limit, count: u64) -> Result<bool, ToolFault> {
     match stop {
         PartStop::Full => Ok(count < limit.most()),
         PartStop::Late => Ok(false),
@@ -74,8 +74,8 @@ fn answer(stop: PartStop<NotPassed>, limit: Limit, count: u64) -> Result<bool, T
         },
         PartStop::Frame(fault) => Err(stopped(count, Stop::Frame(fault))),
         PartStop::TooMany => Err(stopped(count, Stop::TooManyMessages)),
-        PartStop::Refused(NotPassed::Codec(fault)) => Err(stopped(count, Stop::Codec(fault))),
-        PartStop::Refused(NotPassed::OutOfMemory) => Err(ToolFault::OutOfMemory),
+        PartStop::Refused(PassFault::Codec(fault)) => Err(stopped(count, Stop::Codec(fault))),
+        PartStop::Refused(PassFault::OutOfMemory) => Err(ToolFault::OutOfMemory),
     }
 }
 

@@ -12,7 +12,7 @@ use std::alloc::{AllocError, Allocator, Global};
 
 /// A place in a day file at which a message begins.
 #[derive(Clone, Copy, Debug, PartialEq, Eq)]
-pub struct Row {
+pub struct IndexRow {
     /// The mark of the messages before it.
     pub mark: Mark,
     /// The fingerprint of the file's bytes before it.
@@ -21,13 +21,13 @@ pub struct Row {
     pub listed: usize,
 }
 
-impl Row {
+impl IndexRow {
     /// Returns the row of a line, after this many bytes of Stock Directory blocks; `None` if the line is not that of a row.
     pub(crate) fn read(
         alloc: Global,
         line: &[u8],
         listed: usize,
-    ) -> Result<Option<Row>, AllocError> {
+    ) -> Result<Option<IndexRow>, AllocError> {
         let Ok(text) = std::str::from_utf8(line) else {
             return Ok(None);
         };
@@ -39,14 +39,14 @@ impl Row {
     }
 }
 
-fn of_fields(fields: &Value, listed: usize) -> Option<Row> {
+fn of_fields(fields: &Value, listed: usize) -> Option<IndexRow> {
     let count = fields.get("messages")?.as_u64()?;
     if count > MOST_MESSAGES {
         return None;
     }
     let first = fields.get("first")?.as_str()?;
     let last = fields.get("last")?.as_str()?;
-    Some(Row {
+    Some(IndexRow {
         mark: Mark {
             count,
             offset: fields.get("offset")?.as_u64()?,
