@@ -84,6 +84,6 @@ passed_over R number payload m n own locate shown follow good in_order far (clea
     let still : IsFollowing R n own locate shown × (false ≡ not (same_sides (best R.depth R.stock m) (best R.depth R.stock n))) =
     subst (λ k. IsFollowing R k own locate shown × (false ≡ not (same_sides (best R.depth R.stock m) (best R.depth R.stock k)))) (sym after) told in
     (still.0, by_same (same_sides (best R.depth R.stock m) (best R.depth R.stock n)) still.1) where
-  by_same : (b : Bool) → false ≡ not b → (if b then [] else lines_of R number (time_or_midnight (time_of (message_of payload))) n) ≡ []
-  by_same true is = refl
-  by_same false is = absurd (cc is)
+      by_same : (b : Bool) → false ≡ not b → (if b then [] else lines_of R number (time_or_midnight (time_of (message_of payload))) n) ≡ []
+      by_same true is = refl
+      by_same false is = absurd (cc is)
