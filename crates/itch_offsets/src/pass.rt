@@ -1,4 +1,6 @@
 //! Reads a day file from row to row.
+ghost use Rattle.std.specs.Prelude.{◌≡◌};
+ghost use Rattle.itch_offsets.specs.Passes.{row_answer, row_part};
 
 use crate::directory::{Directory, NotPassed};
 use itch_commands::{Limit, Source, ToolFault};
@@ -19,49 +21,66 @@ pub struct IndexPass<R: CountedRead, A: Allocator, B: Allocator> {
 }
 
 impl<R: CountedRead, A: Allocator, B: Allocator> IndexPass<R, A, B> {
-    ghost use Rattle.std.specs.Prelude.{◌≤◌, ◌-◌, ◌^◌};
+    ghost use Rattle.std.specs.Prelude.{◌≡◌, ◌≤◌, ◌-◌, ◌^◌, []};
+    ghost use Rattle.itch_day.specs.Marks.{first_mark};
+    ghost use Rattle.itch_offsets.specs.Passes.{ReadsRow};
 
     /// Creates a pass that begins at this reader's position, the beginning of a day file.
-    pub fn new(alloc: B, reader: BlockReader<R, A>) -> IndexPass<R, A, B> {
+    pub fn new(alloc: B, reader: BlockReader<R, A>) -> IndexPass<R, A, B>
+        ensures reader { result.reader ≡ reader }
+        ensures marked { result.marked ≡ record { sink = []; mark = first_mark } }
+    {
         IndexPass {
             reader,
             marked: Marked {
-                sink: Directory {
-                    payloads: Vec::new(alloc),
-                },
+                sink: Directory::new(alloc),
                 mark: Mark::new(),
             },
         }
     }
 
     /// Returns the mark after the messages read so far.
-    pub fn mark(&self) -> Mark {
+    pub fn mark(&self) -> Mark
+        ensures { result ≡ self.now.marked.mark }
+    {
         self.marked.mark
     }
 
-    /// Returns the payloads of the Stock Directory messages since the last row, one after another.
-    pub fn directory(&self) -> &[u8] {
-        &self.marked.sink.payloads
+    /// Returns the blocks of the Stock Directory messages since the last row, one after another.
+    pub fn directory(&self) -> &[u8]
+        ensures { result.now ≡ self.now.marked.sink }
+    {
+        self.marked.sink.blocks()
     }
 
     /// Reads on to the next row of a part of the file, and returns true; or to the end of the part, and returns false.
     ///
     /// The faults are those of `show` for this part.
-    pub fn read_row(&mut self, limit: Limit) -> Result<bool, ToolFault> {
-        self.marked.sink.payloads.clear();
+    pub fn read_row(&mut self, limit: Limit) -> Result<bool, ToolFault>
+        ensures { ReadsRow R.remaining R.failures limit self.old.reader self.new.reader self.old.marked.mark self.new.marked result }
+    {
+        self.marked.sink.clear();
         let mut count = self.marked.mark.count;
-        let most = count.saturating_add(ROW).min(limit.most());
-        let part = Limit {
-            after: Some(most),
-            until: limit.until,
-        };
+        let part = row_part(limit, count);
         let stop = read_part(&mut self.reader, &mut count, &mut self.marked, part);
         answer(stop, limit, count)
     }
 }
 
+// Returns the messages of a part up to the next row after this many messages.
+fn row_part(limit: Limit, count: u64) -> Limit
+    ensures { result ≡ row_part limit count }
+{
+    Limit {
+        after: Some(count.saturating_add(ROW).min(limit.most())),
+        until: limit.until,
+    }
+}
+
 // Returns whether a part goes on after a stop of the reading after this many messages, at a row or before.
-fn answer(stop: PartStop<NotPassed>, limit: Limit, count: u64) -> Result<bool, ToolFault> {
+fn answer(stop: PartStop<NotPassed>, limit: Limit, count: u64) -> Result<bool, ToolFault>
+    ensures { result ≡ row_answer limit count stop }
+{
     match stop {
         PartStop::Full => Ok(count < limit.most()),
         PartStop::Late => Ok(false),
@@ -80,7 +99,9 @@ fn answer(stop: PartStop<NotPassed>, limit: Limit, count: u64) -> Result<bool, T
 }
 
 // Returns the fault of the only file, which stops after this many messages.
-fn stopped(count: u64, stop: Stop) -> ToolFault {
+fn stopped(count: u64, stop: Stop) -> ToolFault
+    ensures { result ≡ ToolFault.Stopped Source.Only (record { count = count; stop = stop }) }
+{
     ToolFault::Stopped {
         file: Source::Only,
         end: ReplayEnd { count, stop },
