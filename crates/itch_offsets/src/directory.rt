@@ -3,7 +3,6 @@ ghost use Rattle.std.specs.Prelude.{◌≡◌, ◌<◌, ◌++◌, ℕ, List, [],
 ghost use Rattle.itch_frame.specs.Blocks.{Blocks, block};
 ghost use Rattle.itch_offsets.specs.Rows.{directory_line, directory_lines};
 
-use byteorder::{BigEndian, ByteOrder};
 use itch_codec::{CodecFault, Message};
 use itch_day::Sink;
 use itch_frame::split_first_block;
@@ -96,9 +95,8 @@ impl<A: Allocator> Directory<A> {
         requires { length payload.now < 65536 }
         ensures { OnOk result (self.new ≡ self.old ++ block payload.now) }
     {
-        let mut head = [0; 2];
-        BigEndian::write_u16(&mut head, payload.len() as u16);
-        self.blocks.extend_from_slice(&head)?;
+        let len = payload.len() as u16;
+        self.blocks.extend_from_slice(&len.to_be_bytes())?;
         self.blocks.extend_from_slice(payload)
     }
 }
