@@ -28,7 +28,7 @@ use Rattle.itch_offsets.specs.declared.directory.NotPassed.TheVariants as passed
 abbrev pub is_entry : List ℕ → Bool
 is_entry payload = is_some (listed (message_of payload))
 
--- those of these payloads
+-- the payloads of the Stock Directory messages among these
 unfoldable pub entries : List (List ℕ) → List (List ℕ)
 entries [] = []
 entries (payload ∷ payloads) = if is_entry payload then payload ∷ entries payloads else entries payloads
