@@ -42,7 +42,8 @@ pub fn push_place<A: Allocator>(line: &mut Vec<u8, A>, mark: Mark) -> Result<(),
     push_field(line, b"{\"messages\":", mark.count)?;
     push_field(line, b",\"offset\":", mark.offset)?;
     line.extend_from_slice(b",\"timestamp\":")?;
-    push_or_null(line, mark.latest)
+    push_or_null(line, mark.latest)?;
+    Ok(())
 }
 
 fn push_field<A: Allocator>(

@@ -15,8 +15,6 @@ use Rattle.itch_day.specs.declared.stop.Stop.TheVariants as part
 use Rattle.itch_day.proofs.Marks.{count-mark_after, marked_after, unmarked_all}
 use Rattle.itch_commands.specs.declared.fault.ToolFault.{ToolFault}
 use Rattle.itch_offsets.specs.Passes.{ReadsRow, RefusesEntry, TakesEntry, entries, row_answer, row_part}
-use Rattle.itch_offsets.specs.declared.directory.NotPassed.{NotPassed}
-use Rattle.itch_offsets.specs.declared.directory.NotPassed.TheVariants as passed
 use Rattle.itch_offsets.proofs.Entries.{kept_of_all}
 
 on_ok : {A E : Type 0} (result : Result A E) (P : Type 0) → P → OnOk result P
@@ -25,7 +23,7 @@ on_ok (Err why) P holds = tt
 
 module _ {R : Type 0} (remaining : R → Option (List ℕ)) where
   -- unless a message was refused, the blocks kept when the reading stops are those kept of the messages
-  kept_at : (limit whole : Limit) (count k : ℕ) (r : Reading R) (s : Marked (List ℕ)) (stop : Part NotPassed) (t : Marked (List ℕ)) (result : Result Bool ToolFault)
+  kept_at : (limit whole : Limit) (count k : ℕ) (r : Reading R) (s : Marked (List ℕ)) (stop : Part ToolFault) (t : Marked (List ℕ)) (result : Result Bool ToolFault)
       → StopsAt remaining (RefusesMarked RefusesEntry) limit count r s stop t → result ≡ row_answer whole k stop → OnOk result (t.sink ≡ s.sink)
   kept_at limit whole count k r s part.Full t result (same, all) is = on_ok result _ (ap (λ (m : Marked (List ℕ)). m.sink) same)
   kept_at limit whole count k r s part.Late t result (same, before, late) is = on_ok result _ (ap (λ (m : Marked (List ℕ)). m.sink) same)
@@ -35,14 +33,13 @@ module _ {R : Type 0} (remaining : R → Option (List ℕ)) where
   kept_at limit whole count k r s (part.Frame (Write sent error)) t result never is = absurd never
   kept_at limit whole count k r s (part.Frame TooLong) t result never is = absurd never
   kept_at limit whole count k r s part.TooMany t result (same, before, many) is = on_ok result _ (ap (λ (m : Marked (List ℕ)). m.sink) same)
-  kept_at limit whole count k r s (part.Refused (passed.Codec why)) t result stops is = subst (λ (x : Result Bool ToolFault). OnOk x (t.sink ≡ s.sink)) (sym is) tt
-  kept_at limit whole count k r s (part.Refused passed.OutOfMemory) t result stops is = subst (λ (x : Result Bool ToolFault). OnOk x (t.sink ≡ s.sink)) (sym is) tt
+  kept_at limit whole count k r s (part.Refused why) t result stops is = subst (λ (x : Result Bool ToolFault). OnOk x (t.sink ≡ s.sink)) (sym is) tt
 
   on_then : (result : Result Bool ToolFault) (xs ys zs : List ℕ) → OnOk result (xs ≡ ys) → ys ≡ zs → OnOk result (xs ≡ zs)
   on_then (Ok value) xs ys zs holds same = holds ∙ same
   on_then (Err why) xs ys zs holds same = tt
 
-  module _ (failures : R → Failures) (limit : Limit) (old new : Reading R) (before : Mark) (count : ℕ) (stop : Part NotPassed) (after : Marked (List ℕ))
+  module _ (failures : R → Failures) (limit : Limit) (old new : Reading R) (before : Mark) (count : ℕ) (stop : Part ToolFault) (after : Marked (List ℕ))
       (reads : ReadsPart remaining failures (TakesMarked TakesEntry) (RefusesMarked RefusesEntry) (row_part limit before.count) old new before.count count
       (record { sink = []; mark = before }) stop after) where
     abbrev begun : Marked (List ℕ)

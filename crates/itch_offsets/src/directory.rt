@@ -4,8 +4,11 @@ ghost use Rattle.itch_frame.specs.Blocks.{Blocks, block};
 ghost use Rattle.itch_offsets.specs.Rows.{directory_line, directory_lines};
 
 use itch_codec::{CodecFault, Message};
+use itch_commands::ToolFault;
+use itch_commands::show::stopped;
 use itch_day::Sink;
 use itch_frame::split_first_block;
+use itch_market::Stop;
 use std::alloc::{AllocError, Allocator};
 use std::marker::Model;
 
@@ -101,19 +104,10 @@ impl<A: Allocator> Directory<A> {
     }
 }
 
-/// The reason why a message does not pass.
-#[derive(Drop)]
-pub(crate) enum NotPassed {
-    /// Its payload is not a valid message.
-    Codec(CodecFault),
-    /// Memory ran out for a Stock Directory message.
-    OutOfMemory,
-}
-
 impl<A: Allocator> Sink for Directory<A> {
     ghost use Rattle.itch_offsets.specs.Passes.{RefusesEntry, TakesEntry};
 
-    type Fault = NotPassed;
+    type Fault = ToolFault;
 
     ghost is_ready = { λ _ _. Unit {0} };
 
@@ -127,15 +121,11 @@ impl<A: Allocator> Sink for Directory<A> {
         number: u64,
         payload: &[u8],
         message: &Result<Message<'_>, CodecFault>,
-    ) -> Result<(), NotPassed> {
-        let _number = number;
+    ) -> Result<(), ToolFault> {
         match message {
-            Ok(Message::StockDirectory(_)) => match self.push(payload) {
-                Ok(()) => Ok(()),
-                Err(_) => Err(NotPassed::OutOfMemory),
-            },
+            Ok(Message::StockDirectory(_)) => Ok(self.push(payload)?),
             Ok(_) => Ok(()),
-            Err(fault) => Err(NotPassed::Codec(*fault)),
+            Err(fault) => Err(stopped(number - 1, Stop::Codec(*fault))),
         }
     }
 }

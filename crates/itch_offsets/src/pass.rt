@@ -1,12 +1,12 @@
 //! Reads a day file from row to row.
 ghost use Rattle.std.specs.Prelude.{◌≡◌};
-ghost use Rattle.itch_offsets.specs.Passes.{row_answer, row_part};
+ghost use Rattle.itch_offsets.specs.Passes.{goes_on, row_part};
 
-use crate::directory::{Directory, NotPassed};
-use itch_commands::{Limit, Source, ToolFault};
+use crate::directory::Directory;
+use itch_commands::show::answer;
+use itch_commands::{Limit, ToolFault};
 use itch_day::{Mark, Marked, Stop as PartStop, read_part};
 use itch_frame::{BlockReader, CountedRead};
-use itch_market::{ReplayEnd, Stop};
 use std::alloc::Allocator;
 
 /// The number of messages between two rows.
@@ -63,7 +63,8 @@ impl<R: CountedRead, A: Allocator, B: Allocator> IndexPass<R, A, B> {
         let mut count = self.marked.mark.count;
         let part = row_part(limit, count);
         let stop = read_part(&mut self.reader, &mut count, &mut self.marked, part);
-        answer(stop, limit, count)
+        let is_more = goes_on(&stop, limit, count);
+        answer(stop, limit.after, count, is_more)
     }
 }
 
@@ -77,33 +78,12 @@ fn row_part(limit: Limit, count: u64) -> Limit
     }
 }
 
-// Returns whether a part goes on after a stop of the reading after this many messages, at a row or before.
-fn answer(stop: PartStop<NotPassed>, limit: Limit, count: u64) -> Result<bool, ToolFault>
-    ensures { result ≡ row_answer limit count stop }
+// Returns whether a part goes on after a stop of the reading after this many messages: after a row before the end of the part.
+fn goes_on(stop: &PartStop<ToolFault>, limit: Limit, count: u64) -> bool
+    ensures { result ≡ goes_on limit count stop.now }
 {
     match stop {
-        PartStop::Full => Ok(count < limit.most()),
-        PartStop::Late => Ok(false),
-        PartStop::End => match limit.after {
-            None => Ok(false),
-            Some(_) => Err(ToolFault::Short {
-                file: Source::Only,
-                count,
-            }),
-        },
-        PartStop::Frame(fault) => Err(stopped(count, Stop::Frame(fault))),
-        PartStop::TooMany => Err(stopped(count, Stop::TooManyMessages)),
-        PartStop::Refused(NotPassed::Codec(fault)) => Err(stopped(count, Stop::Codec(fault))),
-        PartStop::Refused(NotPassed::OutOfMemory) => Err(ToolFault::OutOfMemory),
-    }
-}
-
-// Returns the fault of the only file, which stops after this many messages.
-fn stopped(count: u64, stop: Stop) -> ToolFault
-    ensures { result ≡ ToolFault.Stopped Source.Only (record { count = count; stop = stop }) }
-{
-    ToolFault::Stopped {
-        file: Source::Only,
-        end: ReplayEnd { count, stop },
+        PartStop::Full => count < limit.most(),
+        _ => false,
     }
 }
