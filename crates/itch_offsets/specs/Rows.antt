@@ -7,7 +7,7 @@ use Rattle.itch_checkpoints.specs.declared.fingerprint.Fingerprint.{Fingerprint}
 use Rattle.itch_checkpoints.specs.declared.latest.Latest.{Latest}
 use Rattle.itch_checkpoints.specs.declared.latest.Latest.TheVariants.{Known, Unknown}
 use Rattle.itch_day.specs.declared.mark.Mark.{Mark}
-use Rattle.itch_offsets.specs.declared.row.Row.{Row}
+use Rattle.itch_offsets.specs.declared.row.IndexRow.{IndexRow}
 
 -- the line of a row
 abbrev pub row_line : Mark → Fingerprint → List ℕ
@@ -31,7 +31,7 @@ end_line digits = codes "{\"end\":\"" ++ digits ++ codes "\"}\n"
 
 -- The row of a line about that many messages up to that offset, after that many bytes of Stock Directory blocks: only if the line states the
 -- latest timestamp and the fingerprint, and a day can have so many messages.
-abbrev pub row_of : ℕ → ℕ → Latest → Option Fingerprint → ℕ → Option Row
+abbrev pub row_of : ℕ → ℕ → Latest → Option Fingerprint → ℕ → Option IndexRow
 row_of count offset (Known latest) (Some fingerprint) listed =
     if nat_le count (10 ^ 19 - 1)
     then Some (record { mark = record { count = count; offset = offset; latest = latest }; fingerprint = fingerprint; listed = listed })

@@ -59,11 +59,11 @@ pub(crate) fn block_of(line: &[u8]) -> Option<[u8; PAYLOAD + 2]> {
 
 /// The blocks of the Stock Directory messages that passed, one after another.
 #[derive(Drop)]
-pub(crate) struct Directory<A: Allocator> {
+pub(crate) struct DirectoryBlocks<A: Allocator> {
     blocks: Vec<u8, A>,
 }
 
-impl<A: Allocator> Model for Directory<A> {
+impl<A: Allocator> Model for DirectoryBlocks<A> {
     ghost use Rattle.std.specs.Prelude.{ℕ, List};
 
     ghost Value = { List ℕ };
@@ -71,11 +71,11 @@ impl<A: Allocator> Model for Directory<A> {
     ghost view = { λ d. d.blocks.items };
 }
 
-impl<A: Allocator> Directory<A> {
-    pub(crate) fn new(alloc: A) -> Directory<A>
+impl<A: Allocator> DirectoryBlocks<A> {
+    pub(crate) fn new(alloc: A) -> DirectoryBlocks<A>
         ensures { result ≡ [] }
     {
-        Directory {
+        DirectoryBlocks {
             blocks: Vec::new(alloc),
         }
     }
@@ -104,7 +104,7 @@ impl<A: Allocator> Directory<A> {
     }
 }
 
-impl<A: Allocator> Sink for Directory<A> {
+impl<A: Allocator> Sink for DirectoryBlocks<A> {
     ghost use Rattle.itch_offsets.specs.Passes.{RefusesEntry, TakesEntry};
 
     type Fault = ToolFault;

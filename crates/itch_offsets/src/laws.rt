@@ -20,7 +20,7 @@ ghost use Rattle.itch_frame.specs.Blocks.{IsFull, blocks};
 ghost use Rattle.itch_offsets.specs.Beginnings.{begin_after, may_begin, most_of};
 ghost use Rattle.itch_offsets.specs.Passes.{entries};
 ghost use Rattle.itch_offsets.specs.declared.begin.Range.{Range};
-ghost use Rattle.itch_offsets.specs.declared.row.Row.{Row};
+ghost use Rattle.itch_offsets.specs.declared.row.IndexRow.{IndexRow};
 
 /// The number of the messages of a mark and their latest timestamp determine whether all of them are before a range, and where the range
 /// begins in the messages after them.
@@ -46,8 +46,8 @@ pub fn marked_choices()
 
 /// A range can be read from the chosen row on, and from no row with more messages. The messages before it are in the requested part.
 pub fn chosen_rows()
-    ensures found { (range : Range) → (rows : List Row) → IfSome (begin_after range None rows) (λ row. may_begin range row.mark ≡ true) }
-    ensures most { (range : Range) → (rows : List Row) → AllByRecursion (λ row. may_begin range row.mark ≡ true → row.mark.count ≤ most_of (begin_after range None rows)) rows }
+    ensures found { (range : Range) → (rows : List IndexRow) → IfSome (begin_after range None rows) (λ row. may_begin range row.mark ≡ true) }
+    ensures most { (range : Range) → (rows : List IndexRow) → AllByRecursion (λ row. may_begin range row.mark ≡ true → row.mark.count ≤ most_of (begin_after range None rows)) rows }
     ensures early { (range : Range) → (mark : Mark) → (payloads : List (List ℕ)) → IsMark mark payloads → may_begin range mark ≡ true
         → IfSome range.limit.after (λ most. length payloads ≤ most) × AllByRecursion (IsEarly range.limit) payloads }
 {}

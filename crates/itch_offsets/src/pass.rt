@@ -2,7 +2,7 @@
 ghost use Rattle.std.specs.Prelude.{◌≡◌};
 ghost use Rattle.itch_offsets.specs.Passes.{goes_on, row_part};
 
-use crate::directory::Directory;
+use crate::directory::DirectoryBlocks;
 use itch_commands::show::answer;
 use itch_commands::{Limit, ToolFault};
 use itch_day::{Mark, Marked, Stop as PartStop, read_part};
@@ -16,7 +16,7 @@ const ROW: u64 = 65_536;
 #[derive(Drop)]
 pub struct IndexPass<R: CountedRead, A: Allocator, B: Allocator> {
     reader: BlockReader<R, A>,
-    marked: Marked<Directory<B>>,
+    marked: Marked<DirectoryBlocks<B>>,
     ghost few: { marked.mark.count ≤ 10 ^ 19 - 1 },
 }
 
@@ -33,7 +33,7 @@ impl<R: CountedRead, A: Allocator, B: Allocator> IndexPass<R, A, B> {
         IndexPass {
             reader,
             marked: Marked {
-                sink: Directory::new(alloc),
+                sink: DirectoryBlocks::new(alloc),
                 mark: Mark::new(),
             },
         }

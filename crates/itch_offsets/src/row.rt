@@ -9,7 +9,7 @@ use std::alloc::{AllocError, Global};
 
 /// A place in a day file at which a message begins.
 #[derive(Clone, Copy, Debug, PartialEq, Eq)]
-pub struct Row {
+pub struct IndexRow {
     /// The mark of the messages before it.
     pub mark: Mark,
     /// The fingerprint of the file's bytes before it.
@@ -18,13 +18,13 @@ pub struct Row {
     pub listed: usize,
 }
 
-impl Row {
+impl IndexRow {
     /// Returns the row of a line, after this many bytes of Stock Directory blocks; `None` if the line is not that of a row.
     pub(crate) fn read(
         alloc: Global,
         line: &[u8],
         listed: usize,
-    ) -> Result<Option<Row>, AllocError> {
+    ) -> Result<Option<IndexRow>, AllocError> {
         match Checkpoint::read(alloc, line)? {
             Some(checkpoint) if checkpoint.only.is_none() => Ok(row_of(
                 checkpoint.count,
@@ -45,11 +45,11 @@ fn row_of(
     latest: Latest,
     fingerprint: Option<Fingerprint>,
     listed: usize,
-) -> Option<Row>
+) -> Option<IndexRow>
     ensures { result ≡ row_of count offset latest fingerprint listed }
 {
     match (latest, fingerprint) {
-        (Latest::Known(latest), Some(fingerprint)) if count <= MOST_MESSAGES => Some(Row {
+        (Latest::Known(latest), Some(fingerprint)) if count <= MOST_MESSAGES => Some(IndexRow {
             mark: Mark {
                 count,
                 offset,

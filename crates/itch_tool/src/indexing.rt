@@ -10,7 +10,7 @@ use itch_commands::{Limit, Source, ToolFault};
 use itch_frame::{BlockReader, CountedRead};
 use itch_offsets::{IndexPass, IndexWriter};
 use itch_sessions::sessions::PIECE;
-use itchsnap_cli::input::Progress;
+use itchsnap_cli::input::ProgressLine;
 use itchsnap_cli::words::IndexWords;
 use std::alloc::{Allocator, Global};
 use std::fs::OpenFile;
@@ -53,7 +53,7 @@ fn index_to<R: Files + Input + Eprint + AllocGlobal + Clock, W: Write + Drop>(
 ) -> Result<W, Failure> {
     let alloc = rt.alloc();
     let progress = if words.progress {
-        Progress::begin(rt)
+        ProgressLine::begin(rt)
     } else {
         None
     };
