@@ -28,7 +28,7 @@ use itch_market::Stop;
 pub use orders::orders_blocks;
 pub use recorded::show_snapshot;
 use sink::ShownLines;
-pub use sink::stopped;
+pub(crate) use sink::stopped;
 use std::alloc::Allocator;
 
 /// Writes a line for each message of a day file or a snapshot file, in the form of [`itch_codec::show`].
@@ -90,8 +90,8 @@ fn show_part<R: CountedRead, B: Allocator, A: Allocator, W: CountedWrite>(
     answer(stop, limit.after, count, lines.has_found_all())
 }
 
-/// Returns the result if a part ends. The end of the file is not a fault, unless more messages were requested.
-pub fn answer(
+// Returns the result if a part ends. The end of the file is not a fault, unless more messages were requested.
+pub(crate) fn answer(
     stop: PartStop<ToolFault>,
     wanted: Option<u64>,
     count: u64,

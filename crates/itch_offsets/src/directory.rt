@@ -1,14 +1,15 @@
 //! The Stock Directory messages of a day.
 ghost use Rattle.std.specs.Prelude.{◌≡◌, ◌<◌, ◌++◌, ℕ, List, [], length, OnOk};
+ghost use Rattle.itch_commands.specs.declared.fault.Source.TheVariants.{Only};
+ghost use Rattle.itch_commands.specs.declared.fault.ToolFault.TheVariants.{Stopped};
 ghost use Rattle.itch_frame.specs.Blocks.{Blocks, block};
 ghost use Rattle.itch_offsets.specs.Rows.{directory_line, directory_lines};
 
 use itch_codec::{CodecFault, Message};
-use itch_commands::ToolFault;
-use itch_commands::show::stopped;
+use itch_commands::{Source, ToolFault};
 use itch_day::Sink;
 use itch_frame::split_first_block;
-use itch_market::Stop;
+use itch_market::{ReplayEnd, Stop};
 use std::alloc::{AllocError, Allocator};
 use std::marker::Model;
 
@@ -127,5 +128,15 @@ impl<A: Allocator> Sink for DirectoryBlocks<A> {
             Ok(_) => Ok(()),
             Err(fault) => Err(stopped(number - 1, Stop::Codec(*fault))),
         }
+    }
+}
+
+/// Returns the fault of the only file, which stops after this many messages.
+pub(crate) fn stopped(count: u64, stop: Stop) -> ToolFault
+    ensures { result ≡ Stopped Only (record { count = count; stop = stop }) }
+{
+    ToolFault::Stopped {
+        file: Source::Only,
+        end: ReplayEnd { count, stop },
     }
 }

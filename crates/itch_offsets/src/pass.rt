@@ -1,12 +1,12 @@
 //! Reads a day file from row to row.
 ghost use Rattle.std.specs.Prelude.{◌≡◌};
-ghost use Rattle.itch_offsets.specs.Passes.{goes_on, row_part};
+ghost use Rattle.itch_offsets.specs.Passes.{row_answer, row_part};
 
-use crate::directory::DirectoryBlocks;
-use itch_commands::show::answer;
-use itch_commands::{Limit, ToolFault};
+use crate::directory::{DirectoryBlocks, stopped};
+use itch_commands::{Limit, Source, ToolFault};
 use itch_day::{Mark, Marked, Stop as PartStop, read_part};
 use itch_frame::{BlockReader, CountedRead};
+use itch_market::Stop;
 use std::alloc::Allocator;
 
 /// The number of messages between two rows.
@@ -63,8 +63,7 @@ impl<R: CountedRead, A: Allocator, B: Allocator> IndexPass<R, A, B> {
         let mut count = self.marked.mark.count;
         let part = row_part(limit, count);
         let stop = read_part(&mut self.reader, &mut count, &mut self.marked, part);
-        let is_more = goes_on(&stop, limit, count);
-        answer(stop, limit.after, count, is_more)
+        answer(stop, limit, count)
     }
 }
 
@@ -78,12 +77,22 @@ fn row_part(limit: Limit, count: u64) -> Limit
     }
 }
 
-// Returns whether a part goes on after a stop of the reading after this many messages: after a row before the end of the part.
-fn goes_on(stop: &PartStop<ToolFault>, limit: Limit, count: u64) -> bool
-    ensures { result ≡ goes_on limit count stop.now }
+// Returns whether a part goes on after a stop of the reading after this many messages, at a row or before.
+fn answer(stop: PartStop<ToolFault>, limit: Limit, count: u64) -> Result<bool, ToolFault>
+    ensures { result ≡ row_answer limit count stop }
 {
     match stop {
-        PartStop::Full => count < limit.most(),
-        _ => false,
+        PartStop::Full => Ok(count < limit.most()),
+        PartStop::Late => Ok(false),
+        PartStop::End => match limit.after {
+            None => Ok(false),
+            Some(_) => Err(ToolFault::Short {
+                file: Source::Only,
+                count,
+            }),
+        },
+        PartStop::Frame(fault) => Err(stopped(count, Stop::Frame(fault))),
+        PartStop::TooMany => Err(stopped(count, Stop::TooManyMessages)),
+        PartStop::Refused(fault) => Err(fault),
     }
 }
