@@ -42,6 +42,10 @@ RefusesEntry old number payload why new = IsClean payload × (why ≡ tool.OutOf
 abbrev pub row_part : Limit → ℕ → Limit
 row_part limit count = record { after = Some (min (min (count + 65536) (2 ^ 64 - 1)) (most_of limit.after)); until = limit.until }
 
+-- the mark before some messages, with no blocks
+abbrev pub cleared : Mark → Marked (List ℕ)
+cleared mark = record { sink = []; mark = mark }
+
 -- a part goes on after that many messages, by the reason why the reading stopped at a row or before
 abbrev pub goes_on : Limit → ℕ → Part ToolFault → Bool
 goes_on limit count part.Full = nat_lt count (most_of limit.after)
@@ -57,7 +61,7 @@ module _ {R : Type 0} (remaining : R → Option (List ℕ)) (failures : R → Fa
   pub record ReadsRow (old new : Reading R) (before : Mark) (after : Marked (List ℕ)) (result : Result Bool ToolFault) : Type 0 where
     pub stop : Part ToolFault
     pub reads : ReadsPart remaining failures (TakesMarked TakesEntry) (RefusesMarked RefusesEntry) (row_part limit before.count) old new before.count after.mark.count
-        (record { sink = []; mark = before }) stop after
+        (cleared before) stop after
     pub answer : result ≡ row_answer limit after.mark.count stop
     pub payloads : List (List ℕ)
     pub bytes : Consumes (bytes_left remaining old) (bytes_left remaining new) (blocks payloads)
