@@ -9,19 +9,19 @@ use crate::directory::push_directory;
 use itch_checkpoints::{Fingerprint, first_digits, push_fingerprint, push_place};
 use itch_day::Mark;
 use sha2::{Digest, Sha256};
-use std::alloc::{AllocError, Allocator};
+use std::alloc::{AllocError, Allocator, Global};
 
 /// The lines of an index, one row after another, and the digest of those of all rows so far.
 #[derive(Drop)]
-pub struct IndexWriter<A: Allocator> {
-    alloc: A,
+pub struct IndexWriter {
+    alloc: Global,
     // The lines of the last row.
-    lines: Vec<u8, A>,
+    lines: Vec<u8, Global>,
     hasher: Sha256,
 }
 
-impl<A: Allocator + Copy> IndexWriter<A> {
-    pub fn new(alloc: A) -> IndexWriter<A>
+impl IndexWriter {
+    pub fn new(alloc: Global) -> IndexWriter
         ensures { Holds256 result.hasher [] }
     {
         IndexWriter {
@@ -58,7 +58,7 @@ impl<A: Allocator + Copy> IndexWriter<A> {
     }
 
     /// Returns the last line of the index, which follows the lines of all rows.
-    pub fn end(self) -> Result<Vec<u8, A>, AllocError>
+    pub fn end(self) -> Result<Vec<u8, Global>, AllocError>
         ensures { (before : List ℕ) → Holds256 self.hasher before → IfOk result (λ line. line.items ≡ end_line (digits_of before)) }
     {
         let mut line = Vec::new(self.alloc);
