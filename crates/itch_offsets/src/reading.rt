@@ -1,9 +1,9 @@
 //! Reads an index.
+ghost use Rattle.std.specs.Prelude.{◌≡◌, take};
 
 use crate::directory::block_of;
 use crate::row::IndexRow;
-use crate::writing::digits_of;
-use itch_checkpoints::Lines;
+use itch_checkpoints::{Lines, first_digits};
 use sha2::{Digest, Sha256};
 use std::alloc::{AllocError, Global};
 use std::io::{self, BufRead};
@@ -42,7 +42,7 @@ impl DayIndex {
                     hasher.update(b"\n");
                 }
                 LineKind::End(digits) => {
-                    let is_complete = digits == digits_of(hasher) && lines.next()?.is_none();
+                    let is_complete = digits == first_digits(hasher) && lines.next()?.is_none();
                     return Ok(if is_complete { Some(read) } else { None });
                 }
                 LineKind::Invalid => break,
@@ -52,12 +52,16 @@ impl DayIndex {
     }
 
     /// Returns the rows.
-    pub fn rows(&self) -> &[IndexRow] {
+    pub fn rows(&self) -> &[IndexRow]
+        ensures { result.now ≡ self.now.rows.items }
+    {
         &self.rows
     }
 
     /// Returns the blocks of the Stock Directory messages before a row.
-    pub fn directory(&self, row: &IndexRow) -> &[u8] {
+    pub fn directory(&self, row: &IndexRow) -> &[u8]
+        ensures { result.now ≡ take row.now.listed self.now.directory.items }
+    {
         &self.directory[..row.listed.min(self.directory.len())]
     }
 

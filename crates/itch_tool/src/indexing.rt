@@ -89,7 +89,8 @@ fn write_index<S: CountedRead + Drop, A: Allocator, W: Write>(
                 Ok(fingerprint) => fingerprint,
                 Err(error) => return Err(Failure::from(read_fault(mark.count, error))),
             };
-            write(out, writer.row(pass.directory(), mark, fingerprint)?)?;
+            writer.add(pass.directory(), mark, fingerprint)?;
+            write(out, writer.lines())?;
             last = mark.count;
         }
         if !is_more {
