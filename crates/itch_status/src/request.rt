@@ -20,9 +20,15 @@ pub enum StatusAnswer {
     /// No answer yet: the head is not complete.
     More,
     /// This page, with its body, or without a body for HEAD.
-    Page { page: StatusPage, has_body: bool },
+    Page {
+        page: StatusPage,
+        has_body: bool,
+    },
     /// No page: a body with the reason, or no body for HEAD.
-    Refused { refusal: RequestRefusal, has_body: bool },
+    Refused {
+        refusal: RequestRefusal,
+        has_body: bool,
+    },
 }
 
 /// Returns this refusal, with a body.

@@ -118,7 +118,11 @@ pub fn request_to<R: Files + Input + Eprint + AllocGlobal + Clock, W: Write + Dr
         return Err(Failure::from(ToolFault::OutOfMemory));
     };
     let mut out = Counted::new(buffered);
-    let progress = if progress { ProgressLine::begin(rt) } else { None };
+    let progress = if progress {
+        ProgressLine::begin(rt)
+    } else {
+        None
+    };
     let answer = answer(rt, request, progress.as_ref(), beginning, only, &mut out)?;
     match out.into_inner().flush() {
         Ok(()) => Ok(answer),

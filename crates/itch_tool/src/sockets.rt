@@ -38,7 +38,11 @@ where
     R: Net<Listener = TcpListener, Stream = TcpStream>,
 {
     let login = read_login(rt, login)?;
-    let progress = if progress { ProgressLine::begin(rt) } else { None };
+    let progress = if progress {
+        ProgressLine::begin(rt)
+    } else {
+        None
+    };
     let file = open(rt, file, Source::Only, progress.as_ref(), beginning)?;
     let alloc = rt.alloc();
     let mut reader = blocks(alloc, file)?;

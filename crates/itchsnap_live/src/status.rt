@@ -6,7 +6,9 @@ use connection::StatusConnection;
 use itch_records::LiveFault;
 use itch_sessions::log::Log;
 use itch_sessions::log::lines::StatusOn;
-use itch_sessions::{Caller, Callers, ServerAddress, Socket, SocketLink, Spare, VERSION, Who, date};
+use itch_sessions::{
+    Caller, Callers, ServerAddress, Socket, SocketLink, Spare, VERSION, Who, date,
+};
 use itch_status::{Figures, LONGEST, StatusAnswer, refuse, respond};
 use mio::Registry;
 use mio::event::Event;

@@ -178,7 +178,10 @@ impl Visitor {
     /// Returns how its connection ended, if it is to be closed. A connection whose login has arrived receives the answer, even if it has
     /// closed its sending half.
     pub(super) fn departure(&self, now_ms: u64) -> Option<Departure> {
-        let waits = matches!(self.stage, VisitorStage::Ready(_) | VisitorStage::Rejected { .. });
+        let waits = matches!(
+            self.stage,
+            VisitorStage::Ready(_) | VisitorStage::Rejected { .. }
+        );
         let gone = self.link.ending(None, waits);
         let is_late = now_ms.saturating_sub(self.since_ms) >= PATIENCE_MS;
         match self.stage {

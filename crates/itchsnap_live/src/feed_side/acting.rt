@@ -124,7 +124,10 @@ impl FeedSide<'_> {
     ) -> Result<(), LiveFault> {
         let (server, wanted) = match follower.next() {
             Some(_) => (ServerKind::Live, follower.session()),
-            None => (ServerKind::Glimpse, self.glimpse_session.or(follower.session())),
+            None => (
+                ServerKind::Glimpse,
+                self.glimpse_session.or(follower.session()),
+            ),
         };
         match wanted {
             Some(wanted) if !self.was_accepted => Err(LiveFault::OtherSession {

@@ -40,7 +40,10 @@ fn chosen() -> Result<Figures, Fail> {
 // Lines of pages, word by word.
 const LINES: [(StatusPage, &str); 12] = [
     (StatusPage::Metrics, "\nitchsnap_ready 0\n"),
-    (StatusPage::Metrics, "\nitchsnap_feed_state{state=\"lost\"} 1\n"),
+    (
+        StatusPage::Metrics,
+        "\nitchsnap_feed_state{state=\"lost\"} 1\n",
+    ),
     (
         StatusPage::Metrics,
         "\nitchsnap_feed_session{session=\"A\\\"<B\\\\\"} 1\n",
@@ -49,7 +52,10 @@ const LINES: [(StatusPage, &str); 12] = [
         StatusPage::Metrics,
         "\nitchsnap_market_time_seconds 34200.001000009\n",
     ),
-    (StatusPage::Metrics, "\nitchsnap_messages_per_second 10.016\n"),
+    (
+        StatusPage::Metrics,
+        "\nitchsnap_messages_per_second 10.016\n",
+    ),
     (StatusPage::Lines, "\nmarket_time_seconds 09:30:00.001\n"),
     (StatusPage::Lines, "\nsilence_seconds 1.500\n"),
     (StatusPage::Lines, "\nsnapshot_file_message -\n"),
@@ -96,7 +102,12 @@ fn a_response_has_its_head(rt: HostRuntime) -> TestResult {
     let Ok(date) = HttpDate::from_unix_secs(0) else {
         return Err(Fail::from("no figures"));
     };
-    let refused = refuse(rt.alloc(), RequestRefusal::MethodNotAllowed, true, Some(date))?;
+    let refused = refuse(
+        rt.alloc(),
+        RequestRefusal::MethodNotAllowed,
+        true,
+        Some(date),
+    )?;
     let wanted =
         b"HTTP/1.1 405 Method Not Allowed\r\nContent-Type: text/plain; charset=utf-8\r\nContent-Length: 23\r\n\
         Date: Thu, 01 Jan 1970 00:00:00 GMT\r\nAllow: GET, HEAD\r\nCache-Control: no-store\r\nX-Content-Type-Options: nosniff\r\n\
@@ -167,7 +178,11 @@ fn requests_are_answered(rt: HostRuntime) {
         same_in(&rt, place, answer_to(request), *answer);
     }
     same(&rt, page_of(b"/readyz"), Some(StatusPage::Ready));
-    same(&rt, page_of(b"http://a?b=/metrics"), Some(StatusPage::People));
+    same(
+        &rt,
+        page_of(b"http://a?b=/metrics"),
+        Some(StatusPage::People),
+    );
 }
 
 #[test]
