@@ -44,7 +44,8 @@ fn push_payload<A: Allocator + Copy>(
     let digits = hex::encode(alloc, payload)?;
     lines.extend_from_slice(b"{\"directory\":\"")?;
     lines.extend_from_slice(digits.as_bytes())?;
-    lines.extend_from_slice(b"\"}\n")
+    lines.extend_from_slice(b"\"}\n")?;
+    Ok(())
 }
 
 /// Returns the block of the Stock Directory message of a line, if it is such a line.
