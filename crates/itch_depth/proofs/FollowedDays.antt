@@ -65,9 +65,9 @@ laid_empty = let none : lay [] ≡ [] = lay_fit [] tt in ap (λ (os : List Order
 
 module _ {W T N M : Type 0} (contents : W → Option (List ℕ)) (failures : W → Failures) (at : T → W) (name : T → N) (market_name : T → M) (request : T → ChangesRequest)
     (market : T → Content) where
-  -- the sink lends the same values
+  -- the sink lends the same values, for the same request
   abbrev pub SameNames : T → T → Type 0
-  SameNames s t = (name t ≡ name s) × (market_name t ≡ market_name s)
+  SameNames s t = (name t ≡ name s) × (market_name t ≡ market_name s) × (request t ≡ request s)
 
   -- a market that writes to the values that it lends
   abbrev pub Follows : T → ℕ → List ℕ → T → Type 0
@@ -77,7 +77,7 @@ module _ {W T N M : Type 0} (contents : W → Option (List ℕ)) (failures : W �
 
   abbrev pub Left : T → ℕ → List ℕ → Unfollowed → T → Type 0
   Left s number payload why t =
-      (name t ≡ name s) × (market_name t ≡ market_name s)
+      (name t ≡ name s) × (market_name t ≡ market_name s) × (request t ≡ request s)
       × LeavesMessage contents failures (request s) number payload (market s) (at s) why (market t) (at t)
 
   -- the lines of these payloads were written, after others
@@ -91,7 +91,7 @@ module _ {W T N M : Type 0} (contents : W → Option (List ℕ)) (failures : W �
   are_followed : (s t : T) (count : ℕ) (before ps : List (List ℕ)) → length before ≡ count → IsGood (run (map message_of before)) → market s ≡ laid (run (map message_of before))
       → TakesAll Follows s count ps t → AreFollowed s before ps t
   are_followed s t count before [] number good same takes = record {
-    named = (ap name takes, ap market_name takes);
+    named = (ap name takes, ap market_name takes, ap request takes);
     requested = ap request takes;
     wrote = subst (λ x. Wrote contents failures (lines_from (request s) before []) (at s) (at x)) (sym takes) (Appends-nil (contents (at s)), refl);
     left = ap market takes ∙ same ∙ ap (λ qs. laid (run (map message_of qs))) (sym (append-nil before));
@@ -113,7 +113,7 @@ module _ {W T N M : Type 0} (contents : W → Option (List ℕ)) (failures : W �
       change-laid (request s) (count + 1) x m (run (map message_of upto)) (market s) (market mid) good good_then same left_then
       ∙ sym (change_here (request s) before ps p (count + 1) (ap (λ k. k + 1) number)) in
       record {
-        named = (later.named.0 ∙ named, later.named.1 ∙ market_named);
+        named = (later.named.0 ∙ named, later.named.1 ∙ market_named, later.requested ∙ requested);
         requested = later.requested ∙ requested;
         wrote = (
           subst (Appends (contents (at s)) (contents (at t))) (ap (λ (r : ChangesRequest). line ++ lines_from r upto ps) requested ∙ sym (one_line (request s) before ps p))
@@ -331,10 +331,10 @@ module _ {W T N M : Type 0} (contents : W → Option (List ℕ)) (failures : W �
       unremembered (took, kept) = (ps, p, these_taken took, off, wrote_to kept, ap failed_reads (passed_reader new) ∙ counts, leaves_first)
 
       at_left : (why : Unfollowed) → Left last (count + 1) p why t → Returns (passed new) (answer_of limit.after count found (part.Refused why))
-      at_left (unfollowed.Refused (refused.Codec f)) (named, market_named, (refuses, kept)) = at_refused (refused.Codec f) (stop.Codec f) refl refl refuses kept
-      at_left (unfollowed.Refused (refused.Rule f)) (named, market_named, (refuses, kept)) = at_refused (refused.Rule f) (stop.Rule f) refl refl refuses kept
-      at_left (unfollowed.Write error) (named, market_named, unable) = unwritten error unable
-      at_left unfollowed.OutOfMemory (named, market_named, unable) = unremembered unable
+      at_left (unfollowed.Refused (refused.Codec f)) (named, market_named, requested, (refuses, kept)) = at_refused (refused.Codec f) (stop.Codec f) refl refl refuses kept
+      at_left (unfollowed.Refused (refused.Rule f)) (named, market_named, requested, (refuses, kept)) = at_refused (refused.Rule f) (stop.Rule f) refl refl refuses kept
+      at_left (unfollowed.Write error) (named, market_named, requested, unable) = unwritten error unable
+      at_left unfollowed.OutOfMemory (named, market_named, requested, unable) = unremembered unable
 
     returns_so : (why : Part Unfollowed) → Stops why → Leaves old (length ps) why new → CountsPart why (failed_reads old.reader) (failed_reads new.reader) → UnlessRefused why Stands
         → Returns (left_by why new) (answer_of limit.after count found why)
@@ -346,7 +346,7 @@ module _ {W T N M : Type 0} (contents : W → Option (List ℕ)) (failures : W �
     returns_so (part.Refused why) (before, (p, next, some, few_before, early, left)) stays counts stands = at_left p next some few_before early before stays counts why left
 
     still : t ≡ last → SameNames s t
-    still same = (ap name same ∙ are.named.0, ap market_name same ∙ are.named.1)
+    still same = (ap name same ∙ are.named.0, ap market_name same ∙ are.named.1, ap request same ∙ are.named.2)
 
     named_so : (why : Part Unfollowed) → Stops why → SameNames s t
     named_so part.Full (same, most) = still same
@@ -357,8 +357,8 @@ module _ {W T N M : Type 0} (contents : W → Option (List ℕ)) (failures : W �
     named_so (part.Frame (Write sent error)) never = absurd never
     named_so (part.Frame TooLong) never = absurd never
     named_so part.TooMany (same, before, next) = still same
-    named_so (part.Refused why) (before, (p, next, some, few_before, early, (named, market_named, unable))) =
-        (named ∙ are.named.0, market_named ∙ are.named.1)
+    named_so (part.Refused why) (before, (p, next, some, few_before, early, (named, market_named, requested, unable))) =
+        (named ∙ are.named.0, market_named ∙ are.named.1, requested ∙ are.named.2)
 
   -- the outcome of following a part from the empty market: its output, its result and its state
   pub followed_part : {R : Type 0} (remaining : R → Option (List ℕ)) (failed_reads : R → Failures) (limit : Limit) (old new : Reading R) (count : ℕ) (s t : T) (why : Part Unfollowed)

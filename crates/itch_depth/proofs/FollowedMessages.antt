@@ -81,12 +81,6 @@ module _ {W : Type 0} (contents : W → Option (List ℕ)) (failures : W → Fai
           (takes none left, subst (λ y. WritesText contents failures (change R number y m n) out (Err (tool.Write error)) after) decodes.1 wrote)
       decoded_so (Err unfollowed.OutOfMemory) (none, left, kept) = (takes none left, kept)
 
--- the same with facts that hold in each case
-pub with_kept : {E : Type 0} (P : Unit {0} → Type 0) (Q : E → Type 0) (A B C : Type 0) (result : Result (Unit {0}) E) → A → B → C → MatchResult result P Q
-    → MatchResult result (λ done. A × B × C × P done) (λ why. A × B × Q why)
-with_kept P Q A B C (Ok done) a b c is = (a, b, c, is)
-with_kept P Q A B C (Err why) a b c is = (a, b, is)
-
 -- an offered payload is taken, or nothing changes
 pub offered : {T : Type 0} (takes : T → ℕ → List ℕ → T → Type 0) (s t : T) (number : ℕ) (payload : List ℕ) (result : Bool) → (result ≡ true → takes s number payload t) → (result ≡ false → t ≡ s)
     → OffersPayload takes s number payload result t

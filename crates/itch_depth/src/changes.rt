@@ -52,28 +52,43 @@ fn follow_part<R: CountedRead, A: Allocator, B: OrderBook, W: CountedWrite>(
     ensures { FollowsPart W.contents W.failures R.remaining R.failures limit request.entry reader.old reader.new out.old result out.new }
 {
     let mut followed: Followed<B> = Followed::new(alloc);
-    follow_from(&mut followed, reader, limit, request, out)
+    write_changes(reader, limit, request, &mut followed, out)
 }
 
 // Does the same with the market before any message.
-fn follow_from<R: CountedRead, A: Allocator, B: OrderBook, W: CountedWrite>(
-    followed: &mut Followed<B>,
+fn write_changes<R: CountedRead, A: Allocator, B: OrderBook, W: CountedWrite>(
     reader: &mut BlockReader<R, A>,
     limit: Limit,
     request: ChangesRequest<'_>,
+    followed: &mut Followed<B>,
     out: &mut W,
 ) -> Result<bool, ToolFault>
     requires market { followed.old.market ≡ empty }
-    requires following { IsFollowing request.entry followed.old.market followed.old.own followed.old.locate followed.old.best }
+    requires following { IsFollowing request followed.old.market followed.old.own followed.old.locate followed.old.best }
     ensures { FollowsPart W.contents W.failures R.remaining R.failures limit request.entry reader.old reader.new out.old result out.new }
 {
-    let mut count = 0;
     let mut lines = ChangeLines {
         out,
         request,
         followed,
     };
-    let stop = read_part(reader, &mut count, &mut lines, limit);
+    follow_from(reader, limit, &mut lines)
+}
+
+// Does the same with the sink of its lines.
+fn follow_from<R: CountedRead, A: Allocator, B: OrderBook, W: CountedWrite>(
+    reader: &mut BlockReader<R, A>,
+    limit: Limit,
+    lines: &mut ChangeLines<'_, '_, '_, B, W>,
+) -> Result<bool, ToolFault>
+    requires market { lines.old.followed.now.market ≡ empty }
+    requires following { IsFollowing lines.old.request lines.old.followed.now.market lines.old.followed.now.own lines.old.followed.now.locate lines.old.followed.now.best }
+    ensures follows { FollowsPart W.contents W.failures R.remaining R.failures limit lines.old.request reader.old reader.new lines.old.out.now result lines.new.out.now }
+    ensures names { (lines.new.out.ghost_name ≡ lines.old.out.ghost_name) × (lines.new.followed.ghost_name ≡ lines.old.followed.ghost_name) }
+    ensures request { lines.new.request ≡ lines.old.request }
+{
+    let mut count = 0;
+    let stop = read_part(reader, &mut count, lines, limit);
     pass_stop(reader, &stop);
     let found = lines.found();
     answer(stop, limit.after, count, found)

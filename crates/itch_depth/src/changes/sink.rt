@@ -58,6 +58,7 @@ impl<'a, 'b, 'c, B: OrderBook, W: CountedWrite> Sink for ChangeLines<'a, 'b, 'c,
         × FollowsMessage W.contents W.failures s.request number payload s.followed.now.market s.out.now t.followed.now.market t.out.now };
 
     ghost refuses = { λ s number payload why t. (t.out.ghost_name ≡ s.out.ghost_name) × (t.followed.ghost_name ≡ s.followed.ghost_name)
+        × (t.request ≡ s.request)
         × LeavesMessage W.contents W.failures s.request number payload s.followed.now.market s.out.now why t.followed.now.market t.out.now };
 
     #[inline(always)]

@@ -1,4 +1,3 @@
-use Rattle.std.proofs.Common.{rules, sym}
 use Rattle.itch_depth.specs.declared.changes.sink.ChangeLines.{ChangeLines}
 use Rattle.itch_day.proofs.PassedBlocks.{stop_held}
 use Rattle.itch_depth.proofs.FollowedDays.{Left, followed_part}
@@ -14,11 +13,12 @@ pass_stop-requires g c =
 pub returns : goal.returns
 returns g c =
     let Lines = ChangeLines g.row.B.Denot g.row.W.Denot g.row.B-Alloc.Denot in
+    let now = c.read_part-stop.new.sink in
     let followed = followed_part g.W.CountedWrite.contents g.W.CountedWrite.failures (λ (s : Lines). s.out.now) (λ (s : Lines). s.out.ghost_name) (λ (s : Lines). s.followed.ghost_name) (λ (s : Lines). s.request) (λ (s : Lines). s.followed.now.market)
-    g.R.CountedRead.remaining g.R.CountedRead.failures c.args.limit c.args.reader.now c.read_part-stop.new.reader c.read_part-stop.new.count _ c.read_part-stop.new.sink c.read_part-stop.result
-    c.read_part-stop.new.sink.followed.now.own c.read_part-stop.new.sink.followed.now.locate c.read_part-stop.new.sink.followed.now.best
-    c.requires.market c.read_part-stop.ensures.reads c.read_part-stop.ensures.few c.read_part-stop.ensures.ready in
-    let named = sym followed.0.0 in
-    let market_named = sym followed.0.1 in
-    let part = followed.1 in
-    rw (c.answer.ensures, c.pass_stop.ensures, c.found-found.ensures) (search rules)
+    g.R.CountedRead.remaining g.R.CountedRead.failures c.args.limit c.args.reader.now c.read_part-stop.new.reader c.read_part-stop.new.count c.args.lines.now now c.read_part-stop.result
+    now.followed.now.own now.followed.now.locate now.followed.now.best c.requires.market c.read_part-stop.ensures.reads c.read_part-stop.ensures.few c.read_part-stop.ensures.ready in
+    record {
+      follows = rw (c.answer.ensures, c.pass_stop.ensures, c.found-found.ensures) followed.1;
+      names = (followed.0.0, followed.0.1);
+      request = followed.0.2;
+    }
