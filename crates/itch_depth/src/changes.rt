@@ -69,7 +69,7 @@ fn write_changes<R: CountedRead, A: Allocator, B: OrderBook, W: CountedWrite>(
 {
     let mut lines = ChangeLines {
         out,
-        request,
+        request: &request,
         followed,
     };
     follow_from(reader, limit, &mut lines)
@@ -79,13 +79,13 @@ fn write_changes<R: CountedRead, A: Allocator, B: OrderBook, W: CountedWrite>(
 fn follow_from<R: CountedRead, A: Allocator, B: OrderBook, W: CountedWrite>(
     reader: &mut BlockReader<R, A>,
     limit: Limit,
-    lines: &mut ChangeLines<'_, '_, '_, B, W>,
+    lines: &mut ChangeLines<'_, '_, '_, '_, B, W>,
 ) -> Result<bool, ToolFault>
     requires market { lines.old.followed.now.market ≡ empty }
-    requires following { IsFollowing lines.old.request lines.old.followed.now.market lines.old.followed.now.own lines.old.followed.now.locate lines.old.followed.now.best }
-    ensures follows { FollowsPart W.contents W.failures R.remaining R.failures limit lines.old.request reader.old reader.new lines.old.out.now result lines.new.out.now }
+    requires following { IsFollowing lines.old.request.now lines.old.followed.now.market lines.old.followed.now.own lines.old.followed.now.locate lines.old.followed.now.best }
+    ensures follows { FollowsPart W.contents W.failures R.remaining R.failures limit lines.old.request.now reader.old reader.new lines.old.out.now result lines.new.out.now }
     ensures names { (lines.new.out.ghost_name ≡ lines.old.out.ghost_name) × (lines.new.followed.ghost_name ≡ lines.old.followed.ghost_name) }
-    ensures request { lines.new.request ≡ lines.old.request }
+    ensures request { lines.new.request.now ≡ lines.old.request.now }
 {
     let mut count = 0;
     let stop = read_part(reader, &mut count, lines, limit);

@@ -7,14 +7,14 @@ pub pass_stop-requires : goal.pass_stop-requires
 pass_stop-requires g c =
     let reads = c.read_part-stop.ensures.reads in
     let Lines = ChangeLines g.row.B.Denot g.row.W.Denot g.row.B-Alloc.Denot in
-    let refuses = Left g.W.CountedWrite.contents g.W.CountedWrite.failures (λ (s : Lines). s.out.now) (λ (s : Lines). s.out.ghost_name) (λ (s : Lines). s.followed.ghost_name) (λ (s : Lines). s.request) (λ (s : Lines). s.followed.now.market) in
+    let refuses = Left g.W.CountedWrite.contents g.W.CountedWrite.failures (λ (s : Lines). s.out.now) (λ (s : Lines). s.out.ghost_name) (λ (s : Lines). s.followed.ghost_name) (λ (s : Lines). s.request.now) (λ (s : Lines). s.followed.now.market) in
     stop_held g.R.CountedRead.remaining refuses c.args.limit c.read_part-stop.new.reader c.read_part-stop.new.count reads.last c.read_part-stop.new.sink c.read_part-stop.result reads.stops
 
 pub returns : goal.returns
 returns g c =
     let Lines = ChangeLines g.row.B.Denot g.row.W.Denot g.row.B-Alloc.Denot in
     let now = c.read_part-stop.new.sink in
-    let followed = followed_part g.W.CountedWrite.contents g.W.CountedWrite.failures (λ (s : Lines). s.out.now) (λ (s : Lines). s.out.ghost_name) (λ (s : Lines). s.followed.ghost_name) (λ (s : Lines). s.request) (λ (s : Lines). s.followed.now.market)
+    let followed = followed_part g.W.CountedWrite.contents g.W.CountedWrite.failures (λ (s : Lines). s.out.now) (λ (s : Lines). s.out.ghost_name) (λ (s : Lines). s.followed.ghost_name) (λ (s : Lines). s.request.now) (λ (s : Lines). s.followed.now.market)
     g.R.CountedRead.remaining g.R.CountedRead.failures c.args.limit c.args.reader.now c.read_part-stop.new.reader c.read_part-stop.new.count c.args.lines.now now c.read_part-stop.result
     now.followed.now.own now.followed.now.locate now.followed.now.best c.requires.market c.read_part-stop.ensures.reads c.read_part-stop.ensures.few c.read_part-stop.ensures.ready in
     record {

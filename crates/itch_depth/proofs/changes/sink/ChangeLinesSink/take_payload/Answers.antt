@@ -12,13 +12,13 @@ use Rattle.itch_depth.proofs.changes.sink.ChangeLinesSink.take_payload.Goals as 
 
 pub returns-clause-takes : goal.returns-clause-takes
 returns-clause-takes g c =
-    let R = c.args.self.now.request in
+    let R = c.args.self.now.request.now in
     let payload = c.args.payload.now in
     let it = c.args.self.now.followed.now in
     let n = c.take_payload.new.self in
     let far : may_concern it.own payload ≡ false = sym c.may_concern.ensures ∙ c.if-may_concern.false in
     let Lines = ChangeLines g.row.B.Denot g.row.W.Denot g.row.B-Alloc.Denot in
-    let takes = Follows g.W.CountedWrite.contents g.W.CountedWrite.failures (λ (s : Lines). s.out.now) (λ (s : Lines). s.out.ghost_name) (λ (s : Lines). s.followed.ghost_name) (λ (s : Lines). s.request) (λ (s : Lines). s.followed.now.market) in
+    let takes = Follows g.W.CountedWrite.contents g.W.CountedWrite.failures (λ (s : Lines). s.out.now) (λ (s : Lines). s.out.ghost_name) (λ (s : Lines). s.followed.ghost_name) (λ (s : Lines). s.request.now) (λ (s : Lines). s.followed.now.market) in
     offered takes c.args.self.now _ c.args.number payload c.take_payload.result
     (λ is.
     let took = subst (λ r. OffersPayload TakesMessage it.market c.args.number payload r n) is c.take_payload.ensures.takes in
@@ -28,7 +28,7 @@ returns-clause-takes g c =
 
 pub returns-clause-ready : goal.returns-clause-ready
 returns-clause-ready g c = λ is.
-    let R = c.args.self.now.request in
+    let R = c.args.self.now.request.now in
     let payload = c.args.payload.now in
     let it = c.args.self.now.followed.now in
     let n = c.take_payload.new.self in
