@@ -1,5 +1,5 @@
 -- The blocks of the Stock Directory messages among some messages.
-use Rattle.std.proofs.Common.{◌≡◌, ℕ, ◌+◌, ◌<◌, Bool, true, false, List, [], ◌∷◌, ◌++◌, length, map, None, refl, sym, ap, subst, ◌∙◌, arith, if◌then◌else◌}
+use Rattle.std.proofs.Common.{◌≡◌, ℕ, ◌+◌, ◌<◌, Bool, true, false, List, [], ◌∷◌, ◌++◌, length, map, None, Result, Ok, refl, sym, ap, subst, ◌∙◌, arith, if◌then◌else◌}
 use Rattle.std.specs.Prelude.{is_some}
 use Rattle.std.specs.List.{AllByRecursion}
 use Rattle.std.proofs.lemmas.List.{append-nil, append_assoc}
@@ -7,6 +7,7 @@ use Rattle.itch_book.proofs.Lists.{by_test}
 use Rattle.itch_codec.specs.Layouts.{stock_directory}
 use Rattle.itch_codec.specs.Messages.{IsLaid, Spells, fault, message_of}
 use Rattle.itch_codec.specs.Values.{stock_directory_values}
+use Rattle.itch_codec.specs.declared.fault.CodecFault.{CodecFault}
 use Rattle.itch_codec.specs.declared.message.Message.{Message}
 use Rattle.itch_codec.specs.declared.message.Message.TheVariants as is
 use Rattle.itch_codec.specs.declared.stocks.StockDirectory.{StockDirectory}
@@ -14,7 +15,7 @@ use Rattle.itch_codec.proofs.Spelling.{Spells-message_of}
 use Rattle.itch_frame.specs.Blocks.{IsFull, IsPayload, block, blocks}
 use Rattle.itch_day.specs.Marks.{mark_after, mark_past}
 use Rattle.itch_day.specs.declared.mark.Mark.{Mark}
-use Rattle.itch_day.specs.Sinks.{TakesAll}
+use Rattle.itch_day.specs.Sinks.{Decodes, TakesAll}
 use Rattle.itch_commands.specs.Choices.{directory_of}
 use Rattle.itch_commands.specs.Further.{AreListed}
 use Rattle.itch_commands.specs.Showing.{IsClean}
@@ -27,8 +28,12 @@ entry_length payload entry clean same =
     let laid : IsLaid stock_directory (stock_directory_values entry) payload = subst (λ (m : Message). Spells m payload) (sym same) (Spells-message_of payload clean) in
     laid.size
 
-pub an_entry : (payload : List ℕ) (entry : StockDirectory) → is.StockDirectory entry ≡ message_of payload → is_entry payload ≡ true
-an_entry payload entry same = ap (λ (m : Message). is_some (listed m)) (sym same)
+-- so has the payload whose decoded form is such a message
+pub decoded_length : (payload : List ℕ) (decoded : Result Message CodecFault) (message : Message) (entry : StockDirectory) → Decodes payload decoded → decoded ≡ Ok message
+    → message ≡ is.StockDirectory entry → length payload ≡ 39
+decoded_length payload decoded message entry decodes is_message is_entry =
+    let both : Decodes payload (Ok message) = subst (Decodes payload) is_message decodes in
+    entry_length payload entry both.0 (sym is_entry ∙ both.1)
 
 -- the block of a payload, if it is that of a Stock Directory message
 abbrev pub entry_block : List ℕ → List ℕ
