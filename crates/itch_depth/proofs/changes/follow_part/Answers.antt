@@ -4,6 +4,9 @@ use Rattle.itch_day.proofs.PassedBlocks.{stop_held}
 use Rattle.itch_depth.proofs.FollowedDays.{Left, followed_part}
 use Rattle.itch_depth.proofs.changes.follow_part.Goals as goal
 
+pub read_part-stop-requires-clause-ready : goal.read_part-stop-requires-clause-ready
+read_part-stop-requires-clause-ready g c = c.new-followed.ensures.following c.args.request
+
 pub pass_stop-requires : goal.pass_stop-requires
 pass_stop-requires g c =
     let reads = c.read_part-stop.ensures.reads in
@@ -21,4 +24,4 @@ returns g c =
     let named = sym followed.0.0 in
     let market_named = sym followed.0.1 in
     let part = followed.1 in
-    rw (c.answer.ensures, c.pass_stop.ensures, c.found.ensures) (search rules)
+    rw (c.answer.ensures, c.pass_stop.ensures, c.found-found.ensures) (search rules)
