@@ -64,7 +64,7 @@ fn follow_from<R: CountedRead, A: Allocator, B: OrderBook, W: CountedWrite>(
     out: &mut W,
 ) -> Result<bool, ToolFault>
     requires market { followed.old.market ≡ empty }
-    requires following { IsFollowing request.entry followed.old.market followed.old.own followed.old.locate followed.old.best }
+    requires following { IsFollowing request followed.old.market followed.old.own followed.old.locate followed.old.best }
     ensures { FollowsPart W.contents W.failures R.remaining R.failures limit request.entry reader.old reader.new out.old result out.new }
 {
     let mut count = 0;
