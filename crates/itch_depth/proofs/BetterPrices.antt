@@ -94,11 +94,11 @@ module _ (s : Side) (p : ℕ) where
   all_better zero ps qs none q full there better = omega arith
   all_better (suc n) [] qs none q full there better =
       let no : is_better s q p ≡ false = all_get (λ r. is_better s r p ≡ false) (take (suc n) qs) (suc n - 1) q (all_take (suc n) qs none) there in absurd (cc (sym no ∙ better)) where
-    all_take : (n : ℕ) (rs : List ℕ) → AllByRecursion (λ r. is_better s r p ≡ false) rs → AllByRecursion (λ r. is_better s r p ≡ false) (take n rs)
-    all_take zero [] h = tt
-    all_take zero (r ∷ rs) h = tt
-    all_take (suc n) [] h = tt
-    all_take (suc n) (r ∷ rs) h = (h.0, all_take n rs h.1)
+        all_take : (n : ℕ) (rs : List ℕ) → AllByRecursion (λ r. is_better s r p ≡ false) rs → AllByRecursion (λ r. is_better s r p ≡ false) (take n rs)
+        all_take zero [] h = tt
+        all_take zero (r ∷ rs) h = tt
+        all_take (suc n) [] h = tt
+        all_take (suc n) (r ∷ rs) h = (h.0, all_take n rs h.1)
   all_better (suc zero) (r ∷ ps) qs none q full there better = omega arith
   all_better (suc (suc n)) (r ∷ ps) qs none q full there better =
       let place : suc (suc n) - 1 ≡ suc n = omega arith in
@@ -112,9 +112,9 @@ module _ (s : Side) (p : ℕ) where
     prices_apart =
         ap prices (in_front xs h)
         ∙ prices_more (filter ahead xs) (filter behind xs) (passes_filter ahead xs) (All-weaker_rec (λ x. behind x ≡ true) (λ x. ahead x ≡ false) (λ x yes. is_no (ahead x) yes) (filter behind xs) (passes_filter behind xs)) where
-      is_no : (b : Bool) → not b ≡ true → b ≡ false
-      is_no true h = absurd (cc h)
-      is_no false h = refl
+          is_no : (b : Bool) → not b ≡ true → b ≡ false
+          is_no true h = absurd (cc h)
+          is_no false h = refl
 
     -- the first prices are those of the orders ahead, if there are enough
     first_prices : n ≤ length (prices (filter ahead xs)) → take n (prices xs) ≡ take n (prices (filter ahead xs))
@@ -135,14 +135,14 @@ module _ (s : Side) (p : ℕ) where
         all_better n (prices (filter ahead xs)) (prices (filter behind xs)) no_better price.0
         (ap (λ ps. length (take n ps)) (sym prices_apart) ∙ sym (as_many (take n (prices xs))) ∙ full)
         (ap (λ ps. slice_get (take n ps) (n - 1)) (sym prices_apart) ∙ price.1) price.2 where
-      as_many : (ps : List ℕ) → length (map (level_of xs) ps) ≡ length ps
-      as_many [] = refl
-      as_many (q ∷ qs) = ap suc (as_many qs)
+          as_many : (ps : List ℕ) → length (map (level_of xs) ps) ≡ length ps
+          as_many [] = refl
+          as_many (q ∷ qs) = ap suc (as_many qs)
 
-      last_price : (ps : List ℕ) (i : ℕ) → is_past s p (slice_get (map (level_of xs) ps) i) ≡ true → (q : ℕ) × (slice_get ps i ≡ Some q) × (is_better s q p ≡ true)
-      last_price [] i past = absurd (cc past)
-      last_price (q ∷ qs) zero past = (q, refl, past)
-      last_price (q ∷ qs) (suc i) past = last_price qs i past
+          last_price : (ps : List ℕ) (i : ℕ) → is_past s p (slice_get (map (level_of xs) ps) i) ≡ true → (q : ℕ) × (slice_get ps i ≡ Some q) × (is_better s q p ≡ true)
+          last_price [] i past = absurd (cc past)
+          last_price (q ∷ qs) zero past = (q, refl, past)
+          last_price (q ∷ qs) (suc i) past = last_price qs i past
 
     -- the level of a better price is that of the orders ahead
     level_ahead : (q : ℕ) → is_better s q p ≡ true → level_of xs q ≡ level_of (filter ahead xs) q
@@ -159,11 +159,11 @@ module _ (s : Side) (p : ℕ) where
     ahead_levels enough =
         ap (map (level_of xs)) (first_prices enough)
         ∙ levels_ahead (take n (prices (filter ahead xs))) (all_take n (prices (filter ahead xs)) (all_prices (λ q. is_better s q p ≡ true) (filter ahead xs) (passes_filter ahead xs))) where
-      all_take : (n : ℕ) (rs : List ℕ) → AllByRecursion (λ r. is_better s r p ≡ true) rs → AllByRecursion (λ r. is_better s r p ≡ true) (take n rs)
-      all_take zero [] h = tt
-      all_take zero (r ∷ rs) h = tt
-      all_take (suc n) [] h = tt
-      all_take (suc n) (r ∷ rs) h = (h.0, all_take n rs h.1)
+          all_take : (n : ℕ) (rs : List ℕ) → AllByRecursion (λ r. is_better s r p ≡ true) rs → AllByRecursion (λ r. is_better s r p ≡ true) (take n rs)
+          all_take zero [] h = tt
+          all_take zero (r ∷ rs) h = tt
+          all_take (suc n) [] h = tt
+          all_take (suc n) (r ∷ rs) h = (h.0, all_take n rs h.1)
 
 -- ---- books
 
