@@ -53,6 +53,11 @@ module _ (orders : List Order) where
       (rest.0 ++ sides orders (n + d),
       ap (λ k. queues_below k orders) next ∙ ap (λ xs. xs ++ sides orders (n + d)) rest.1 ∙ append_assoc (queues_below n orders) rest.0 (sides orders (n + d)))
 
+  -- these orders were copied, and of those of the locate the next one and those after it remain
+  pub record CopiedSoFar (l : ℕ) (next : Option Order) (copied : List Order) : Type 0 where
+    pub parts : queues_below l orders ++ sides orders l ≡ copied ++ from_order orders next
+    pub live : IfSome next (λ x. get orders x.reference ≡ Some x)
+
   module _ (book : IsBook orders) where
     unfolding lay
     all_below : queues_below 65536 orders ≡ orders
@@ -77,11 +82,6 @@ module _ (orders : List Order) where
 
     pub all_copied : (n : ℕ) → n ≡ 65536 → queues_below n orders ≡ orders
     all_copied n e = ap (λ k. queues_below k orders) e ∙ all_below
-
-    -- these orders were copied, and of those of the locate the next one and those after it remain
-    pub record CopiedSoFar (l : ℕ) (next : Option Order) (copied : List Order) : Type 0 where
-      pub parts : queues_below l orders ++ sides orders l ≡ copied ++ from_order orders next
-      pub live : IfSome next (λ x. get orders x.reference ≡ Some x)
 
     pub copy_begun : (l : ℕ) → CopiedSoFar l (find (is_in l) orders) (queues_below l orders)
     copy_begun l = record { parts = ap (λ xs. queues_below l orders ++ xs) (first_left orders l book); live = first_live orders l book.distinct }
