@@ -59,8 +59,8 @@ module _ (orders : List Order) where
     pub live : IfSome next (λ x. get orders x.reference ≡ Some x)
 
   module _ (book : IsBook orders) where
-    unfolding lay
     all_below : queues_below 65536 orders ≡ orders
+    unfolding lay
     all_below = lay-book orders book
 
     -- the orders at the locates below a number, and all others after them
@@ -93,7 +93,7 @@ module _ (orders : List Order) where
       so_far_at : CopiedSoFar l (Some x) copied
       so_far_at = subst (λ n. CopiedSoFar l n copied) is so_far
 
-      rest : List Order
+      abbrev rest : List Order
       rest = from_order orders (after orders x.reference)
 
       parts_at : queues_below l orders ++ sides orders l ≡ (copied ++ x ∷ []) ++ rest
