@@ -1,6 +1,5 @@
 -- A copy of a book, whose orders are added in snapshot order.
 use Rattle.std.proofs.Common.{◌≡◌, ℕ, ◌≤◌, ◌<◌, ◌+◌, ◌-◌, zero, suc, false, List, [], ◌∷◌, ◌++◌, length, filter, find, Option, Some, None, IfSome, refl, sym, ap, ◌∙◌, subst, append-nil, append_assoc, arith, length-append}
-use Rattle.std.specs.List.{AllByRecursion}
 use Rattle.std.proofs.lemmas.List.Elements.{filter-append}
 use Rattle.itch_book.specs.declared.order.Order.{Order}
 use Rattle.itch_book.specs.StableLists.{IsInOrder}
@@ -80,8 +79,9 @@ module _ (orders : List Order) where
         nothing [] h = refl
         nothing (x ∷ xs) h = absurd (omega arith)
 
-    pub all_copied : (n : ℕ) → n ≡ 65536 → queues_below n orders ≡ orders
-    all_copied n e = ap (λ k. queues_below k orders) e ∙ all_below
+    -- a copy of the orders at all locates
+    pub all_copied : (n : ℕ) → n + 1 ≡ 65536 → queues_below n orders ++ sides orders n ≡ orders
+    all_copied n e = let last : suc n ≡ 65536 = omega (arith, e) in ap (λ k. queues_below k orders) last ∙ all_below
 
     pub copy_begun : (l : ℕ) → CopiedSoFar l (find (is_in l) orders) (queues_below l orders)
     copy_begun l = record { parts = ap (λ xs. queues_below l orders ++ xs) (first_left orders l book); live = first_live orders l book.distinct }
