@@ -3,7 +3,7 @@
 use crate::pace::{Pace, is_due};
 use crate::playback::Playback;
 use itch_live::{Gone, Player};
-use itch_sessions::{Departure, Link, SessionFault, Who, departure_of};
+use itch_sessions::{Departure, SessionFault, SocketLink, Who, departure_of};
 use mio::event::Event;
 use std::alloc::Global;
 use std::io::Read;
@@ -19,7 +19,7 @@ const LONGEST: usize = 65_534;
 
 /// The start of a client: its first message, with its timestamp, and when it was read.
 #[derive(Clone, Copy)]
-struct Start {
+struct PlayStart {
     number: u64,
     time: u64,
     at_ms: u64,
@@ -39,10 +39,10 @@ enum Played {
 /// A client to which a day file is played.
 #[derive(Drop)]
 pub struct PlayerSide<F: Read + Drop> {
-    link: Link,
+    link: SocketLink,
     player: Player<Global>,
     playback: Playback<F>,
-    start: Option<Start>,
+    start: Option<PlayStart>,
     // The number of messages that were passed in, and the outcome of the last turn.
     count: u64,
     played: Played,
@@ -50,7 +50,7 @@ pub struct PlayerSide<F: Read + Drop> {
 
 impl<F: Read + Drop> PlayerSide<F> {
     /// Creates a client that has connected.
-    pub fn new(link: Link, player: Player<Global>, playback: Playback<F>) -> PlayerSide<F> {
+    pub fn new(link: SocketLink, player: Player<Global>, playback: Playback<F>) -> PlayerSide<F> {
         PlayerSide {
             link,
             player,
@@ -176,8 +176,14 @@ pub fn hand_on(player: &mut Player<Global>, piece: &[u8], now_ms: u64) {
 }
 
 // Returns whether a message is due, counted from the first message that was played, which is always due.
-fn is_due_from(start: &mut Option<Start>, pace: Pace, number: u64, time: u64, now_ms: u64) -> bool {
-    let first = *start.get_or_insert(Start {
+fn is_due_from(
+    start: &mut Option<PlayStart>,
+    pace: Pace,
+    number: u64,
+    time: u64,
+    now_ms: u64,
+) -> bool {
+    let first = *start.get_or_insert(PlayStart {
         number,
         time,
         at_ms: now_ms,

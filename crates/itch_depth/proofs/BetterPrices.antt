@@ -12,7 +12,7 @@ use Rattle.itch_book.proofs.Lists.{All-weaker_rec, All-filter_rec, by_test, filt
 use Rattle.itch_book.proofs.BookLemmas.{queue-book}
 use Rattle.itch_book.proofs.QueueLemmas.{IsQueue-queue}
 use Rattle.itch_book.proofs.QueuePrices.{filter_both}
-use Rattle.itch_depth.specs.declared.changes.best.Level.{Level}
+use Rattle.itch_depth.specs.declared.changes.best.DepthLevel.{DepthLevel}
 use Rattle.itch_depth.specs.declared.changes.changed_price.ChangedPrice.{ChangedPrice}
 use Rattle.itch_depth.specs.Changes.{Sides, best_of, level_of, levels, same_levels, same_sides}
 use Rattle.itch_depth.specs.ChangedPrices.{AreSameElsewhere, is_behind, is_elsewhere, is_past}
@@ -147,7 +147,7 @@ module _ (s : Side) (p : ℕ) where
     -- the level of a better price is that of the orders ahead
     level_ahead : (q : ℕ) → is_better s q p ≡ true → level_of xs q ≡ level_of (filter ahead xs) q
     level_ahead q better =
-        ap (λ (ys : List Order). let x : Level = record { price = q; shares = sum_by (λ y. y.shares) ys; orders = length ys } in x)
+        ap (λ (ys : List Order). let x : DepthLevel = record { price = q; shares = sum_by (λ y. y.shares) ys; orders = length ys } in x)
         (sym (filter_within (is_at_price q) ahead (λ x at. let here : x.price ≡ q = grind (arith, nat_tests) in ap (λ r. is_better s r p) here ∙ better) xs))
 
     levels_ahead : (qs : List ℕ) → AllByRecursion (λ q. is_better s q p ≡ true) qs → map (level_of xs) qs ≡ map (level_of (filter ahead xs)) qs
@@ -220,16 +220,16 @@ module _ (old new : List Order) (at : ChangedPrice) (old_book : IsBook old) (new
       ahead_levels s p n new_line new_order still ∙ ap (levels n) same_ahead ∙ sym (ahead_levels s p n old_line old_order enough)
 
   -- the best prices after a change of the orders of one side
-  pub bids_then : at.side ≡ Buy → (n : ℕ) (bids asks : List Level) → bids ≡ levels n (queue new at.locate at.side) → asks ≡ levels n (queue old at.locate Sell)
+  pub bids_then : at.side ≡ Buy → (n : ℕ) (bids asks : List DepthLevel) → bids ≡ levels n (queue new at.locate at.side) → asks ≡ levels n (queue old at.locate Sell)
       → ◌≡◌ {A = Sides} (record { bids = bids; asks = asks }) (best_of n new at.locate)
   bids_then is n bids asks now were =
-      ap₂ (λ (b a : List Level). let sides : Sides = record { bids = b; asks = a } in sides) (now ∙ ap (λ s. levels n (queue new at.locate s)) is)
+      ap₂ (λ (b a : List DepthLevel). let sides : Sides = record { bids = b; asks = a } in sides) (now ∙ ap (λ s. levels n (queue new at.locate s)) is)
       (were ∙ ap (levels n) (sym (same_queue at.locate Sell (λ x of. ap (λ s. is_of at.locate s x) is ∙ no_bid (x.locate == at.locate) x.side of))))
 
-  pub asks_then : at.side ≡ Sell → (n : ℕ) (bids asks : List Level) → asks ≡ levels n (queue new at.locate at.side) → bids ≡ levels n (queue old at.locate Buy)
+  pub asks_then : at.side ≡ Sell → (n : ℕ) (bids asks : List DepthLevel) → asks ≡ levels n (queue new at.locate at.side) → bids ≡ levels n (queue old at.locate Buy)
       → ◌≡◌ {A = Sides} (record { bids = bids; asks = asks }) (best_of n new at.locate)
   asks_then is n bids asks now were =
-      ap₂ (λ (b a : List Level). let sides : Sides = record { bids = b; asks = a } in sides)
+      ap₂ (λ (b a : List DepthLevel). let sides : Sides = record { bids = b; asks = a } in sides)
       (were ∙ ap (levels n) (sym (same_queue at.locate Buy (λ x of. ap (λ s. is_of at.locate s x) is ∙ no_ask (x.locate == at.locate) x.side of))))
       (now ∙ ap (λ s. levels n (queue new at.locate s)) is)
 
@@ -238,7 +238,7 @@ module _ (old new : List Order) (at : ChangedPrice) (old_book : IsBook old) (new
 same_number : (n : ℕ) → (n == n) ≡ true
 same_number n = grind (arith, nat_tests)
 
-pub same_levels_again : (xs : List Level) → same_levels xs xs ≡ true
+pub same_levels_again : (xs : List DepthLevel) → same_levels xs xs ≡ true
 same_levels_again [] = refl
 same_levels_again (x ∷ xs) = simp (same_number x.price, same_number x.shares, same_number x.orders) (same_levels_again xs)
 
@@ -251,10 +251,10 @@ true_and true b is = refl
 true_and false b is = absurd (cc is)
 
 -- the sides differ if one of them does and the other is the same
-pub bids_tell : (bids now asks : List Level) → not (same_levels bids now) ≡ not (same_sides (record { bids = bids; asks = asks }) (record { bids = now; asks = asks }))
+pub bids_tell : (bids now asks : List DepthLevel) → not (same_levels bids now) ≡ not (same_sides (record { bids = bids; asks = asks }) (record { bids = now; asks = asks }))
 bids_tell bids now asks = ap not (sym (and_true (same_levels bids now) (same_levels asks asks) (same_levels_again asks)))
 
-pub asks_tell : (bids asks now : List Level) → not (same_levels asks now) ≡ not (same_sides (record { bids = bids; asks = asks }) (record { bids = bids; asks = now }))
+pub asks_tell : (bids asks now : List DepthLevel) → not (same_levels asks now) ≡ not (same_sides (record { bids = bids; asks = asks }) (record { bids = bids; asks = now }))
 asks_tell bids asks now = ap not (sym (true_and (same_levels bids bids) (same_levels asks now) (same_levels_again bids)))
 
 -- what follows from a result

@@ -37,12 +37,12 @@ pub fn next_stop(every: u64, count: u64) -> u64
 
 // A follower of a feed that takes the messages of a record, or stops the replay with a reason; and the mark after these messages.
 #[derive(Drop)]
-struct Recorded<'x, B: OrderBook> {
+struct RecordSink<'x, B: OrderBook> {
     follower: &'x mut Follower<B>,
     mark: Mark,
 }
 
-impl<'x, B: OrderBook> Sink for Recorded<'x, B> {
+impl<'x, B: OrderBook> Sink for RecordSink<'x, B> {
     ghost use Rattle.std.specs.Prelude.{◌≡◌};
 
     type Fault = Stop;
@@ -152,7 +152,7 @@ impl Replay {
         if count > MOST_MESSAGES {
             return Err(refused(count, Stop::TooManyMessages));
         }
-        let mut recorded = Recorded {
+        let mut recorded = RecordSink {
             follower,
             mark: self.mark,
         };

@@ -6,7 +6,7 @@ use crate::answers::Answer;
 use crate::codes::{DONE, NO_MEMORY, TAKEN};
 use crate::kept::{Kept, empty, seal, unseal};
 use crate::loose::Loose;
-use crate::object::{Book, Object};
+use crate::object::{HandleBook, Object};
 use itch_join::Joiner;
 use itch_market::Market;
 use itch_soup::{ClientSession, ServerSession};
@@ -89,7 +89,7 @@ impl Handle {
     }
 
     /// Calls a function with the joiner; if there is none, the answer is `wrong`.
-    pub(crate) fn with_joiner<R: Copy, F: FnOnce(&mut Joiner<Book>) -> R>(
+    pub(crate) fn with_joiner<R: Copy, F: FnOnce(&mut Joiner<HandleBook>) -> R>(
         &mut self,
         alloc: Global,
         wrong: R,
@@ -128,7 +128,7 @@ impl Handle {
     }
 
     /// Calls a function with the market; if there is none, the answer is `wrong`.
-    pub(crate) fn look_up<R: Drop, F: FnOnce(&Market<Book>) -> R>(
+    pub(crate) fn look_up<R: Drop, F: FnOnce(&Market<HandleBook>) -> R>(
         &mut self,
         alloc: Global,
         wrong: R,
@@ -147,7 +147,7 @@ impl Handle {
     }
 
     /// Does the same for a look-up by price, for which it prepares the market's book first.
-    pub(crate) fn look_up_by_price<R: Drop, F: FnOnce(&Market<Book>) -> R>(
+    pub(crate) fn look_up_by_price<R: Drop, F: FnOnce(&Market<HandleBook>) -> R>(
         &mut self,
         alloc: Global,
         wrong: R,

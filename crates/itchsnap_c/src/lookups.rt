@@ -4,7 +4,7 @@ ghost use Rattle.std.specs.Option.{option_copied};
 ghost use Rattle.itchsnap_c.specs.Objects.{held_market};
 ghost use Rattle.itchsnap_c.specs.Lookups.{side_of, no_order, order_answer, best_in, order_in, level_answer, level_in, price_answer, price_in, count_in};
 
-use crate::answers::{BookOrder, Count, Level, Price};
+use crate::answers::{BookOrder, Count, LevelTotal, Price};
 use crate::codes::{ABSENT, WRONG_HANDLE, counted, no_count};
 use crate::handle::Handle;
 use itch_book::{Order, OrderBook};
@@ -46,7 +46,7 @@ pub extern "C" fn itchsnap_level(
     locate: u16,
     buy: bool,
     price: u32,
-) -> Level
+) -> LevelTotal
     ensures level { result ≡ level_in (held_market handle.old.kept.object) locate buy price }
     ensures same { handle.new.kept.object ≡ handle.old.kept.object }
 {
@@ -142,11 +142,11 @@ fn no_price(code: u32) -> Price
     Price { price: 0, code }
 }
 
-fn level_answer(total: (u128, u64)) -> Level
+fn level_answer(total: (u128, u64)) -> LevelTotal
     ensures { result ≡ level_answer total }
 {
     let (shares, orders) = total;
-    Level {
+    LevelTotal {
         shares_low: (shares % (1 << 64)) as u64,
         shares_high: (shares / (1 << 64)) as u64,
         orders,
@@ -155,7 +155,7 @@ fn level_answer(total: (u128, u64)) -> Level
 }
 
 // The result if a handle holds no market.
-const NO_LEVEL: Level = Level {
+const NO_LEVEL: LevelTotal = LevelTotal {
     shares_low: 0,
     shares_high: 0,
     orders: 0,

@@ -12,20 +12,20 @@ use itch_soup::{ClientSession, ServerSession};
 use std::alloc::Global;
 
 /// The type of book in which every market of a handle keeps its orders.
-pub(crate) type Book = AdaptiveBook<SettledBook<Global>, IndexedBook<Global>>;
+pub(crate) type HandleBook = AdaptiveBook<SettledBook<Global>, IndexedBook<Global>>;
 
 /// The object in a handle.
 #[derive(Drop)]
 pub(crate) enum Object {
-    Market(Market<Book>),
-    Joiner(Joiner<Book>),
+    Market(Market<HandleBook>),
+    Joiner(Joiner<HandleBook>),
     Client(ClientSession),
     Server(ServerSession),
 }
 
 impl Object {
     /// Returns the market in which look-ups are made: for a joiner the one that it keeps once it has joined.
-    pub(crate) fn market(&self) -> Option<&Market<Book>>
+    pub(crate) fn market(&self) -> Option<&Market<HandleBook>>
         ensures { option_copied result ≡ market_of self.now }
     {
         match self {
@@ -47,7 +47,7 @@ impl Object {
     }
 
     /// Calls a function with a joiner; for any other object the answer is `wrong`.
-    pub(crate) fn at_joiner<R: Copy, F: FnOnce(&mut Joiner<Book>) -> R>(
+    pub(crate) fn at_joiner<R: Copy, F: FnOnce(&mut Joiner<HandleBook>) -> R>(
         &mut self,
         wrong: R,
         call: F,
