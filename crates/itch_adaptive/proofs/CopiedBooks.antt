@@ -48,9 +48,10 @@ module _ (orders : List Order) where
       ([], ap (λ k. queues_below k orders) same ∙ sym (append-nil (queues_below n orders)))
   below_part n (suc d) m e =
       let next : m ≡ suc (n + d) = omega (arith, e) in
-      let rest = below_part n d (n + d) refl in
-      (rest.0 ++ sides orders (n + d),
-      ap (λ k. queues_below k orders) next ∙ ap (λ xs. xs ++ sides orders (n + d)) rest.1 ∙ append_assoc (queues_below n orders) rest.0 (sides orders (n + d)))
+      let rest = below_part n d (n + d) refl in (
+        rest.0 ++ sides orders (n + d),
+        ap (λ k. queues_below k orders) next ∙ ap (λ xs. xs ++ sides orders (n + d)) rest.1 ∙ append_assoc (queues_below n orders) rest.0 (sides orders (n + d)),
+      )
 
   -- these orders were copied, and of those of the locate the next one and those after it remain
   pub record CopiedSoFar (l : ℕ) (next : Option Order) (copied : List Order) : Type 0 where

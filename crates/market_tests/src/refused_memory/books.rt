@@ -200,7 +200,10 @@ fn a_book_is_settled_without_memory(rt: HostRuntime) -> TestResult {
     Ok(())
 }
 
-type Adaptive<'a> = AdaptiveBook<SettledBook<&'a Refusing<Global>>, IndexedBook<&'a Refusing<Global>>>;
+type Adaptive<'a> = AdaptiveBook<
+    SettledBook<&'a Refusing<Global>>,
+    IndexedBook<&'a Refusing<Global>>,
+>;
 
 #[test]
 fn an_adaptive_book_stays_as_it_was(rt: HostRuntime) -> TestResult {

@@ -1,4 +1,4 @@
-use Rattle.std.proofs.Common.{◌≡◌, option_map, sym, subst, ap, arith}
+use Rattle.std.proofs.Common.{option_map, sym, subst, ap, arith}
 use Rattle.itch_book.specs.declared.order.Placed.{Placed}
 use Rattle.itch_book.specs.Orders.{queues_below}
 use Rattle.itch_adaptive.proofs.CopiedBooks.{CopiedSoFar, copy_begun, copy_ended, copied_more, fewer_left, has_shares_left, is_new}
