@@ -5,7 +5,7 @@ use Rattle.itch_codec.specs.Headers.{time_of}
 use Rattle.itch_codec.specs.Messages.{fault, message_of}
 use Rattle.itch_codec.specs.Widths.{IsMessage}
 use Rattle.itch_codec.specs.declared.message.Message.{Message}
-use Rattle.itch_day.specs.Sinks.{Decodes}
+use Rattle.itch_day.specs.Sinks.{Decodes, OffersPayload}
 use Rattle.itch_frame.specs.declared.tally.Failures.{Failures}
 use Rattle.itch_market.specs.Content.{Content, laid}
 use Rattle.itch_market.specs.Effects.{effect, takes_memory}
@@ -86,3 +86,9 @@ pub with_kept : {E : Type 0} (P : Unit {0} → Type 0) (Q : E → Type 0) (A B C
     → MatchResult result (λ done. A × B × C × P done) (λ why. A × B × Q why)
 with_kept P Q A B C (Ok done) a b c is = (a, b, c, is)
 with_kept P Q A B C (Err why) a b c is = (a, b, is)
+
+-- an offered payload is taken, or nothing changes
+pub offered : {T : Type 0} (takes : T → ℕ → List ℕ → T → Type 0) (s t : T) (number : ℕ) (payload : List ℕ) (result : Bool) → (result ≡ true → takes s number payload t) → (result ≡ false → t ≡ s)
+    → OffersPayload takes s number payload result t
+offered takes s t number payload true taken left = taken refl
+offered takes s t number payload false taken left = left refl
