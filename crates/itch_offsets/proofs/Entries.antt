@@ -1,6 +1,5 @@
 -- The blocks of the Stock Directory messages among some messages.
-use Rattle.std.proofs.Common.{◌≡◌, ℕ, ◌+◌, ◌<◌, Bool, true, false, List, [], ◌∷◌, ◌++◌, length, map, None, refl, sym, ap, subst, ◌∙◌, arith, if◌then◌else◌}
-use Rattle.std.specs.Prelude.{is_some}
+use Rattle.std.proofs.Common.{◌≡◌, ℕ, ◌+◌, Bool, List, [], ◌∷◌, ◌++◌, length, map, None, refl, sym, ap, subst, ◌∙◌, if◌then◌else◌}
 use Rattle.std.specs.List.{AllByRecursion}
 use Rattle.std.proofs.lemmas.List.{append-nil, append_assoc}
 use Rattle.itch_book.proofs.Lists.{by_test}
@@ -18,7 +17,6 @@ use Rattle.itch_day.specs.Sinks.{TakesAll}
 use Rattle.itch_commands.specs.Choices.{directory_of}
 use Rattle.itch_commands.specs.Further.{AreListed}
 use Rattle.itch_commands.specs.Showing.{IsClean}
-use Rattle.itch_commands.specs.Sought.{listed}
 use Rattle.itch_offsets.specs.Passes.{TakesEntry, entries, is_entry, kept_block}
 
 -- the payload of a Stock Directory message has 39 bytes
