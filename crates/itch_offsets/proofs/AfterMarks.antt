@@ -1,12 +1,11 @@
 -- Ranges and choices after the messages of a mark.
-use Rattle.std.proofs.Common.{◌≡◌, ℕ, zero, suc, ◌+◌, ◌-◌, ◌≤◌, ◌==◌, ◌&&◌, max, nat_le, Bool, true, false, List, [], ◌∷◌, length, map, Option, None, Some, refl, sym, ap, subst, ◌∙◌, arith, if◌then◌else◌}
+use Rattle.std.proofs.Common.{◌≡◌, ℕ, zero, suc, ◌-◌, ◌==◌, ◌&&◌, max, nat_le, Bool, true, false, List, [], ◌∷◌, length, map, Option, None, Some, refl, sym, ap, ◌∙◌, arith, if◌then◌else◌}
 use Rattle.std.specs.Prelude.{◌||◌, not, is_some, option_map}
 use Rattle.std.proofs.lemmas.Bool.{and_right, false≢true}
 use Rattle.std.proofs.lemmas.Bool.Decides.{nat_tests}
 use Rattle.itch_book.proofs.Lists.{by_test}
 use Rattle.itch_codec.specs.Headers.{time_of}
 use Rattle.itch_codec.specs.declared.message.Message.{Message}
-use Rattle.itch_day.specs.Limits.{is_from}
 use Rattle.itch_day.specs.Marks.{later, latest}
 use Rattle.itch_market.specs.Wanted.{Wanted}
 use Rattle.itch_commands.specs.Choices.{Chosen, chosen_listing_all, chosen_past, chosen_past_mark, directory_of}

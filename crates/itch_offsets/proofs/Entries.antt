@@ -1,6 +1,5 @@
 -- The blocks of the Stock Directory messages among some messages.
-use Rattle.std.proofs.Common.{◌≡◌, ℕ, ◌+◌, ◌<◌, Bool, true, false, List, [], ◌∷◌, ◌++◌, length, map, None, refl, sym, ap, subst, ◌∙◌, arith, if◌then◌else◌}
-use Rattle.std.specs.Prelude.{is_some}
+use Rattle.std.proofs.Common.{◌≡◌, ℕ, ◌+◌, Bool, List, [], ◌∷◌, ◌++◌, length, map, None, refl, sym, ap, subst, ◌∙◌, if◌then◌else◌}
 use Rattle.std.specs.List.{AllByRecursion}
 use Rattle.std.proofs.lemmas.List.{append-nil, append_assoc}
 use Rattle.itch_book.proofs.Lists.{by_test}
@@ -18,8 +17,7 @@ use Rattle.itch_day.specs.Sinks.{TakesAll}
 use Rattle.itch_commands.specs.Choices.{directory_of}
 use Rattle.itch_commands.specs.Further.{AreListed}
 use Rattle.itch_commands.specs.Showing.{IsClean}
-use Rattle.itch_commands.specs.Sought.{listed}
-use Rattle.itch_offsets.specs.Passes.{TakesEntry, entries, is_entry}
+use Rattle.itch_offsets.specs.Passes.{TakesEntry, entries, is_entry, kept_block}
 
 -- the payload of a Stock Directory message has 39 bytes
 pub entry_length : (payload : List ℕ) (entry : StockDirectory) → fault payload ≡ None → is.StockDirectory entry ≡ message_of payload → length payload ≡ 39
@@ -27,14 +25,7 @@ entry_length payload entry clean same =
     let laid : IsLaid stock_directory (stock_directory_values entry) payload = subst (λ (m : Message). Spells m payload) (sym same) (Spells-message_of payload clean) in
     laid.size
 
-pub an_entry : (payload : List ℕ) (entry : StockDirectory) → is.StockDirectory entry ≡ message_of payload → is_entry payload ≡ true
-an_entry payload entry same = ap (λ (m : Message). is_some (listed m)) (sym same)
-
--- the block of a payload, if it is that of a Stock Directory message
-abbrev pub entry_block : List ℕ → List ℕ
-entry_block payload = if is_entry payload then block payload else []
-
-first_entry : (p : List ℕ) (ps : List (List ℕ)) → blocks (entries (p ∷ ps)) ≡ entry_block p ++ blocks (entries ps)
+first_entry : (p : List ℕ) (ps : List (List ℕ)) → blocks (entries (p ∷ ps)) ≡ kept_block p ++ blocks (entries ps)
 unfolding entries
 first_entry p ps =
     let others : List (List ℕ) = entries ps in
@@ -53,7 +44,7 @@ kept_of_all old count [] new same = (tt, same ∙ sym (append-nil old) ∙ ap (�
 kept_of_all old count (p ∷ ps) new (mid, (clean, kept), rest) =
     let others = kept_of_all mid (count + 1) ps new rest in (
       (clean, others.0),
-      others.1 ∙ ap (λ b. b ++ blocks (entries ps)) kept ∙ append_assoc old (entry_block p) (blocks (entries ps)) ∙ ap (λ b. old ++ b) (sym (first_entry p ps)),
+      others.1 ∙ ap (λ b. b ++ blocks (entries ps)) kept ∙ append_assoc old (kept_block p) (blocks (entries ps)) ∙ ap (λ b. old ++ b) (sym (first_entry p ps)),
     )
 
 -- the messages of these payloads are the directory of the messages

@@ -1,10 +1,10 @@
 -- The lines and the blocks after the messages before a range.
-use Rattle.std.proofs.Common.{◌≡◌, ℕ, ◌+◌, ◌-◌, ◌&&◌, Bool, true, false, List, [], ◌∷◌, ◌++◌, length, drop, map, refl, sym, ap, subst, ◌∙◌, arith, if◌then◌else◌}
+use Rattle.std.proofs.Common.{◌≡◌, ℕ, ◌+◌, ◌&&◌, Bool, false, List, [], ◌∷◌, ◌++◌, length, drop, map, refl, sym, ap, ◌∙◌, arith, if◌then◌else◌}
 use Rattle.itch_book.proofs.Lists.{by_test}
 use Rattle.itch_codec.specs.Headers.{time_of}
 use Rattle.itch_codec.specs.Messages.{message_of}
 use Rattle.itch_codec.specs.declared.message.Message.{Message}
-use Rattle.itch_commands.specs.Choices.{Chosen, chosen_after, chosen_line, chosen_lines, chosen_past, is_about, is_located, is_typed, line_in}
+use Rattle.itch_commands.specs.Choices.{Chosen, chosen_after, chosen_lines, chosen_past, is_about, is_located, is_typed, line_in}
 use Rattle.itch_commands.specs.Cuts.{is_of_stocks, kept_of, stock_of}
 use Rattle.itch_commands.specs.Sought.{is_sought}
 use Rattle.itch_commands.specs.Starts.{before_range, is_begun, start_after}

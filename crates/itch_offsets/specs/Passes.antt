@@ -29,9 +29,13 @@ unfoldable pub entries : List (List ℕ) → List (List ℕ)
 entries [] = []
 entries (payload ∷ payloads) = if is_entry payload then payload ∷ entries payloads else entries payloads
 
+-- the block of a payload, if it is that of a Stock Directory message
+abbrev pub kept_block : List ℕ → List ℕ
+kept_block payload = if is_entry payload then block payload else []
+
 -- a message passes: the block of a Stock Directory message is kept
 abbrev pub TakesEntry : List ℕ → ℕ → List ℕ → List ℕ → Type 0
-TakesEntry old number payload new = IsClean payload × (new ≡ old ++ (if is_entry payload then block payload else []))
+TakesEntry old number payload new = IsClean payload × (new ≡ old ++ kept_block payload)
 
 -- a payload does not pass: it is not valid, or memory runs out
 abbrev pub RefusesEntry : List ℕ → ℕ → List ℕ → ToolFault → List ℕ → Type 0

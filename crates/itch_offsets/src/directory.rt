@@ -1,8 +1,11 @@
 //! The Stock Directory messages of a day.
 ghost use Rattle.std.specs.Prelude.{◌≡◌, ◌<◌, ◌++◌, ℕ, List, [], length, OnOk};
+ghost use Rattle.itch_codec.specs.Messages.{message_of};
+ghost use Rattle.itch_commands.specs.Showing.{IsClean};
 ghost use Rattle.itch_commands.specs.declared.fault.Source.TheVariants.{Only};
 ghost use Rattle.itch_commands.specs.declared.fault.ToolFault.TheVariants.{Stopped};
 ghost use Rattle.itch_frame.specs.Blocks.{Blocks, block};
+ghost use Rattle.itch_offsets.specs.Passes.{kept_block};
 ghost use Rattle.itch_offsets.specs.Rows.{directory_line, directory_lines};
 
 use itch_codec::{CodecFault, Message};
@@ -95,6 +98,18 @@ impl<A: Allocator> DirectoryBlocks<A> {
         self.blocks.clear();
     }
 
+    // Keeps the block of a message if it is a Stock Directory message.
+    fn keep(&mut self, payload: &[u8], message: &Message<'_>) -> Result<(), AllocError>
+        requires clean { IsClean payload.now }
+        requires message { message.now ≡ message_of payload.now }
+        ensures { OnOk result (self.new ≡ self.old ++ kept_block payload.now) }
+    {
+        match message {
+            Message::StockDirectory(_) => self.push(payload),
+            _ => Ok(()),
+        }
+    }
+
     // Appends the block of a payload.
     fn push(&mut self, payload: &[u8]) -> Result<(), AllocError>
         requires { length payload.now < 65536 }
@@ -125,8 +140,7 @@ impl<A: Allocator> Sink for DirectoryBlocks<A> {
         message: &Result<Message<'_>, CodecFault>,
     ) -> Result<(), ToolFault> {
         match message {
-            Ok(Message::StockDirectory(_)) => Ok(self.push(payload)?),
-            Ok(_) => Ok(()),
+            Ok(message) => Ok(self.keep(payload, message)?),
             Err(fault) => Err(stopped(number - 1, Stop::Codec(*fault))),
         }
     }

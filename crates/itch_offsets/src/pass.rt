@@ -1,5 +1,5 @@
 //! Reads a day file from row to row.
-ghost use Rattle.std.specs.Prelude.{◌≡◌};
+ghost use Rattle.std.specs.Prelude.{◌≡◌, ◌≤◌, ◌-◌, ◌^◌};
 ghost use Rattle.itch_offsets.specs.Passes.{row_answer, row_part};
 
 use crate::directory::{DirectoryBlocks, stopped};
@@ -21,7 +21,7 @@ pub struct IndexPass<R: CountedRead, A: Allocator, B: Allocator> {
 }
 
 impl<R: CountedRead, A: Allocator, B: Allocator> IndexPass<R, A, B> {
-    ghost use Rattle.std.specs.Prelude.{◌≡◌, ◌≤◌, ◌-◌, ◌^◌, []};
+    ghost use Rattle.std.specs.Prelude.{◌≡◌, []};
     ghost use Rattle.itch_day.specs.Marks.{first_mark};
     ghost use Rattle.itch_offsets.specs.Passes.{ReadsRow};
 

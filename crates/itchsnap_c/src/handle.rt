@@ -145,6 +145,31 @@ impl Handle {
         self.put(object);
         answer
     }
+
+    /// Does the same for a look-up by price, for which it prepares the market's book first.
+    pub(crate) fn look_up_by_price<R: Drop, F: FnOnce(&Market<HandleBook>) -> R>(
+        &mut self,
+        alloc: Global,
+        wrong: R,
+        call: F,
+    ) -> R
+        requires { F.IsAlwaysCallable call }
+        ensures answer { MatchOption (held_market self.old.kept.object) (result ≡ wrong) (λ market. FnOnceReturnsAt F.FnOnce call market result) }
+        ensures same { self.new.kept.object ≡ self.old.kept.object }
+    {
+        self.settle(alloc);
+        self.look_up(alloc, wrong, call)
+    }
+
+    // Prepares the market's book for look-ups by price, if there is one. Nothing changes.
+    fn settle(&mut self, alloc: Global)
+        ensures { self.new.kept.object ≡ self.old.kept.object }
+    {
+        if let Some(mut object) = self.take(alloc) {
+            object.settle();
+            self.put(object);
+        }
+    }
 }
 
 /// Frees the object in a handle, if there is one. The handle is then empty.

@@ -48,7 +48,7 @@ pub extern "C" fn itchsnap_orders(
     ensures listed { Lists (orders_at locate) (held_market handle.old.kept.object) out.old result out.new }
     ensures same { handle.new.kept.object ≡ handle.old.kept.object }
 {
-    let items = handle.look_up(alloc, Err(WRONG_HANDLE), |market| {
+    let items = handle.look_up_by_price(alloc, Err(WRONG_HANDLE), |market| {
         orders_at(alloc, market, locate)
     });
     put(&items, out)
@@ -66,7 +66,7 @@ pub extern "C" fn itchsnap_levels(
     ensures listed { Lists (levels_at locate buy) (held_market handle.old.kept.object) out.old result out.new }
     ensures same { handle.new.kept.object ≡ handle.old.kept.object }
 {
-    let items = handle.look_up(alloc, Err(WRONG_HANDLE), |market| {
+    let items = handle.look_up_by_price(alloc, Err(WRONG_HANDLE), |market| {
         levels_at(alloc, market, locate, buy)
     });
     put(&items, out)

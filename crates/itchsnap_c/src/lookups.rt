@@ -22,7 +22,7 @@ pub extern "C" fn itchsnap_best(
     ensures best { result ≡ best_in (held_market handle.old.kept.object) locate buy }
     ensures same { handle.new.kept.object ≡ handle.old.kept.object }
 {
-    handle.look_up(alloc, no_order(WRONG_HANDLE), |market| {
+    handle.look_up_by_price(alloc, no_order(WRONG_HANDLE), |market| {
         order_answer(market.best(locate, side_of(buy)))
     })
 }
@@ -50,7 +50,7 @@ pub extern "C" fn itchsnap_level(
     ensures level { result ≡ level_in (held_market handle.old.kept.object) locate buy price }
     ensures same { handle.new.kept.object ≡ handle.old.kept.object }
 {
-    handle.look_up(alloc, NO_LEVEL, |market| {
+    handle.look_up_by_price(alloc, NO_LEVEL, |market| {
         level_answer(market.book().level_total(locate, side_of(buy), price))
     })
 }
@@ -69,7 +69,7 @@ pub extern "C" fn itchsnap_next_price(
     ensures same { handle.new.kept.object ≡ handle.old.kept.object }
 {
     let last = if after { Some(last) } else { None };
-    handle.look_up(alloc, no_price(WRONG_HANDLE), |market| {
+    handle.look_up_by_price(alloc, no_price(WRONG_HANDLE), |market| {
         price_answer(market.book().next_price(locate, side_of(buy), last))
     })
 }

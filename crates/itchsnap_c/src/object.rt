@@ -4,14 +4,15 @@ ghost use Rattle.std.specs.Fn.{FnOnceReturnsAtMut};
 ghost use Rattle.std.specs.Option.{option_copied};
 ghost use Rattle.itchsnap_c.specs.Objects.{AtJoiner, AtClient, AtServer, market_of};
 
-use itch_book::IndexedBook;
+use itch_adaptive::AdaptiveBook;
+use itch_book::{IndexedBook, SettledBook};
 use itch_join::Joiner;
 use itch_market::Market;
 use itch_soup::{ClientSession, ServerSession};
 use std::alloc::Global;
 
 /// The type of book in which every market of a handle keeps its orders.
-pub(crate) type HandleBook = IndexedBook<Global>;
+pub(crate) type HandleBook = AdaptiveBook<SettledBook<Global>, IndexedBook<Global>>;
 
 /// The object in a handle.
 #[derive(Drop)]
@@ -31,6 +32,17 @@ impl Object {
             Object::Market(market) => Some(market),
             Object::Joiner(joiner) => joiner.market(),
             Object::Client(_) | Object::Server(_) => None,
+        }
+    }
+
+    /// Prepares the book of that market for look-ups by price. Nothing changes.
+    pub(crate) fn settle(&mut self)
+        ensures { self.new ≡ self.old }
+    {
+        match self {
+            Object::Market(market) => market.settle(),
+            Object::Joiner(joiner) => joiner.settle_market(),
+            Object::Client(_) | Object::Server(_) => {}
         }
     }
 

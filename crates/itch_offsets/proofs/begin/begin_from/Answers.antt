@@ -1,6 +1,6 @@
-use Rattle.std.proofs.Common.{◌≡◌, ◌+◌, ◌∷◌, drop, get_or, refl, sym, ap, ◌∙◌}
+use Rattle.std.proofs.Common.{◌+◌, drop, get_or, refl, sym, ap, ◌∙◌}
 use Rattle.std.proofs.lemmas.List.{drop_more, drop_all}
-use Rattle.itch_offsets.specs.Beginnings.{begin_after, better}
+use Rattle.itch_offsets.specs.Beginnings.{begin_after}
 use Rattle.itch_offsets.proofs.Beginnings.{no_more, one_more}
 use Rattle.itch_offsets.proofs.begin.begin_from.Goals as goal
 

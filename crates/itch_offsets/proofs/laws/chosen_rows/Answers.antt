@@ -1,6 +1,5 @@
 use Rattle.std.proofs.Common.{None}
 use Rattle.itch_day.proofs.Marks.{in_part}
-use Rattle.itch_day.specs.Limits.{IsEarly}
 use Rattle.itch_day.specs.Marks.{is_before, is_in, is_within}
 use Rattle.itch_commands.specs.Starts.{is_beyond}
 use Rattle.itch_offsets.proofs.Beginnings.{and_first, and_second, begins, most}
