@@ -1,6 +1,5 @@
 -- The lines that `book --changes` has written of a part of a day.
-use Rattle.std.proofs.Common.{Bool, true, ◌≡◌, ℕ, ◌+◌, ◌-◌, ◌^◌, ◌≤◌, ◌<◌, List, [], ◌∷◌, ◌++◌, length, map, take, Option, Result, Ok, Err, None, Some, refl, sym, ap, ap₂, subst, ◌∙◌, arith, length-append, append_assoc, append-nil}
-use Rattle.std.specs.List.{AllByRecursion}
+use Rattle.std.proofs.Common.{Bool, ◌≡◌, ℕ, ◌+◌, ◌-◌, ◌^◌, ◌≤◌, ◌<◌, List, [], ◌∷◌, ◌++◌, length, map, take, Option, Result, Ok, Err, None, Some, refl, sym, ap, ap₂, subst, ◌∙◌, arith, length-append, append_assoc, append-nil}
 use Rattle.std.specs.Io.KnownBytes.{Appends, Consumes}
 use Rattle.std.specs.declared.io.Error.{Error}
 use Rattle.std.proofs.KnownBytes.{Appends-nil}
@@ -32,7 +31,7 @@ use Rattle.itch_market.specs.DayParts.{TakesEarly}
 use Rattle.itch_market.specs.Effects.{effect}
 use Rattle.itch_market.specs.GoodMarkets.{IsGood}
 use Rattle.itch_market.specs.Replays.{LeavesReaderFirst}
-use Rattle.itch_market.specs.Runs.{after, run}
+use Rattle.itch_market.specs.Runs.{run}
 use Rattle.itch_market.specs.Takings.{RefusesMessage, TakesMessage, reason_of}
 use Rattle.itch_market.specs.declared.refused.Refused.{Refused}
 use Rattle.itch_market.specs.declared.refused.Refused.TheVariants as refused
@@ -52,7 +51,7 @@ use Rattle.itch_commands.specs.declared.fault.ToolFault.TheVariants as tool
 use Rattle.itch_commands.proofs.FirstDifferences.{stopped_count}
 use Rattle.itch_commands.proofs.ReadParts.{all_by, refused_by, taken_by, whole_by}
 use Rattle.itch_depth.specs.Changes.{Sides, change, change_at, change_past, changes_of_day, followed}
-use Rattle.itch_depth.specs.Following.{FollowsAll, FollowsMessage, FollowsPart, IsFollowing, LeavesMessage, answer_of, ended, found_by, lack_of}
+use Rattle.itch_depth.specs.Following.{FollowsMessage, FollowsPart, IsFollowing, LeavesMessage, answer_of, ended, found_by, lack_of}
 use Rattle.itch_depth.specs.declared.changes.book.Unfollowed.{Unfollowed}
 use Rattle.itch_depth.specs.declared.changes.book.Unfollowed.TheVariants as unfollowed
 use Rattle.itch_depth.specs.declared.changes.request.ChangesRequest.{ChangesRequest}

@@ -1,5 +1,5 @@
 -- The lines of the changes of a stock, message by message.
-use Rattle.std.proofs.Common.{◌≡◌, ℕ, zero, suc, ◌+◌, Bool, List, [], ◌∷◌, ◌++◌, length, map, take, slice_get, flat_map, Option, None, Some, refl, sym, ap, ap₂, ◌∙◌, arith, if◌then◌else◌, length-append, append_assoc}
+use Rattle.std.proofs.Common.{◌≡◌, ℕ, zero, suc, ◌+◌, List, [], ◌∷◌, ◌++◌, length, map, take, slice_get, flat_map, Option, None, Some, refl, sym, ap, ap₂, ◌∙◌, arith, if◌then◌else◌, length-append, append_assoc}
 use Rattle.std.specs.FinMap as finite
 use Rattle.std.specs.List.{range_with_len}
 use Rattle.std.proofs.lemmas.List.{length-map, map-append}

@@ -1,8 +1,7 @@
 -- The lines of one message, once the market took it.
-use Rattle.std.proofs.Common.{◌≡◌, ℕ, Bool, true, false, not, List, [], Option, None, Some, option_map, Result, Ok, Err, MatchResult, if◌then◌else◌, refl, sym, ap, ◌∙◌, subst}
+use Rattle.std.proofs.Common.{◌≡◌, ℕ, Bool, true, false, not, List, [], Option, None, option_map, Result, Ok, Err, MatchResult, if◌then◌else◌, refl, sym, ap, ◌∙◌, subst}
 use Rattle.std.proofs.KnownBytes.{Appends-nil}
 use Rattle.itch_codec.specs.Headers.{time_of}
-use Rattle.itch_codec.specs.Messages.{fault, message_of}
 use Rattle.itch_codec.specs.Widths.{IsMessage}
 use Rattle.itch_codec.specs.declared.message.Message.{Message}
 use Rattle.itch_day.specs.Sinks.{Decodes, OffersPayload}

@@ -1,5 +1,5 @@
 -- The first locate that has a stock, and its best prices, from the market of the stock alone.
-use Rattle.std.proofs.Common.{T, ◌&&◌, is_lt, nat_cmp, Ordering, ◌≡◌, ℕ, ◌==◌, Bool, true, false, cond, not, List, [], ◌∷◌, ◌++◌, map, find, Option, None, Some, is_some, option_map, refl, sym, ap, ap₂, ◌∙◌, subst, arith}
+use Rattle.std.proofs.Common.{T, ◌&&◌, is_lt, nat_cmp, ◌≡◌, ℕ, ◌==◌, Bool, true, false, cond, List, [], ◌∷◌, map, find, Option, None, Some, is_some, option_map, refl, sym, ap, ap₂, ◌∙◌, subst, arith}
 use Rattle.std.specs.List.{filter}
 use Rattle.std.specs.FinMap as finite
 use Rattle.std.specs.FinMap.{nat_cmp-IsAntisymmetric}
@@ -17,8 +17,8 @@ use Rattle.itch_market.specs.Content.{Content, Listing, Securities}
 use Rattle.itch_market.proofs.Maps.{same_map}
 use Rattle.itch_market.proofs.Trees.{same_entries_of}
 use Rattle.itch_market.proofs.Partials.{get_cut}
-use Rattle.itch_depth.specs.Changes.{Sides, best, best_at, best_of, followed, is_stock, levels, nothing}
-use Rattle.itch_depth.specs.Following.{IsOwn, own_stock, stock_at}
+use Rattle.itch_depth.specs.Changes.{Sides, best, best_at, followed, is_stock, levels}
+use Rattle.itch_depth.specs.Following.{IsOwn, own_stock}
 use Rattle.itch_depth.specs.declared.changes.request.OneStock.{OneStock}
 
 -- ---- keys

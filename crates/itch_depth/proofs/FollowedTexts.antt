@@ -1,5 +1,5 @@
 -- The lines of the followed stock, from the market of the stock.
-use Rattle.std.proofs.Common.{◌≡◌, ℕ, List, [], Option, None, Some, option_map, refl, sym, ap, ◌∙◌}
+use Rattle.std.proofs.Common.{◌≡◌, ℕ, [], Option, None, Some, option_map, refl, sym, ap, ◌∙◌}
 use Rattle.std.specs.FinMap as finite
 use Rattle.itch_codec.specs.Text.{before_spaces}
 use Rattle.itch_book.proofs.Lists.{found_passes}

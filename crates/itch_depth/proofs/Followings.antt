@@ -1,5 +1,5 @@
 -- The best prices of a stock after a message, from those before it.
-use Rattle.std.proofs.Common.{◌≡◌, ◌≢◌, ℕ, ◌==◌, Bool, true, false, not, ◌&&◌, List, [], ◌∷◌, ◌++◌, Option, Some, None, is_some, option_map, length, map, nat_cmp, Result, Ok, Err, is_err, IfOk, IfSome, OnOk, MatchOption, refl, sym, ap, ap₂, ◌∙◌, subst, arith}
+use Rattle.std.proofs.Common.{◌≡◌, ℕ, ◌==◌, Bool, true, false, not, List, [], ◌∷◌, Option, Some, None, is_some, option_map, length, map, nat_cmp, Result, Ok, Err, is_err, IfOk, IfSome, OnOk, MatchOption, refl, sym, ap, ap₂, ◌∙◌, subst, arith}
 use Rattle.std.specs.FinMap as finite
 use Rattle.std.specs.List.{list_any}
 use Rattle.std.specs.Ordering.{eq_by_cmp}
@@ -10,8 +10,7 @@ use Rattle.itch_codec.specs.declared.stocks.StockDirectory.{StockDirectory}
 use Rattle.itch_codec.specs.declared.orders.Side.{Side}
 use Rattle.itch_codec.specs.declared.orders.Side.TheVariants.{Buy, Sell}
 use Rattle.itch_book.specs.declared.order.Order.{Order}
-use Rattle.itch_book.specs.Orders as book
-use Rattle.itch_book.specs.Orders.{IsBook, is_of, queue}
+use Rattle.itch_book.specs.Orders.{IsBook, is_of}
 use Rattle.itch_book.proofs.BookLemmas.{IsBook-lay}
 use Rattle.itch_market.specs.Content.{Content, Listing, empty, laid}
 use Rattle.itch_market.specs.Reasons.{reason}
@@ -23,7 +22,6 @@ use Rattle.itch_depth.specs.ChangedPrices.{AreSameElsewhere}
 use Rattle.itch_depth.specs.Following.{FollowsOne, IsFollowing, IsOwn, PassesOne, Renews, own_stock, stock_at}
 use Rattle.itch_depth.specs.declared.changes.changed_price.ChangedPrice.{ChangedPrice}
 use Rattle.itch_depth.specs.declared.changes.request.ChangesRequest.{ChangesRequest}
-use Rattle.itch_depth.specs.declared.changes.request.OneStock.{OneStock}
 use Rattle.itch_depth.specs.declared.changes.book.Unfollowed.{Unfollowed}
 use Rattle.itch_depth.proofs.BetterPrices.{same_levels_again, same_queue}
 use Rattle.itch_depth.proofs.FollowedStocks.{best_own, first_of, followed_own, same_keys}

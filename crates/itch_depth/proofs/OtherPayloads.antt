@@ -1,5 +1,5 @@
 -- A payload whose locate has another stock.
-use Rattle.std.proofs.Common.{◌≡◌, ℕ, ◌+◌, ◌*◌, ◌≤◌, ◌==◌, ◌||◌, Bool, true, false, not, List, [], ◌∷◌, length, Option, None, Some, is_some, if◌then◌else◌, refl, sym, ap, ◌∙◌, subst, arith}
+use Rattle.std.proofs.Common.{◌≡◌, ℕ, ◌+◌, ◌*◌, ◌≤◌, ◌==◌, ◌||◌, Bool, true, false, not, List, [], ◌∷◌, length, Option, None, is_some, if◌then◌else◌, refl, sym, ap, ◌∙◌, subst, arith}
 use Rattle.std.specs.FinMap as finite
 use Rattle.std.proofs.lemmas.Bool.Decides.{nat_tests}
 use Rattle.itch_codec.specs.Headers.{time_of}
@@ -12,7 +12,6 @@ use Rattle.itch_codec.proofs.Spelling.{Spells-message_of}
 use Rattle.itch_market.specs.Content.{Content, laid}
 use Rattle.itch_market.specs.Effects.{effect}
 use Rattle.itch_market.specs.GoodMarkets.{IsGood}
-use Rattle.itch_market.specs.Replays.{TakesOne}
 use Rattle.itch_market.specs.Takings.{TakesMessage}
 use Rattle.itch_market.proofs.Causes.{no_fault, no_reason}
 use Rattle.itch_depth.specs.Changes.{Sides, best, change, lines_of, same_sides, time_or_midnight}

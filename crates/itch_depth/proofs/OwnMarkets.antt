@@ -1,5 +1,5 @@
 -- The market of one stock after each message that a market takes.
-use Rattle.std.proofs.Common.{◌≡◌, ℕ, ◌==◌, eqb, Bool, true, false, cond, not, List, [], ◌∷◌, ◌++◌, bytes_eq, find, Option, None, Some, IsSome, is_some, option_map, refl, sym, ap, ap₂, ◌∙◌, subst, arith}
+use Rattle.std.proofs.Common.{◌≡◌, ℕ, ◌==◌, eqb, Bool, true, false, cond, not, List, [], ◌∷◌, bytes_eq, Option, None, Some, IsSome, is_some, option_map, refl, sym, ap, ap₂, ◌∙◌, subst, arith}
 use Rattle.std.specs.List.{filter, AllByRecursion}
 use Rattle.std.specs.FinMap as finite
 use Rattle.std.proofs.lemmas.Bool.Decides.{nat_tests}
@@ -12,15 +12,15 @@ use Rattle.itch_codec.specs.declared.stocks.Directory.{Directory}
 use Rattle.itch_codec.specs.declared.stocks.StockDirectory.{StockDirectory}
 use Rattle.itch_book.specs.declared.order.Order.{Order}
 use Rattle.itch_book.specs.Orders as book
-use Rattle.itch_book.proofs.Lists.{All-found_rec, All-weaker_rec, by_test, filter_within}
+use Rattle.itch_book.proofs.Lists.{All-found_rec, All-weaker_rec, filter_within}
 use Rattle.itch_book.proofs.BookLemmas.{lay-filter}
 use Rattle.itch_market.specs.declared.refusal.Refusal.{Refusal}
 use Rattle.itch_market.specs.declared.refusal.Refusal.TheVariants.{LocateMismatch, StockMismatch}
-use Rattle.itch_market.specs.Content.{Content, Listing, Securities, laid}
+use Rattle.itch_market.specs.Content.{Content, Listing, laid}
 use Rattle.itch_market.specs.Effects.{action_of, changed, changed_at, effect, entered, order_of, position_of, with_action, with_halt, with_position, with_sho}
 use Rattle.itch_market.specs.GoodMarkets.{IsGood, IsListed}
 use Rattle.itch_market.specs.Partial.{is_out, locate_of, only, skips}
-use Rattle.itch_market.specs.Reasons.{directory_reason, order_reason, reason, refuse, security_reason}
+use Rattle.itch_market.specs.Reasons.{directory_reason, order_reason, reason, security_reason}
 use Rattle.itch_market.proofs.AllowedMessages.{passed}
 use Rattle.itch_market.proofs.Maps.{get-insert}
 use Rattle.itch_market.proofs.Partials.{IsKept, kept_message}

@@ -1,9 +1,8 @@
 -- The best prices of one stock, and their lines after each message that changes them.
-use Rattle.std.specs.Prelude.{ℕ, zero, suc, ◌+◌, ◌-◌, ◌==◌, ◌&&◌, Bool, true, false, if◌then◌else◌, List, [], ◌∷◌, ◌++◌, codes, decimal, length, map, take, slice_get, find, Option, None, Some, Result, Ok, Err, bytes_eq}
+use Rattle.std.specs.Prelude.{ℕ, ◌+◌, ◌==◌, ◌&&◌, Bool, true, false, if◌then◌else◌, List, [], ◌∷◌, ◌++◌, codes, decimal, length, map, take, slice_get, find, Option, None, Some}
 use Rattle.std.specs.List.{filter, flat_map, range_with_len, sum_by}
 use Rattle.std.specs.FinMap as finite
 use Rattle.itch_codec.specs.Clock.{clock}
-use Rattle.itch_codec.specs.Fields.{side_byte}
 use Rattle.itch_codec.specs.Headers.{time_of}
 use Rattle.itch_codec.specs.Lines.{price_text}
 use Rattle.itch_codec.specs.Messages.{message_of}

@@ -17,7 +17,7 @@ use Rattle.itch_day.specs.declared.stop.Stop.TheVariants as part
 use Rattle.itch_frame.specs.Blocks.{blocks}
 use Rattle.itch_frame.specs.Reading.{Reading, bytes_left}
 use Rattle.itch_frame.specs.declared.tally.Failures.{Failures}
-use Rattle.itch_market.specs.Content.{Content, Listing, empty, laid}
+use Rattle.itch_market.specs.Content.{Content, Listing, laid}
 use Rattle.itch_market.specs.DayMessages.{AreTaken}
 use Rattle.itch_market.specs.Effects.{effect, takes_memory}
 use Rattle.itch_market.specs.Reasons.{reason}

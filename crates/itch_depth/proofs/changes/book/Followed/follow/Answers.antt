@@ -1,11 +1,9 @@
 use Rattle.std.proofs.Common.{◌≡◌, None, Some, Ok, false, true, not, is_err, refl, sym, ap, subst, ◌∙◌}
 use Rattle.std.specs.FinMap as finite
-use Rattle.itch_book.specs.Orders.{lay}
-use Rattle.itch_codec.specs.declared.message.Message.TheVariants as is
 use Rattle.itch_market.specs.Content.{Content, laid}
 use Rattle.itch_market.specs.Effects.{effect}
 use Rattle.itch_market.specs.Reasons.{reason}
-use Rattle.itch_depth.specs.Changes.{best, best_at, followed, same_sides}
+use Rattle.itch_depth.specs.Changes.{best, best_at, same_sides}
 use Rattle.itch_depth.specs.ChangedPrices.{AreSameElsewhere, changed_price}
 use Rattle.itch_depth.specs.Following.{FollowsOne, IsFollowing, IsOwn, Renews, concerns}
 use Rattle.itch_depth.proofs.ChangedOrders.{DifferAt, orders_differ}

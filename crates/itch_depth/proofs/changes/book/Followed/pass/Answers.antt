@@ -1,4 +1,4 @@
-use Rattle.std.proofs.Common.{◌≡◌, None, Ok, is_err, refl, sym, ap, subst, ◌∙◌}
+use Rattle.std.proofs.Common.{◌≡◌, None, is_err, sym, ap, subst}
 use Rattle.itch_market.specs.Content.{laid}
 use Rattle.itch_market.specs.Effects.{effect}
 use Rattle.itch_market.specs.Reasons.{reason}

@@ -1,7 +1,6 @@
-use Rattle.std.proofs.Common.{◌≡◌, List, ℕ, Option, None, Some, sym, ap, subst, ◌∙◌}
+use Rattle.std.proofs.Common.{◌≡◌, None, sym, ap, ◌∙◌}
 use Rattle.std.specs.Option.{option_copied}
 use Rattle.std.specs.FinMap as finite
-use Rattle.itch_market.specs.Content.{Listing}
 use Rattle.itch_depth.specs.Changes.{lines_of, listed_lines}
 use Rattle.itch_depth.proofs.FollowedMessages.{writes_none}
 use Rattle.itch_depth.proofs.FollowedTexts.{own_lines}

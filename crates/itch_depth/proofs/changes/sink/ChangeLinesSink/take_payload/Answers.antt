@@ -1,4 +1,4 @@
-use Rattle.std.proofs.Common.{◌≡◌, true, false, refl, sym, subst, ◌∙◌}
+use Rattle.std.proofs.Common.{◌≡◌, false, refl, sym, subst, ◌∙◌}
 use Rattle.itch_codec.specs.Messages.{message_of}
 use Rattle.itch_day.specs.Sinks.{OffersPayload}
 use Rattle.itch_market.specs.Takings.{TakesMessage}
