@@ -117,9 +117,9 @@ fn a_response_has_its_head(rt: HostRuntime) -> TestResult {
 }
 
 // Requests, and the answer to each.
-const REQUESTS: [(&[u8], Answer); 11] = [
-    (b"", Answer::More),
-    (b"GET /metrics HTTP/1.1\r\nHost: a\r\n", Answer::More),
+const REQUESTS: [(&[u8], StatusAnswer); 11] = [
+    (b"", StatusAnswer::More),
+    (b"GET /metrics HTTP/1.1\r\nHost: a\r\n", StatusAnswer::More),
     (b"GET /metrics?a=b HTTP/1.1\r\nHost: a\r\n\r\nrest", PAGE),
     (b"GET http://a:80/metrics?a=b HTTP/1.1\r\n\r\n", PAGE),
     (b"GET HTTP://[::1]/metrics HTTP/1.1\r\n\r\n", PAGE),
