@@ -224,7 +224,7 @@ pub(super) fn check_turns<B: OrderBook, C: OrderBook>(
     every: u32,
 ) -> Result<(), AllocError> {
     let mut random = Random { state: 1 };
-    for number in 0..10000u32 {
+    for number in 0..2000u32 {
         call(rt, &mut random, one, other)?;
         if number.checked_rem(every) == Some(0) {
             other.settle();
