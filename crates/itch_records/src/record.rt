@@ -8,6 +8,7 @@ use crate::step::record_fault;
 use crate::watch::{Change, Seen, change_of};
 use itch_codec::Alpha;
 use itch_day::Mark;
+use itch_frame::Buffered;
 use itch_frame::tally::Failures;
 use itch_sessions::SessionFault;
 use itch_sessions::log::Log;
@@ -144,7 +145,7 @@ impl Record {
         &self,
         rt: &R,
         mark: Mark,
-    ) -> Result<Option<Replay>, LiveFault> {
+    ) -> Result<Option<Replay<Buffered<File>>>, LiveFault> {
         match &self.kept {
             Some(kept) if kept.opened.length > 0 => {
                 let file = open_again(rt, kept.path.as_str())?;

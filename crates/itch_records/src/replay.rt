@@ -1,13 +1,14 @@
 //! Replays the messages of a record in parts, before more are added.
-ghost use Rattle.std.specs.Prelude.{◌≡◌};
+ghost use Rattle.std.specs.Prelude.{◌≡◌, IfOk};
 ghost use Rattle.itch_records.specs.Readiness.{next_stop};
+ghost use Rattle.itch_records.specs.Replays.{IsRead, Replays};
 
 use crate::fault::{LiveFault, RecordFault};
 use crate::step::stop_of;
 use itch_book::OrderBook;
 use itch_codec::{CodecFault, MOST_MESSAGES, Message};
-use itch_day::{Limit, Mark, Sink, Stop as DayStop, read_part};
-use itch_frame::{BlockReader, Buffered, FrameFault};
+use itch_day::{Limit, Mark, Marked, Sink, Stop as DayStop, read_part};
+use itch_frame::{BlockReader, Buffered, CountedRead, FrameFault};
 use itch_join::{JoinFault, Live};
 use itch_live::Follower;
 use itch_market::{Refusal, ReplayEnd, Stop};
@@ -35,21 +36,22 @@ pub fn next_stop(every: u64, count: u64) -> u64
     }
 }
 
-// A follower of a feed that takes the messages of a record, or stops the replay with a reason; and the mark after these messages.
+// A follower of a feed that takes the messages of a record, or stops the replay with a reason.
 #[derive(Drop)]
 struct Recorded<'x, B: OrderBook> {
     follower: &'x mut Follower<B>,
-    mark: Mark,
 }
 
 impl<'x, B: OrderBook> Sink for Recorded<'x, B> {
     ghost use Rattle.std.specs.Prelude.{◌≡◌};
+    ghost use Rattle.itch_records.specs.Replays.{TakesRecorded};
 
     type Fault = Stop;
 
     ghost is_ready = { λ _ _. Unit {0} };
 
-    ghost takes = { λ s number payload t. t.follower.ghost_name ≡ s.follower.ghost_name };
+    ghost takes = { λ s number payload t. (t.follower.ghost_name ≡ s.follower.ghost_name)
+        × TakesRecorded s.follower.now number payload t.follower.now };
 
     ghost refuses = { λ s number payload why t. t.follower.ghost_name ≡ s.follower.ghost_name };
 
@@ -60,63 +62,34 @@ impl<'x, B: OrderBook> Sink for Recorded<'x, B> {
         message: &Result<Message<'_>, CodecFault>,
     ) -> Result<(), Stop> {
         match self.follower.replay(number, payload, message) {
-            Ok(Live::Applied { .. }) => {
-                self.mark = mark_after(self.mark, number, payload, message);
-                Ok(())
-            }
+            Ok(Live::Applied { .. }) => Ok(()),
             Err(JoinFault::Halted { cause, .. }) => Err(stop_of(cause)),
             Err(JoinFault::OutOfMemory { .. }) => Err(Stop::Rule(Refusal::OutOfMemory)),
             _ => Err(Stop::TooManyMessages),
         }
-    }
-
-    fn take_payload(&mut self, number: u64, payload: &[u8]) -> bool {
-        let _number = number;
-        let _payload = payload;
-        false
-    }
-
-    fn look_ahead(&mut self, blocks: &[u8]) -> u64 {
-        let _blocks = blocks;
-        u64::MAX
-    }
-}
-
-// Returns the mark after the message with this number, which follows the messages of a mark.
-fn mark_after(
-    mark: Mark,
-    number: u64,
-    payload: &[u8],
-    message: &Result<Message<'_>, CodecFault>,
-) -> Mark {
-    let time = match message {
-        Ok(message) => message.time(),
-        Err(_fault) => None,
-    };
-    let size = (payload.len() as u64).saturating_add(2);
-    Mark {
-        count: number,
-        offset: mark.offset.saturating_add(size),
-        latest: mark.latest.max(time),
     }
 }
 
 /// The messages of a record that were not replayed yet: those that `check` counts, up to the end of the file, a block of length 0 or an
 /// incomplete block.
 #[derive(Drop)]
-pub struct Replay {
-    blocks: BlockReader<Buffered<File>, Global>,
+pub struct Replay<S: CountedRead + Drop> {
+    blocks: BlockReader<S, Global>,
     // The messages that were replayed.
     mark: Mark,
 }
 
-impl Replay {
+impl Replay<Buffered<File>> {
     /// Creates a replay of a record, starting after the messages of a mark.
     ///
     /// # Errors
     ///
     /// A [`LiveFault`] if the file cannot be read or memory is refused.
-    pub fn after(alloc: Global, file: File, mark: Mark) -> Result<Replay, LiveFault> {
+    pub fn after(
+        alloc: Global,
+        file: File,
+        mark: Mark,
+    ) -> Result<Replay<Buffered<File>>, LiveFault> {
         let mut file = file;
         if let Err(error) = file.seek(SeekFrom::Start(mark.offset)) {
             return Err(LiveFault::Session(SessionFault::of_system(
@@ -132,13 +105,18 @@ impl Replay {
             mark,
         })
     }
+}
 
+impl<S: CountedRead + Drop> Replay<S> {
     /// Returns the mark of the messages replayed so far: their number, the size of their blocks in bytes, and the latest timestamp.
-    pub fn mark(&self) -> Mark {
+    pub fn mark(&self) -> Mark
+        ensures { result ≡ self.now.mark }
+    {
         self.mark
     }
 
-    /// Continues the replay up to message `most` of the record, and returns whether more may follow.
+    /// Continues the replay up to message `most` of the record, and returns whether more may follow. The follower has applied each message
+    /// of the record up to there, in order and once.
     ///
     /// # Errors
     ///
@@ -147,27 +125,34 @@ impl Replay {
         &mut self,
         follower: &mut Follower<B>,
         most: u64,
-    ) -> Result<bool, LiveFault> {
+    ) -> Result<bool, LiveFault>
+        ensures { IfOk result (λ _. Replays S.remaining self.old.blocks self.new.blocks self.old.mark self.new.mark follower.old follower.new) }
+    {
         let mut count = self.mark.count;
         if count > MOST_MESSAGES {
             return Err(refused(count, Stop::TooManyMessages));
         }
-        let mut recorded = Recorded {
-            follower,
+        let mut recorded = Marked {
+            sink: Recorded { follower },
             mark: self.mark,
         };
         let limit = Limit::counted(Some(most));
         let stop = read_part(&mut self.blocks, &mut count, &mut recorded, limit);
         self.mark = recorded.mark;
-        match stop {
-            DayStop::Full => Ok(true),
-            DayStop::Late | DayStop::End | DayStop::Frame(FrameFault::Truncated { .. }) => {
-                Ok(false)
-            }
-            DayStop::Frame(fault) => Err(refused(count, Stop::Frame(fault))),
-            DayStop::TooMany => Err(refused(count, Stop::TooManyMessages)),
-            DayStop::Refused(stop) => Err(refused(count, stop)),
-        }
+        is_more(stop, count)
+    }
+}
+
+// Returns whether more may follow after a part of a record, or the fault at which the part of `count` messages stopped.
+fn is_more(stop: DayStop<Stop>, count: u64) -> Result<bool, LiveFault>
+    ensures { IfOk result (λ _. IsRead stop) }
+{
+    match stop {
+        DayStop::Full => Ok(true),
+        DayStop::Late | DayStop::End | DayStop::Frame(FrameFault::Truncated { .. }) => Ok(false),
+        DayStop::Frame(fault) => Err(refused(count, Stop::Frame(fault))),
+        DayStop::TooMany => Err(refused(count, Stop::TooManyMessages)),
+        DayStop::Refused(stop) => Err(refused(count, stop)),
     }
 }
 

@@ -1,11 +1,15 @@
 //! Where a live server begins: before the first message, or with the newest snapshot in its folder that fits the record.
+ghost use Rattle.std.specs.Prelude.{◌≡◌, ℕ, None, Some, true};
+ghost use Rattle.itch_market.specs.Content.{empty};
+ghost use Rattle.itch_market.specs.Wanted.{has};
 
 use crate::fault::LiveFault;
+use crate::snapshot_folder::snapshot_path;
 use itch_book::OrderBook;
 use itch_checkpoints::{Checkpoint, Unfit, fingerprint_before, nearest, why_unfit};
 use itch_day::{Limit, Mark};
 use itch_frame::{BlockReader, Buffered};
-use itch_join::Joiner;
+use itch_join::{Joiner, Snap};
 use itch_sessions::SessionFault;
 use itch_sessions::log::Log;
 use itch_sessions::log::entry::{Event, Level, write_number, write_shown, write_text};
@@ -24,15 +28,18 @@ const NOTHING_BEFORE: &[u8] = b"G                   1";
 /// The number of unsuitable snapshots that are skipped. After that, the complete record is replayed.
 const MOST_UNFIT: usize = 16;
 
-/// Gives a joiner the market before the first message.
-///
-/// # Errors
-///
-/// [`SessionFault::OutOfMemory`] if memory is refused.
-pub fn at_the_first<B: OrderBook>(joiner: &mut Joiner<B>) -> Result<(), SessionFault> {
+/// Returns a joiner with the market before the first message. No message may wait.
+#[tactic(auto, using(crate::proofs::First::joins_at_first))]
+pub fn at_the_first<B: OrderBook>(alloc: B::Alloc) -> Joiner<B>
+    ensures joined { result.state.joined ≡ Some (record { next = 1; market = empty }) }
+    ensures running { result.state.halt ≡ None }
+    ensures cap { result.cap ≡ 0 }
+    ensures set { (locate : ℕ) → has result.set locate ≡ true }
+{
+    let mut joiner = Joiner::new(alloc, 0);
     match joiner.snapshot(NOTHING_BEFORE) {
-        Ok(_) => Ok(()),
-        Err(_) => Err(SessionFault::OutOfMemory),
+        Ok(Snap::Joined { .. }) => joiner,
+        _ => unreachable!(),
     }
 }
 
@@ -174,9 +181,8 @@ fn joined<R: Files<File = File> + AllocGlobal, B: OrderBook<Alloc = Global>>(
     messages: u64,
 ) -> Result<Joiner<B>, Unusable> {
     let alloc = rt.alloc();
-    let path = match format!(in alloc; "{folder}/{messages}.snap") {
-        Ok(path) => path,
-        Err(_) => return Err(Unusable::OutOfMemory),
+    let Ok(path) = snapshot_path(alloc, folder, messages) else {
+        return Err(Unusable::OutOfMemory);
     };
     let file = fs::open(rt, path.as_str())?;
     let Ok(buffered) = BufReader::with_capacity(alloc, PIECE, file) else {

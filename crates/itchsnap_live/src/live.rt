@@ -20,7 +20,7 @@ use itch_join::Joiner;
 use itch_live::Desk;
 use itch_records::{
     DayFault, DayPaths, LiveFault, Ready, RecordLoss, RecordPlace, RecordWords, SnapshotWords,
-    Step, is_caught_up,
+    Step, at_the_first, is_caught_up,
 };
 use itch_sessions::log::Log;
 use itch_sessions::log::form::LogForm;
@@ -378,7 +378,7 @@ where
         }
         self.day.has_asked = true;
         self.spare.release();
-        let joiner: Joiner<B> = Joiner::new(self.log.runtime().alloc(), 0);
+        let joiner: Joiner<B> = at_the_first(self.log.runtime().alloc());
         let asked = ask_session(&self.log, &self.feed, address, joiner);
         agreed(session, asked)
     }

@@ -6,6 +6,7 @@ use crate::status::StatusPort;
 use itch_book::OrderBook;
 use itch_codec::Alpha;
 use itch_day::Mark;
+use itch_frame::Buffered;
 use itch_join::Joiner;
 use itch_live::{Follower, Sessions};
 use itch_records::{
@@ -24,7 +25,7 @@ use std::rt::{Clock, Files};
 pub(crate) struct OwnFiles {
     pub record: Record,
     /// The rest of the record, which is still to be replayed.
-    pub replay: Option<Replay>,
+    pub replay: Option<Replay<Buffered<File>>>,
     pub saver: Option<Saver>,
 }
 
@@ -61,7 +62,7 @@ where
     };
     let (joiner, mark) = match resumed {
         Some(resumed) => resumed,
-        None => (first_joiner(rt.alloc(), serving)?, Mark::new()),
+        None => (first_joiner(rt.alloc(), serving), Mark::new()),
     };
     if let Some(saver) = &saver {
         saver.forget_after(rt, mark.count)?;
@@ -135,15 +136,12 @@ where
 }
 
 // Returns a joiner with the market before the first message, or without a market if a snapshot comes first.
-fn first_joiner<B: OrderBook<Alloc = Global>>(
-    alloc: Global,
-    serving: &Serving<'_>,
-) -> Result<Joiner<B>, SessionFault> {
-    let mut joiner: Joiner<B> = Joiner::new(alloc, 0);
-    if !serving.from_snapshot {
-        at_the_first(&mut joiner)?;
+fn first_joiner<B: OrderBook<Alloc = Global>>(alloc: Global, serving: &Serving<'_>) -> Joiner<B> {
+    if serving.from_snapshot {
+        Joiner::new(alloc, 0)
+    } else {
+        at_the_first(alloc)
     }
-    Ok(joiner)
 }
 
 /// Returns the follower of the feed, in the named or recorded session.

@@ -8,7 +8,7 @@ use itch_book::OrderBook;
 use itch_codec::Alpha;
 use itch_join::Joiner;
 use itch_live::{Follower, Sessions};
-use itch_records::{LiveFault, RecordFault, at_the_first};
+use itch_records::{LiveFault, RecordFault};
 use itch_sessions::log::Log;
 use itch_sessions::log::form::LogForm;
 use itch_sessions::sessions::current_session;
@@ -76,14 +76,12 @@ where
     start.ask(address, &mut follower, MOST_MS)
 }
 
-/// Returns a follower that knows no session yet.
+/// Returns a follower with this joiner that knows no session yet.
 pub(crate) fn nameless_follower<B: OrderBook<Alloc = Global>>(
     alloc: Global,
     credentials: &Credentials,
     joiner: Joiner<B>,
 ) -> Result<Follower<B>, LiveFault> {
-    let mut joiner = joiner;
-    at_the_first(&mut joiner)?;
     let nameless = Sessions {
         feed: None,
         glimpse: None,

@@ -7,7 +7,7 @@ use itch_codec::Alpha;
 use itch_frame::tally::Failures;
 use itch_join::Joiner;
 use itch_live::Follower;
-use itch_records::Recording;
+use itch_records::{Recording, at_the_first};
 use itch_sessions::log::Log;
 use itch_sessions::sessions::current_session;
 use itch_sessions::{Logins, Servers, Turns};
@@ -107,7 +107,7 @@ fn nobody_of<B: OrderBook<Alloc = Global>>(
     alloc: Global,
     feed: &FeedSide<'_>,
 ) -> Option<Follower<B>> {
-    let joiner: Joiner<B> = Joiner::new(alloc, 0);
+    let joiner: Joiner<B> = at_the_first(alloc);
     let credentials = feed.login().credentials(current_session());
     nameless_follower(alloc, &credentials, joiner).ok()
 }

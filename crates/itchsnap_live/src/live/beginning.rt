@@ -10,7 +10,7 @@ use itch_book::OrderBook;
 use itch_codec::Alpha;
 use itch_join::Joiner;
 use itch_live::{Desk, Follower};
-use itch_records::{DayBegun, DayPaths, LiveFault, RecordPlace, stem_of};
+use itch_records::{DayBegun, DayPaths, LiveFault, RecordPlace, at_the_first, stem_of};
 use itch_sessions::log::Log;
 use itch_sessions::sessions::{Login, current_session};
 use itch_sessions::{Callers, Logins, Servers, SessionFault};
@@ -131,7 +131,7 @@ where
     R: Net + Clock + Files<File = File> + Eprint + AllocGlobal,
 {
     let alloc = start.log.runtime().alloc();
-    let joiner: Joiner<B> = Joiner::new(alloc, 0);
+    let joiner: Joiner<B> = at_the_first(alloc);
     let credentials = login.credentials(current_session());
     let mut follower = nameless_follower(alloc, &credentials, joiner)?;
     let session = session_of(start, &mut follower)?;

@@ -2,15 +2,17 @@
 
 use super::days::Tomorrow;
 use crate::opened::OwnFiles;
+use itch_frame::Buffered;
 use itch_records::{Record, Replay, Saver};
 use itch_status::Tally;
+use std::fs::File;
 
 /// The files of a session, and its progress.
 #[derive(Drop)]
 pub(super) struct Day {
     pub record: Record,
     /// The rest of the record, which is replayed before the feed is followed.
-    pub replay: Option<Replay>,
+    pub replay: Option<Replay<Buffered<File>>>,
     pub saver: Option<Saver>,
     /// The latest timestamp of its messages so far.
     pub latest: Option<u64>,

@@ -1,0 +1,3 @@
+pub mod First
+pub mod Replayed
+pub mod Written
