@@ -258,6 +258,11 @@ itchsnap_applied itchsnap_market_apply_blocks(itchsnap_handle *handle, const uin
 
 /* Look-ups: in a market, or in that of a joiner that has joined; otherwise they return WRONG_HANDLE -------- */
 
+/* itchsnap_best, itchsnap_level, itchsnap_next_price, itchsnap_orders, itchsnap_levels and the snapshots of a handle need the orders by price. The
+ * first such call after messages that change orders sorts them, which takes longer the more orders there are. If such calls become frequent,
+ * that is, if there were fewer changes since the last one than there are orders, one of them builds an index, and none sorts again; from then
+ * on each message takes longer. While the index is built, the orders are in memory twice; without that memory the call sorts them. */
+
 typedef struct {
     uint64_t reference;
     uint32_t price; /* with four implied decimals */

@@ -26,7 +26,10 @@ class Applied(NamedTuple):
 
 class Lookups(Held):
     """Look-ups in a market. Prices are in ten-thousandths of a dollar; a side is 'B' for bids or 'S' for asks. Instead of a locate,
-    the name of its stock may be given. A name that is not in the directory, or is there at several locates, raises ValueError."""
+    the name of its stock may be given. A name that is not in the directory, or is there at several locates, raises ValueError.
+
+    The first look-up by price after a message sorts the orders. Once such look-ups are frequent, one of them builds an index instead, and
+    messages take longer from then on."""
 
     # The locates of each stock when the directory had this many entries. The directory only grows, and an entry keeps its stock.
     _places: Dict[str, List[int]] = {}

@@ -8,6 +8,7 @@ import hashlib
 import json
 import os
 import random
+import subprocess
 import tempfile
 import time
 from pathlib import Path
@@ -16,6 +17,7 @@ import failing
 import large
 from common import differs, ended_in
 from infos import RandomDay
+from odd_files import piped
 from ranges import Range, blocks_of, time_of
 
 ROW = 65_536
@@ -251,6 +253,24 @@ def files_that_cannot_be_used_are_named(program):
         yield from differs("--snapshot", (status, output, error.splitlines()[:1]), (2, b"", [wanted]))
 
 
+def pipes_are_read_as_files(program):
+    """The day that is indexed may be a pipe or standard input, and the index of a day a pipe. An empty day has an index without rows."""
+    payloads = RandomDay(7).payloads
+    day, index = blocks_of(payloads), index_of(payloads, [len(payloads)])
+    words = ["show", "day.itch", "--from", str(len(payloads)), "--index", "pipe"]
+    with folder_of(day, index) as folder:
+        for label, data, wanted in (("day", day, index), ("empty day", b"", index_of([], []))):
+            with piped(folder / "pipe", data):
+                yield from differs(label, ended_in(folder, program, "index", "pipe"), (0, wanted, b""))
+            done = subprocess.run([program, "index"], cwd=folder, input=data, capture_output=True, timeout=60)
+            yield from differs(f"{label}, standard input", (done.returncode, done.stdout, done.stderr), (0, wanted, b""))
+        with piped(folder / "pipe", index):
+            yield from differs("index", ended_in(folder, program, *words), ended_in(folder, program, *words[:-2]))
+        with piped(folder / "pipe", index[:-30]):
+            wanted = unfit("not of a day file", "pipe: not an index of `itchsnap index`, or changed since")
+            yield from differs("a part of it", ended_in(folder, program, *words), wanted)
+
+
 def the_messages_before_a_row_are_not_read(program):
     """With an index the bytes that no fingerprint covers may be anything: they are not read."""
     payloads = timed_day(3 * ROW)
@@ -331,4 +351,4 @@ def a_range_near_the_end_of_a_long_day_takes_a_tenth_of_the_time(program):
 RUNS = [output_with_an_index_is_that_without, a_fault_behind_the_covered_part_stays_the_same, cut_with_an_index_writes_the_same_file,
         an_index_has_a_row_for_every_65536_messages, a_refused_day_has_no_index, an_index_of_another_file_is_refused,
         an_index_that_was_changed_is_refused, each_call_that_fails_is_told, files_that_cannot_be_used_are_named,
-        the_messages_before_a_row_are_not_read, a_range_near_the_end_of_a_long_day_takes_a_tenth_of_the_time]
+        pipes_are_read_as_files, the_messages_before_a_row_are_not_read, a_range_near_the_end_of_a_long_day_takes_a_tenth_of_the_time]

@@ -227,9 +227,7 @@ static void see_snapshot(itchsnap_handle *handle, const day *of, list wanted) {
     __real_free(out.bytes);
 }
 
-/* Calls without a code for out of memory must not request any. */
-static void look_up(itchsnap_handle *handle) {
-    uint64_t before = requests;
+static void look_at_prices(itchsnap_handle *handle) {
     for (uint16_t locate = 0; locate < 10; locate++) {
         itchsnap_price best = itchsnap_next_price(handle, locate, true, false, 0);
         itchsnap_order first = itchsnap_best(handle, locate, true);
@@ -237,6 +235,12 @@ static void look_up(itchsnap_handle *handle) {
         must(itchsnap_level(handle, locate, true, best.price).code == ITCHSNAP_OK, "a level");
         must(itchsnap_order_by(handle, first.reference).code == first.code, "an order");
     }
+}
+
+/* The first look-ups after many messages must not request memory. */
+static void look_up(itchsnap_handle *handle) {
+    uint64_t before = requests;
+    look_at_prices(handle);
     must(itchsnap_order_count(handle).code == ITCHSNAP_OK && requests == before, "a look-up that asks for memory");
 }
 
@@ -254,7 +258,23 @@ static void play_market(const day *of, list wanted) {
     itchsnap_free(&market);
 }
 
-/* The same for a call that frees memory if it can: it must succeed even if that is refused. */
+/* Applies messages and looks at prices in turn. Such a look-up may request memory for an index, but must succeed without it. */
+static void play_turns(const day *of, list wanted) {
+    itchsnap_handle market = ITCHSNAP_NONE;
+    while (!granted(itchsnap_market_new(&market).code, ITCHSNAP_OK, "a new market")) {
+    }
+    for (uint64_t number = 1; number <= of->feed.count; number++) {
+        buffer message = payload(&of->feed, number);
+        while (!granted(itchsnap_market_apply(&market, message.bytes, message.len).code, ITCHSNAP_OK, "a message between look-ups")) {
+        }
+        look_at_prices(&market);
+        refused = false;
+    }
+    see_snapshot(&market, of, wanted);
+    itchsnap_free(&market);
+}
+
+/* Like `granted`, for a call that frees memory if it can: it must succeed even if that is refused. */
 static bool granted_or_kept(uint32_t code, const char *what) {
     bool was_refused = refused;
     refused = false;
@@ -459,6 +479,7 @@ int main(int argc, char **argv) {
     list lists[] = {all, some, none};
     for (size_t k = 0; k < 3; k++) {
         play(play_market, &of, lists[k]);
+        play(play_turns, &of, lists[k]);
         play(play_blocks, &of, lists[k]);
         play(play_load, &of, lists[k]);
         play(play_file, &of, lists[k]);

@@ -195,7 +195,7 @@ def help_of(program, *words):
 
 # The commands under each heading of the help.
 TOPICS = {
-    "Look into a file": ["check", "info", "show", "book", "compare", "cut"],
+    "Look into a file": ["check", "info", "show", "book", "compare", "cut", "index"],
     "Make and use snapshots": ["snap", "join", "at", "canon"],
     "Serve and follow over SoupBinTCP": ["serve", "fetch", "live", "follow", "feed", "status"],
     "Other commands": ["completions", "help"],

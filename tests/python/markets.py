@@ -123,6 +123,35 @@ def look_ups_are_those_of_the_lists():
         yield from differs("the levels of all", list(market.levels()), rows)
 
 
+def look_ups_between_pieces_are_those_of_the_part_before():
+    """After pieces that are larger than the market, after single messages, and after both in turn."""
+    day = generated()
+    ends = [0]
+    for payload in payloads(day):
+        ends.append(ends[-1] + 2 + len(payload))
+    for numbers in ([5000, 12000, 20000], [200, *range(201, 240)], [9000, 9001, 9002, 15000, 15001, 20000], [0, 1, 2, 60, 61, 20000]):
+        with Market() as market:
+            done = 0
+            for number in numbers:
+                market.apply_blocks(memoryview(day)[ends[done]:ends[number]])
+                done = number
+                yield from differs(f"after {number} of {numbers}", seen(market), seen_in(Day.of(day[:ends[number]]).snapshot()))
+
+
+def seen(market):
+    """Returns what look-ups by price find."""
+    best = {(locate, side): market.best(locate, side) for locate in market.locates() for side in "BS"}
+    return list(market.orders()), list(market.levels()), {it: order for it, order in best.items() if order}, market.snapshot()
+
+
+def seen_in(snapshot):
+    """Returns the same from the lists of a snapshot."""
+    best = {}
+    for order in snapshot.orders:
+        best.setdefault((order.locate, order.side), order)
+    return list(snapshot.orders), list(snapshot.levels), best, snapshot
+
+
 def look_up_levels(market, locate, side, orders):
     """Returns the levels of these orders, and checks that looking up each gives the same."""
     price = market.next_price(locate, side)
@@ -269,7 +298,8 @@ def a_market_is_not_copied():
 
 
 RUNS = [any_buffer_is_taken, what_is_no_buffer_is_not_taken, a_buffer_stays_as_it_is_during_a_call, a_day_may_be_cut_at_each_byte,
-        a_file_is_read_in_pieces, look_ups_are_those_of_the_lists, what_is_not_there_is_none,
-        a_refusal_has_its_reason_and_leaves_the_market, messages_before_a_refusal_count, too_many_shares_say_how_many_remain,
-        faults_of_payloads, the_payloads_of_blocks, a_closed_market_refuses_each_call, numbers_that_do_not_fit_are_refused,
-        a_market_is_loaded_with_its_number, a_market_stays_on_its_thread, a_market_is_not_copied]
+        a_file_is_read_in_pieces, look_ups_are_those_of_the_lists, look_ups_between_pieces_are_those_of_the_part_before,
+        what_is_not_there_is_none, a_refusal_has_its_reason_and_leaves_the_market, messages_before_a_refusal_count,
+        too_many_shares_say_how_many_remain, faults_of_payloads, the_payloads_of_blocks, a_closed_market_refuses_each_call,
+        numbers_that_do_not_fit_are_refused, a_market_is_loaded_with_its_number, a_market_stays_on_its_thread,
+        a_market_is_not_copied]

@@ -195,7 +195,8 @@ impl<A: Allocator + Copy> Index<A> {
     pub(crate) fn look_ahead(&self, references: &[u64]) {
         if self.len() >= MANY {
             let (nodes, seen) = links_of(&self.references, references);
-            self.touched.set(self.queues.read_around(&nodes) ^ seen as u64);
+            self.touched
+                .set(self.queues.read_around(&nodes) ^ seen as u64);
         }
     }
 

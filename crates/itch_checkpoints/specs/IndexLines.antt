@@ -8,11 +8,14 @@ abbrev pub number_or_null : Option ℕ → List ℕ
 number_or_null None = codes "null"
 number_or_null (Some number) = decimal number
 
+-- the beginning of a line, about the first messages of the day
+abbrev pub place_part : Mark → List ℕ
+place_part mark =
+    codes "{\"messages\":" ++ decimal mark.count ++ codes ",\"offset\":" ++ decimal mark.offset ++ codes ",\"timestamp\":" ++ number_or_null mark.latest
+
 -- the part of a line about the messages of the snapshot, with the name of its file
 abbrev pub mark_part : Mark → List ℕ
-mark_part mark =
-    codes "{\"messages\":" ++ decimal mark.count ++ codes ",\"offset\":" ++ decimal mark.offset ++ codes ",\"timestamp\":" ++ number_or_null mark.latest
-    ++ codes ",\"file\":\"" ++ decimal mark.count ++ codes ".snap\""
+mark_part mark = place_part mark ++ codes ",\"file\":\"" ++ decimal mark.count ++ codes ".snap\""
 
 -- the part about the bytes of the day file before the offset
 abbrev pub digits_part : Fingerprint → List ℕ

@@ -38,7 +38,7 @@ impl Checkpoint {
     }
 
     /// Returns the checkpoint of a line, if the line describes one. The last line may be incomplete.
-    pub(crate) fn read(alloc: Global, line: &[u8]) -> Result<Option<Checkpoint>, AllocError> {
+    pub fn read(alloc: Global, line: &[u8]) -> Result<Option<Checkpoint>, AllocError> {
         let Ok(text) = std::str::from_utf8(line) else {
             return Ok(None);
         };

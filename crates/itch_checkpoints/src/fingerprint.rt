@@ -1,6 +1,7 @@
 //! Fingerprints, which distinguish the messages before a position in a day file from those of another day.
-ghost use Rattle.std.specs.Prelude.{◌≡◌, ◌++◌, ◌≤◌, length, IfSome};
+ghost use Rattle.std.specs.Prelude.{◌≡◌, ◌++◌, ◌≤◌, ℕ, List, length, IfSome};
 ghost use Rattle.itch_checkpoints.specs.Fingerprints.{digits_of, unfit_of};
+ghost use Rattle.sha2.specs.Hashers.{Holds256};
 
 use sha2::{Digest, Sha256};
 use std::alloc::Global;
@@ -50,6 +51,13 @@ fn digits_of(first: &[u8], rest: &[u8]) -> [u8; 16]
     let mut hasher = Sha256::new();
     hasher.update(first);
     hasher.update(rest);
+    first_digits(hasher)
+}
+
+/// Returns the first hexadecimal digits of the digest of the bytes that a hasher holds.
+pub fn first_digits(hasher: Sha256) -> [u8; 16]
+    ensures { (bytes : List ℕ) → Holds256 hasher bytes → result ≡ digits_of bytes }
+{
     let digest = hasher.finalize();
     let mut digits = [0; 16];
     hex::encode_to_slice(&digest[..8], &mut digits).unwrap();

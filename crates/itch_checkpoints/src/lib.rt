@@ -13,9 +13,9 @@ mod listing;
 mod passed;
 
 pub use checkpoint::Checkpoint;
-pub use fingerprint::{Fingerprint, Unfit, fingerprint_before, why_unfit};
+pub use fingerprint::{Fingerprint, Unfit, fingerprint_before, first_digits, why_unfit};
 pub use index::{IndexReader, nearest};
 pub use latest::Latest;
 pub use lines::Lines;
-pub use listing::index_line;
+pub use listing::{index_line, push_fingerprint, push_place};
 pub use passed::Passed;

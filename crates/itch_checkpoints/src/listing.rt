@@ -1,6 +1,6 @@
 //! The line of a snapshot in the index of its folder.
 ghost use Rattle.std.specs.Prelude.{◌≡◌, ◌++◌, decimal, IfOk, OnOk, option_map};
-ghost use Rattle.itch_checkpoints.specs.IndexLines.{digits_part, index_line, list_part, mark_part, number_or_null};
+ghost use Rattle.itch_checkpoints.specs.IndexLines.{digits_part, index_line, list_part, mark_part, number_or_null, place_part};
 
 use crate::fingerprint::Fingerprint;
 use itch_day::Mark;
@@ -29,12 +29,20 @@ pub fn index_line<A: Allocator>(
 fn push_mark<A: Allocator>(line: &mut Vec<u8, A>, mark: Mark) -> Result<(), AllocError>
     ensures { OnOk result (line.new.items ≡ line.old.items ++ mark_part mark) }
 {
+    push_place(line, mark)?;
+    push_field(line, b",\"file\":\"", mark.count)?;
+    line.extend_from_slice(b".snap\"")?;
+    Ok(())
+}
+
+/// Appends the beginning of the line of a mark: the number of messages, the offset of the next one, and the latest timestamp.
+pub fn push_place<A: Allocator>(line: &mut Vec<u8, A>, mark: Mark) -> Result<(), AllocError>
+    ensures { OnOk result (line.new.items ≡ line.old.items ++ place_part mark) }
+{
     push_field(line, b"{\"messages\":", mark.count)?;
     push_field(line, b",\"offset\":", mark.offset)?;
     line.extend_from_slice(b",\"timestamp\":")?;
     push_or_null(line, mark.latest)?;
-    push_field(line, b",\"file\":\"", mark.count)?;
-    line.extend_from_slice(b".snap\"")?;
     Ok(())
 }
 
@@ -64,7 +72,8 @@ fn push_or_null<A: Allocator>(line: &mut Vec<u8, A>, number: Option<u64>) -> Res
     }
 }
 
-fn push_fingerprint<A: Allocator>(
+/// Appends the part of a line about the bytes of the day file before the offset.
+pub fn push_fingerprint<A: Allocator>(
     line: &mut Vec<u8, A>,
     fingerprint: Fingerprint,
 ) -> Result<(), AllocError>

@@ -3,7 +3,7 @@
 use crate::budget::is_slow;
 use itch_book::OrderBook;
 use itch_live::Desk;
-use itch_sessions::{Departure, Link, Who, departure_of};
+use itch_sessions::{Departure, SocketLink, Who, departure_of};
 use mio::event::Event;
 
 /// The most bytes written to one client per turn.
@@ -15,7 +15,7 @@ const FAIR_MS: u64 = 1_000;
 /// The connection of the client at a place of a desk.
 #[derive(Drop)]
 pub struct ClientSide {
-    link: Link,
+    link: SocketLink,
     // How its connection will have ended once it has received the complete snapshot, since when it receives this snapshot, and how many bytes
     // of it the socket has accepted.
     answer: Option<Departure>,
@@ -25,7 +25,7 @@ pub struct ClientSide {
 
 impl ClientSide {
     /// Creates a client whose login is valid.
-    pub fn new(link: Link) -> ClientSide {
+    pub fn new(link: SocketLink) -> ClientSide {
         ClientSide {
             link,
             answer: None,
@@ -45,7 +45,7 @@ impl ClientSide {
     }
 
     /// Returns its connection.
-    pub fn into_link(self) -> Link {
+    pub fn into_link(self) -> SocketLink {
         self.link
     }
 

@@ -18,7 +18,7 @@ mod room;
 
 pub use budget::{Budget, is_slow, may_encode};
 pub use clients::Clients;
-pub use opening::{Opening, opening_of};
+pub use opening::{FirstBytes, opening_of};
 pub use pace::{Pace, is_due};
 pub use play::{Playing, play_feed};
 pub use reception::Reception;

@@ -7,7 +7,7 @@ const LONGEST: usize = 62;
 
 /// The kinds of first bytes.
 #[derive(Clone, Copy, Debug, PartialEq, Eq)]
-pub enum Opening {
+pub enum FirstBytes {
     /// An incomplete packet: more bytes must arrive.
     Begun,
     /// A complete packet of this length, after two bytes of length.
@@ -19,17 +19,17 @@ pub enum Opening {
 }
 
 /// Returns the kind of the first bytes of a connection.
-pub fn opening_of(bytes: &[u8]) -> Opening
+pub fn opening_of(bytes: &[u8]) -> FirstBytes
     ensures { result ≡ opening_of bytes.now }
 {
     let [high, low, rest @ ..] = bytes else {
-        return Opening::Begun;
+        return FirstBytes::Begun;
     };
     let length = usize::from(*high) * 256 + usize::from(*low);
     match rest.first() {
-        _ if length <= rest.len() && length <= LONGEST => Opening::Packet(length),
-        Some(b'+' | b'U') if length > LONGEST => Opening::Passed(length + 2),
-        Some(_) if length > LONGEST => Opening::Broken,
-        _ => Opening::Begun,
+        _ if length <= rest.len() && length <= LONGEST => FirstBytes::Packet(length),
+        Some(b'+' | b'U') if length > LONGEST => FirstBytes::Passed(length + 2),
+        Some(_) if length > LONGEST => FirstBytes::Broken,
+        _ => FirstBytes::Begun,
     }
 }

@@ -8,7 +8,7 @@ use crate::pace::{Pace, is_due};
 use crate::playback::Playback;
 use itch_frame::CountedRead;
 use itch_live::{Gone, Player};
-use itch_sessions::{Departure, Link, SessionFault, Who, departure_of};
+use itch_sessions::{Departure, SessionFault, SocketLink, Who, departure_of};
 use mio::event::Event;
 use std::alloc::Global;
 
@@ -23,7 +23,7 @@ const LONGEST: usize = 65_534;
 
 /// The start of a client: its first message, with its timestamp, and when it was read.
 #[derive(Clone, Copy)]
-struct Start {
+struct PlayStart {
     number: u64,
     time: u64,
     at_ms: u64,
@@ -43,10 +43,10 @@ enum Played {
 /// A client to which a day file is played.
 #[derive(Drop)]
 pub struct PlayerSide<S: CountedRead + Drop> {
-    link: Link,
+    link: SocketLink,
     player: Player<Global>,
     playback: Playback<S>,
-    start: Option<Start>,
+    start: Option<PlayStart>,
     // The number of messages that were passed in, and the outcome of the last turn.
     count: u64,
     played: Played,
@@ -54,7 +54,7 @@ pub struct PlayerSide<S: CountedRead + Drop> {
 
 impl<S: CountedRead + Drop> PlayerSide<S> {
     /// Creates a client that has connected.
-    pub fn new(link: Link, player: Player<Global>, playback: Playback<S>) -> PlayerSide<S> {
+    pub fn new(link: SocketLink, player: Player<Global>, playback: Playback<S>) -> PlayerSide<S> {
         PlayerSide {
             link,
             player,
@@ -173,7 +173,7 @@ pub fn hand_on(player: &mut Player<Global>, piece: &[u8], now_ms: u64) {
 fn play_next<S: CountedRead + Drop>(
     player: &mut Player<Global>,
     playback: &mut Playback<S>,
-    start: &mut Option<Start>,
+    start: &mut Option<PlayStart>,
     pace: Pace,
     now_ms: u64,
 ) -> Result<Option<Played>, SessionFault>
@@ -200,11 +200,11 @@ fn play_next<S: CountedRead + Drop>(
 }
 
 // Returns whether a message is due, counted from the first message that was read, which is always due.
-fn is_due_from(start: &mut Option<Start>, pace: Pace, number: u64, time: u64, now_ms: u64) -> bool
+fn is_due_from(start: &mut Option<PlayStart>, pace: Pace, number: u64, time: u64, now_ms: u64) -> bool
     ensures start { start.new ≡ Some (start_of start.old number time now_ms) }
     ensures due { result ≡ is_due_from (start_of start.old number time now_ms) pace number time now_ms }
 {
-    let first = start.unwrap_or(Start {
+    let first = start.unwrap_or(PlayStart {
         number,
         time,
         at_ms: now_ms,

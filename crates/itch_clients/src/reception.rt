@@ -2,12 +2,12 @@
 
 mod visitor;
 
-use crate::opening::Opening;
+use crate::opening::FirstBytes;
 use arrayvec::ArrayVec;
 use itch_codec::{Alpha, Seq};
 use itch_sessions::sessions::Login;
 use itch_sessions::{
-    Caller, Callers, Departure, Happening, Link, Refusals, Seated, Socket, Spare, Who,
+    Caller, Callers, Departure, Happening, Refusals, Seated, Socket, SocketLink, Spare, Who,
 };
 use itch_soup::ServerConfig;
 use mio::Registry;
@@ -17,7 +17,7 @@ use std::alloc::{AllocError, Global};
 use std::fs::File;
 use std::net::IpAddr;
 use std::rt::Files;
-use visitor::{KEPT, Served, Stage, Visitor};
+use visitor::{KEPT, ServedSession, Visitor, VisitorStage};
 
 /// The most connections without a place.
 const ROOM: usize = 1_000;
@@ -31,7 +31,7 @@ const GRACE_MS: u64 = 1_000;
 /// A connection with a valid login, the configuration that accepts it, and the bytes received so far: the login, and perhaps some after it.
 #[derive(Drop)]
 pub struct Arrival {
-    pub link: Link,
+    pub link: SocketLink,
     pub address: IpAddr,
     pub config: ServerConfig,
     pub words: ArrayVec<u8, KEPT>,
@@ -101,9 +101,9 @@ impl Reception {
         for room in self.rooms.iter().take(self.end) {
             if let Some(visitor) = room {
                 match visitor.stage {
-                    Stage::Opening => opening = opening.saturating_add(1),
-                    Stage::Ready(_) => ready = ready.saturating_add(1),
-                    Stage::Rejected { .. } | Stage::Over(_) => {}
+                    VisitorStage::Opening => opening = opening.saturating_add(1),
+                    VisitorStage::Ready(_) => ready = ready.saturating_add(1),
+                    VisitorStage::Rejected { .. } | VisitorStage::Over(_) => {}
                 }
             }
         }
@@ -178,7 +178,7 @@ impl Reception {
         let mut oldest: Option<(usize, u64)> = None;
         for (place, room) in self.rooms.iter().enumerate() {
             if let Some(visitor) = room
-                && matches!(visitor.stage, Stage::Opening)
+                && matches!(visitor.stage, VisitorStage::Opening)
                 && oldest.is_none_or(|(_, since_ms)| visitor.since_ms < since_ms)
             {
                 oldest = Some((place, visitor.since_ms));
@@ -207,7 +207,7 @@ impl Reception {
         self.happens(&who, Happening::Connected);
         match Socket::register(registry, stream, token, true) {
             Ok(socket) => {
-                let link = Link::new(socket, who);
+                let link = SocketLink::new(socket, who);
                 self.put(place, Visitor::new(link, address, now_ms));
             }
             Err(_) => self.write_down(&who, Departure::Fault),
@@ -218,7 +218,7 @@ impl Reception {
     pub fn cut_off_ready(&mut self) {
         for place in 0..self.end {
             if let Some(Some(visitor)) = self.rooms.get(place)
-                && matches!(visitor.stage, Stage::Ready(_))
+                && matches!(visitor.stage, VisitorStage::Ready(_))
             {
                 self.end(place, Departure::CutOff);
             }
@@ -262,7 +262,7 @@ impl Reception {
     /// Takes over a connection whose client receives nothing more. It is closed when the client closes it.
     pub fn see_off(
         &mut self,
-        link: Link,
+        link: SocketLink,
         address: IpAddr,
         departure: Departure,
         registry: &Registry,
@@ -280,13 +280,13 @@ impl Reception {
             return self.write_down(&who, departure);
         }
         let mut visitor = Visitor::new(link, address, now_ms);
-        visitor.stage = Stage::Over(departure);
+        visitor.stage = VisitorStage::Over(departure);
         self.put(place, visitor);
     }
 
     /// Handles the bytes of all connections, and closes those that have ended. These users may log in.
     pub fn turn(&mut self, users: &[Login], now_ms: u64, buffer: &mut [u8]) {
-        let served = Served {
+        let served = ServedSession {
             users,
             session: self.session,
             end_number: self.end_number,
@@ -296,18 +296,24 @@ impl Reception {
         }
     }
 
-    fn turn_at(&mut self, place: usize, served: &Served<'_>, now_ms: u64, buffer: &mut [u8]) {
+    fn turn_at(
+        &mut self,
+        place: usize,
+        served: &ServedSession<'_>,
+        now_ms: u64,
+        buffer: &mut [u8],
+    ) {
         let Some(Some(visitor)) = self.rooms.get_mut(place) else {
             return;
         };
-        let was_opening = matches!(visitor.stage, Stage::Opening);
+        let was_opening = matches!(visitor.stage, VisitorStage::Opening);
         visitor.turn(served, now_ms, buffer);
-        if was_opening && let Stage::Rejected { code, .. } = visitor.stage {
+        if was_opening && let VisitorStage::Rejected { code, .. } = visitor.stage {
             let at_ms = now_ms.saturating_add(self.refusals.delay_of(visitor.address, now_ms));
-            visitor.stage = Stage::Rejected { code, at_ms };
+            visitor.stage = VisitorStage::Rejected { code, at_ms };
         }
         let who = visitor.who();
-        let has_logged_in = was_opening && matches!(visitor.stage, Stage::Ready(_));
+        let has_logged_in = was_opening && matches!(visitor.stage, VisitorStage::Ready(_));
         let departure = visitor.departure(now_ms);
         if has_logged_in {
             self.happens(&who, Happening::LoggedIn);
@@ -322,7 +328,7 @@ impl Reception {
         let mut first: Option<(usize, u64)> = None;
         for (place, room) in self.rooms.iter().take(self.end).enumerate() {
             if let Some(visitor) = room
-                && matches!(visitor.stage, Stage::Ready(_))
+                && matches!(visitor.stage, VisitorStage::Ready(_))
                 && first.is_none_or(|(_, number)| visitor.link.number() < number)
                 && seated.of(visitor.address) < most
             {

@@ -10,7 +10,7 @@ use Rattle.itch_commands.specs.Infos.{Informs, event_text, events_text, type_tex
 use Rattle.itch_commands.specs.Outputs.{WritesText}
 use Rattle.itch_commands.specs.Readings.{FromBlocks, FromReader}
 use Rattle.itch_commands.specs.declared.fault.ToolFault.{ToolFault}
-use Rattle.itch_commands.specs.declared.form.Form.{Form}
+use Rattle.itch_commands.specs.declared.form.ReportForm.{ReportForm}
 use Rattle.itch_commands.specs.declared.info.events.Event.{Event}
 use Rattle.itch_commands.proofs.JoinedTexts.{text_then, text_fails}
 
@@ -24,17 +24,17 @@ if_some n xs ys some = grind (arith, nat_tests)
 if_none : (n : ℕ) (xs ys : List ℕ) → n ≡ 0 → (if n == 0 then xs else ys) ≡ xs
 if_none n xs ys none = rw none refl
 
-types_none : (form : Form) (f : ℕ → ℕ) (is_first : Bool) (kind : ℕ) → types_text form f is_first kind 0 ≡ []
+types_none : (form : ReportForm) (f : ℕ → ℕ) (is_first : Bool) (kind : ℕ) → types_text form f is_first kind 0 ≡ []
 unfolding types_text
 types_none form f is_first kind = refl
 
-types_step : (form : Form) (f : ℕ → ℕ) (is_first : Bool) (kind left : ℕ) → types_text form f is_first kind (suc left)
+types_step : (form : ReportForm) (f : ℕ → ℕ) (is_first : Bool) (kind left : ℕ) → types_text form f is_first kind (suc left)
     ≡ (if f kind == 0 then types_text form f is_first (kind + 1) left else type_text form is_first kind (f kind) ++ types_text form f false (kind + 1) left)
 unfolding types_text
 types_step form f is_first kind left = refl
 
 -- equal counts of each type have the same text
-pub types_same : (form : Form) (f g : ℕ → ℕ) (is_first : Bool) (kind left : ℕ) → kind + left ≡ 256 → ((k : ℕ) → k < 256 → f k ≡ g k) → types_text form f is_first kind left ≡ types_text form g is_first kind left
+pub types_same : (form : ReportForm) (f g : ℕ → ℕ) (is_first : Bool) (kind left : ℕ) → kind + left ≡ 256 → ((k : ℕ) → k < 256 → f k ≡ g k) → types_text form f is_first kind left ≡ types_text form g is_first kind left
 types_same form f g is_first kind zero all same = types_none form f is_first kind ∙ sym (types_none form g is_first kind)
 types_same form f g is_first kind (suc left) all same =
     let one : f kind ≡ g kind = same kind (omega (arith, all)) in
@@ -45,7 +45,7 @@ types_same form f g is_first kind (suc left) all same =
     ∙ ap (λ xs. if g kind == 0 then types_text form g is_first (kind + 1) left else type_text form is_first kind (g kind) ++ xs) (types_same form f g false (kind + 1) left next same)
     ∙ sym (types_step form g is_first kind left)
 
-module _ {W : Type 0} (contents : W → Option (List ℕ)) (failures : W → Failures) (form : Form) where
+module _ {W : Type 0} (contents : W → Option (List ℕ)) (failures : W → Failures) (form : ReportForm) where
   module _ (counts : ℕ → ℕ) where
     -- the types before this one were written
     pub record TypesSoFar (is_first : Bool) (kind : ℕ) (old now : W) : Type 0 where
@@ -121,7 +121,7 @@ module _ {W : Type 0} (contents : W → Option (List ℕ)) (failures : W → Fai
         subst (λ text. WritesText contents failures text old (Ok tt) new) (sym (so_far.whole ∙ ap (λ xs. so_far.done ++ events_text form is_first xs) none ∙ append-nil so_far.done)) so_far.wrote
 
 -- the bytes read from a reader of blocks over a reader
-pub from_reader : {R W : Type 0} (remaining : R → Option (List ℕ)) (failed_reads : R → Failures) (contents : W → Option (List ℕ)) (failed_writes : W → Failures) (form : Form) (limit : Limit) (reader : R)
+pub from_reader : {R W : Type 0} (remaining : R → Option (List ℕ)) (failed_reads : R → Failures) (contents : W → Option (List ℕ)) (failed_writes : W → Failures) (form : ReportForm) (limit : Limit) (reader : R)
     (old new : Reading R) (out : W) (result : Result Bool ToolFault) (out' : W) → (old.reader ≡ reader) × (old.held ≡ []) × (old.stage ≡ Going)
     → Informs remaining failed_reads contents failed_writes form limit (FromBlocks old new) out result out' → Informs remaining failed_reads contents failed_writes form limit (FromReader reader) out result out'
 from_reader remaining failed_reads contents failed_writes form limit reader old new out result out' (same, held, stage) (inl (fault, is, reads, kept)) =

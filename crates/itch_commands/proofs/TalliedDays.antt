@@ -43,7 +43,7 @@ use Rattle.itch_commands.specs.Tallies.{IsCounted, IsListed, IsNew, IsTally, cou
 use Rattle.itch_commands.specs.declared.fault.Source.TheVariants.{Only}
 use Rattle.itch_commands.specs.declared.fault.ToolFault.{ToolFault}
 use Rattle.itch_commands.specs.declared.info.events.Event.{Event}
-use Rattle.itch_commands.specs.declared.form.Form.{Form}
+use Rattle.itch_commands.specs.declared.form.ReportForm.{ReportForm}
 use Rattle.itch_commands.specs.declared.info.summary.Summary.{Summary}
 use Rattle.itch_commands.specs.declared.info.tally.Tally.{Tally}
 use Rattle.itch_commands.proofs.InfoTexts.{types_same}
@@ -241,7 +241,7 @@ same_summary : (a b c d e f g h i j : ℕ) (p q r s : Option ℕ) (t u : Bool) �
 same_summary a b c d e f g h i j p q r s t u one two three four five six seven eight = rw (one, two, three, four, five, six, seven, eight) refl
 
 -- the text about the tally is the text about the messages
-pub told_text : (form : Form) (payloads : List (List ℕ)) (mark : Mark) (m : Content) (tally : Tally) (events : List Event) → IsTally payloads mark m tally true events
+pub told_text : (form : ReportForm) (payloads : List (List ℕ)) (mark : Mark) (m : Content) (tally : Tally) (events : List Event) → IsTally payloads mark m tally true events
     → info_text form (summary_by mark m tally) (slice_index tally.counts.counts) events ≡ info_of form payloads
 told_text form payloads mark m tally events is =
     let ms : List Message = map message_of payloads in

@@ -22,14 +22,14 @@ use Rattle.itch_commands.specs.declared.expected.Expected.{Expected}
 use Rattle.itch_commands.specs.declared.feed_part.FeedPart.{FeedPart}
 use Rattle.itch_commands.specs.declared.form.BookForm.{BookForm}
 use Rattle.itch_commands.specs.declared.form.BookForm.TheVariants.{Text}
-use Rattle.itch_commands.specs.declared.form.Form.{Form}
+use Rattle.itch_commands.specs.declared.form.ReportForm.{ReportForm}
 use Rattle.itch_commands.specs.declared.form.ShowForm.{ShowForm}
 use Rattle.itch_commands.specs.declared.kind.FileKind.{FileKind}
 use Rattle.itch_day.specs.declared.limit.Limit.{Limit}
 
 module _ {R W : Type 0} (remaining : R → Option (List ℕ)) (failed_reads : R → Failures) (contents : W → Option (List ℕ)) (failed_writes : W → Failures) where
   -- `check`: the number of messages in a day file, or in its part, which meets the expectations
-  abbrev pub Checks : Form → Limit → Expected → From R (List (List ℕ)) → W → Result Bool ToolFault → W → Type 0
+  abbrev pub Checks : ReportForm → Limit → Expected → From R (List (List ℕ)) → W → Result Bool ToolFault → W → Type 0
   Checks form limit expected from =
       Outputs contents failed_writes (from (λ old new. Meets expected (ReadsDay remaining failed_reads Only limit old new))) (count_line_of form) (λ _. true)
 
@@ -76,13 +76,13 @@ module _ {R W : Type 0} (remaining : R → Option (List ℕ)) (failed_reads : R 
 module _ {R S W : Type 0} (remaining : R → Option (List ℕ)) (failed_reads : R → Failures) (remaining_then : S → Option (List ℕ)) (failed_then : S → Failures)
     (contents : W → Option (List ℕ)) (failed_writes : W → Failures) where
   -- `compare`: the place where the markets after two files of a kind differ
-  abbrev pub Compares : Form → FileKind → From R (Option ℕ) → From S (Option ℕ) → W → Result Bool ToolFault → W → Type 0
+  abbrev pub Compares : ReportForm → FileKind → From R (Option ℕ) → From S (Option ℕ) → W → Result Bool ToolFault → W → Type 0
   Compares form kind first second =
       Outputs contents failed_writes (first (λ a b. second (λ c d.
       PartsAt (ReadsBoth (ReadsFile remaining failed_reads First kind a b) (d ≡ c) (ReadsFile remaining_then failed_then Second kind c d))))) (verdict_line form) is_none
 
   -- `compare --first`: the number of messages of each after which the markets of two day files, or of the same part of both, first differ
-  abbrev pub ComparesFirst : Form → Limit → From R (Option ℕ) → From S (Option ℕ) → W → Result Bool ToolFault → W → Type 0
+  abbrev pub ComparesFirst : ReportForm → Limit → From R (Option ℕ) → From S (Option ℕ) → W → Result Bool ToolFault → W → Type 0
   ComparesFirst form limit first second =
       Outputs contents failed_writes (first (λ a b. second (λ c d. FindsFirst remaining failed_reads remaining_then failed_then limit a b c d))) (first_line form) is_none
 

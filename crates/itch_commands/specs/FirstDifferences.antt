@@ -14,8 +14,8 @@ use Rattle.itch_commands.specs.declared.fault.Source.{Source}
 use Rattle.itch_commands.specs.declared.fault.Source.TheVariants.{First, Second}
 use Rattle.itch_commands.specs.declared.fault.ToolFault.{ToolFault}
 use Rattle.itch_commands.specs.declared.fault.ToolFault.TheVariants as tool
-use Rattle.itch_commands.specs.declared.form.Form.{Form}
-use Rattle.itch_commands.specs.declared.form.Form.TheVariants as form
+use Rattle.itch_commands.specs.declared.form.ReportForm.{ReportForm}
+use Rattle.itch_commands.specs.declared.form.ReportForm.TheVariants as form
 use Rattle.itch_day.specs.Limits.{IsWithin}
 use Rattle.itch_day.specs.declared.limit.Limit.{Limit}
 
@@ -100,7 +100,7 @@ module _ {R S : Type 0} (remaining : R → Option (List ℕ)) (failures : R → 
   FindsFirst limit a b c d (Err fault) = RefusesFirst limit a b c d fault ⊎ RefusesSecond limit a b c d fault
 
 -- the line with this number, or the line that reports that the markets are the same all along
-abbrev pub first_line : Form → Option ℕ → List ℕ
+abbrev pub first_line : ReportForm → Option ℕ → List ℕ
 first_line form.Text None = codes "same\n"
 first_line form.Text (Some count) = codes "different after " ++ decimal count ++ codes "\n"
 first_line form.Json None = codes "{\"same\":true}\n"

@@ -8,8 +8,8 @@ use Rattle.itch_commands.specs.Comparing.{place_line}
 use Rattle.itch_commands.specs.Outputs.{ok_line}
 use Rattle.itch_commands.specs.declared.form.BookForm.{BookForm}
 use Rattle.itch_commands.specs.declared.form.BookForm.TheVariants as book
-use Rattle.itch_commands.specs.declared.form.Form.{Form}
-use Rattle.itch_commands.specs.declared.form.Form.TheVariants as form
+use Rattle.itch_commands.specs.declared.form.ReportForm.{ReportForm}
+use Rattle.itch_commands.specs.declared.form.ReportForm.TheVariants as form
 
 -- a printable character within a string of JSON: a quotation mark or a reverse solidus has a reverse solidus before it
 abbrev pub json_char : ℕ → List ℕ
@@ -32,15 +32,15 @@ abbrev pub csv_text : List ℕ → List ℕ
 csv_text text = if has_char 44 text || has_char 34 text then 34 ∷ (flat_map quoted_char text ++ 34 ∷ []) else text
 
 -- the line that reports that this many messages follow the order rules
-abbrev pub count_line : Form → ℕ → List ℕ
+abbrev pub count_line : ReportForm → ℕ → List ℕ
 count_line form.Text count = ok_line count
 count_line form.Json count = codes "{\"messages\":" ++ decimal count ++ codes "}\n"
 
-abbrev pub count_line_of : Form → List (List ℕ) → List ℕ
+abbrev pub count_line_of : ReportForm → List (List ℕ) → List ℕ
 count_line_of form payloads = count_line form (length payloads)
 
 -- the line with the place where two markets differ, or the line that reports that they are the same
-abbrev pub verdict_line : Form → Option ℕ → List ℕ
+abbrev pub verdict_line : ReportForm → Option ℕ → List ℕ
 verdict_line form.Text place = place_line place
 verdict_line form.Json None = codes "{\"same\":true}\n"
 verdict_line form.Json (Some place) = codes "{\"same\":false,\"place\":" ++ decimal place ++ codes "}\n"

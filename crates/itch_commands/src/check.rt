@@ -6,11 +6,11 @@ ghost use Rattle.itch_commands.specs.Forms.{count_line};
 ghost use Rattle.itch_day.specs.Limits.{counted};
 ghost use Rattle.itch_commands.specs.Outputs.{WritesOutput};
 ghost use Rattle.itch_commands.specs.Readings.{FromBlocks, FromReader};
-ghost use Rattle.itch_commands.specs.declared.form.Form.TheVariants.{Text};
+ghost use Rattle.itch_commands.specs.declared.form.ReportForm.TheVariants.{Text};
 
 use crate::expected::Expected;
 use crate::fault::{Source, ToolFault};
-use crate::form::Form;
+use crate::form::ReportForm;
 use crate::line::Line;
 use crate::order_book::Book;
 use crate::reading::read_market;
@@ -35,7 +35,7 @@ pub fn check<R: CountedRead + Drop, A: Allocator + Copy, W: CountedWrite>(
         &mut reader,
         Limit::whole(),
         Expected::nothing(),
-        Form::Text,
+        ReportForm::Text,
         out,
     )
 }
@@ -48,7 +48,7 @@ pub fn check_blocks<R: CountedRead, A: Allocator, B: OrderBook, W: CountedWrite>
     reader: &mut BlockReader<R, A>,
     limit: Limit,
     expected: Expected,
-    form: Form,
+    form: ReportForm,
     out: &mut W,
 ) -> Result<bool, ToolFault>
     ensures { Checks R.remaining R.failures W.contents W.failures form limit expected (FromBlocks reader.old reader.new) out.old result out.new }
@@ -59,24 +59,28 @@ pub fn check_blocks<R: CountedRead, A: Allocator, B: OrderBook, W: CountedWrite>
     write_count(count, form, out)
 }
 
-fn write_count<W: CountedWrite>(count: u64, form: Form, out: &mut W) -> Result<bool, ToolFault>
+fn write_count<W: CountedWrite>(
+    count: u64,
+    form: ReportForm,
+    out: &mut W,
+) -> Result<bool, ToolFault>
     ensures { WritesOutput W.contents W.failures (count_line form count) true out.old result out.new }
 {
     write_text(count_line(count, form).as_bytes(), out)?;
     Ok(true)
 }
 
-fn count_line(count: u64, form: Form) -> Line
+fn count_line(count: u64, form: ReportForm) -> Line
     ensures { result ≡ count_line form count }
 {
     let mut line = Line::new();
     match form {
-        Form::Text => {
+        ReportForm::Text => {
             line.text(b"ok ");
             line.number(count);
             line.text(b" messages\n");
         }
-        Form::Json => {
+        ReportForm::Json => {
             line.text(b"{\"messages\":");
             line.number(count);
             line.text(b"}\n");

@@ -6,14 +6,14 @@ ghost use Rattle.itch_commands.specs.Forms.{verdict_line};
 ghost use Rattle.itch_day.specs.Limits.{counted};
 ghost use Rattle.itch_commands.specs.Outputs.{WritesOutput};
 ghost use Rattle.itch_commands.specs.Readings.{FromBlocks, FromReader};
-ghost use Rattle.itch_commands.specs.declared.form.Form.TheVariants.{Text, Json};
+ghost use Rattle.itch_commands.specs.declared.form.ReportForm.TheVariants.{Text, Json};
 ghost use Rattle.itch_commands.specs.declared.kind.FileKind.TheVariants.{Day};
 
 mod first;
 mod tracked;
 
 use crate::fault::{Source, ToolFault};
-use crate::form::Form;
+use crate::form::ReportForm;
 use crate::kind::{FileKind, file_market};
 use crate::line::Line;
 use crate::order_book::Book;
@@ -47,7 +47,7 @@ pub fn compare<R: CountedRead + Drop, S: CountedRead + Drop, A: Allocator + Copy
         &mut first,
         &mut second,
         FileKind::Day(Limit::whole()),
-        Form::Text,
+        ReportForm::Text,
         out,
     )
 }
@@ -66,7 +66,7 @@ pub fn compare_blocks<
     first: &mut BlockReader<R, A>,
     second: &mut BlockReader<S, C>,
     kind: FileKind,
-    form: Form,
+    form: ReportForm,
     out: &mut W,
 ) -> Result<bool, ToolFault>
     ensures { Compares R.remaining R.failures S.remaining S.failures W.contents W.failures form kind (FromBlocks first.old first.new) (FromBlocks second.old second.new)
@@ -79,14 +79,14 @@ pub fn compare_blocks<
 
 fn write_verdict<W: CountedWrite>(
     place: Option<u64>,
-    form: Form,
+    form: ReportForm,
     out: &mut W,
 ) -> Result<bool, ToolFault>
     ensures { WritesOutput W.contents W.failures (verdict_line form place) (is_none place) out.old result out.new }
 {
     let line = match form {
-        Form::Text => place_line(place),
-        Form::Json => json_line(place),
+        ReportForm::Text => place_line(place),
+        ReportForm::Json => json_line(place),
     };
     write_text(line.as_bytes(), out)?;
     Ok(place.is_none())

@@ -2,7 +2,7 @@
 
 /// The form of a verdict or a count.
 #[derive(Clone, Copy, Debug, PartialEq, Eq)]
-pub enum Form {
+pub enum ReportForm {
     /// A line of text.
     Text,
     /// A line with a JSON object (RFC 8259).

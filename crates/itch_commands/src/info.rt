@@ -2,7 +2,7 @@
 ghost use Rattle.std.specs.Prelude.{None};
 ghost use Rattle.itch_commands.specs.Infos.{Informs};
 ghost use Rattle.itch_commands.specs.Readings.{FromBlocks, FromReader};
-ghost use Rattle.itch_commands.specs.declared.form.Form.TheVariants.{Text};
+ghost use Rattle.itch_commands.specs.declared.form.ReportForm.TheVariants.{Text};
 ghost use Rattle.itch_day.specs.Limits.{counted};
 
 mod counts;
@@ -14,7 +14,7 @@ mod tally;
 mod writing;
 
 use crate::fault::ToolFault;
-use crate::form::Form;
+use crate::form::ReportForm;
 use crate::order_book::Book;
 use itch_book::OrderBook;
 use itch_day::Limit;
@@ -33,7 +33,7 @@ pub fn info<R: CountedRead + Drop, A: Allocator + Copy, W: CountedWrite>(
     ensures { Informs R.remaining R.failures W.contents W.failures Text (counted None) (FromReader reader) out.old result out.new }
 {
     let mut reader = BlockReader::new(alloc, reader)?;
-    info_blocks::<_, _, Book<A>, _>(alloc, &mut reader, Limit::whole(), Form::Text, out)
+    info_blocks::<_, _, Book<A>, _>(alloc, &mut reader, Limit::whole(), ReportForm::Text, out)
 }
 
 /// Does the same over a reader of blocks, for any part of the file, and in any form. The reader is left where the reading ended.
@@ -44,7 +44,7 @@ pub fn info_blocks<R: CountedRead, A: Allocator, B: OrderBook, W: CountedWrite>(
     alloc: B::Alloc,
     reader: &mut BlockReader<R, A>,
     limit: Limit,
-    form: Form,
+    form: ReportForm,
     out: &mut W,
 ) -> Result<bool, ToolFault>
     ensures { Informs R.remaining R.failures W.contents W.failures form limit (FromBlocks reader.old reader.new) out.old result out.new }

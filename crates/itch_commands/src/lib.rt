@@ -53,7 +53,7 @@ pub use expected::{Expected, Unmet};
 pub use fault::{Source, ToolFault, status, system_fault};
 pub use feed_part::{FeedPart, Misfit};
 pub use filters::Filters;
-pub use form::{BookForm, Form, OrderForm, ShowForm};
+pub use form::{BookForm, OrderForm, ReportForm, ShowForm};
 pub use itch_day::Limit;
 pub use kind::{FileKind, file_market};
 pub use line::Line;

@@ -5,7 +5,7 @@ ghost use Rattle.itch_commands.specs.Requests.{is_binary, only_of};
 use crate::expected::Expected;
 use crate::feed_part::FeedPart;
 use crate::filters::Filters;
-use crate::form::{BookForm, Form, OrderForm, ShowForm};
+use crate::form::{BookForm, OrderForm, ReportForm, ShowForm};
 use crate::kind::FileKind;
 use crate::selection::Selection;
 use itch_day::Limit;
@@ -45,12 +45,12 @@ pub enum Command<'a> {
     Check {
         limit: Limit,
         expected: Expected,
-        form: Form,
+        form: ReportForm,
     },
     /// Write the contents of a day file, in numbers.
     Info {
         limit: Limit,
-        form: Form,
+        form: ReportForm,
     },
     /// Show each message of a file as a line, or those that are chosen.
     Show {
@@ -88,12 +88,12 @@ pub enum PairCommand<'a> {
     /// Check whether they leave the same market.
     Compare {
         kind: FileKind,
-        form: Form,
+        form: ReportForm,
     },
     /// Find the number of messages after which the markets of two day files first differ.
     CompareFirst {
         limit: Limit,
-        form: Form,
+        form: ReportForm,
     },
     /// Join the second file, a feed, to the first, a snapshot, and write the snapshot after both, for the selected locates.
     Join {

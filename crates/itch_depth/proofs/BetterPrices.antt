@@ -12,7 +12,7 @@ use Rattle.itch_book.proofs.Lists.{All-weaker_rec, All-filter_rec, by_test, filt
 use Rattle.itch_book.proofs.BookLemmas.{queue-book}
 use Rattle.itch_book.proofs.QueueLemmas.{IsQueue-queue}
 use Rattle.itch_book.proofs.QueuePrices.{filter_both}
-use Rattle.itch_depth.specs.declared.changes.best.Level.{Level}
+use Rattle.itch_depth.specs.declared.changes.best.DepthLevel.{DepthLevel}
 use Rattle.itch_depth.specs.declared.changes.changed_price.ChangedPrice.{ChangedPrice}
 use Rattle.itch_depth.specs.Changes.{Sides, best_of, level_of, levels, same_levels, same_sides}
 use Rattle.itch_depth.specs.ChangedPrices.{AreSameElsewhere, is_behind, is_elsewhere, is_past}
@@ -94,11 +94,11 @@ module _ (s : Side) (p : ℕ) where
   all_better zero ps qs none q full there better = omega arith
   all_better (suc n) [] qs none q full there better =
       let no : is_better s q p ≡ false = all_get (λ r. is_better s r p ≡ false) (take (suc n) qs) (suc n - 1) q (all_take (suc n) qs none) there in absurd (cc (sym no ∙ better)) where
-    all_take : (n : ℕ) (rs : List ℕ) → AllByRecursion (λ r. is_better s r p ≡ false) rs → AllByRecursion (λ r. is_better s r p ≡ false) (take n rs)
-    all_take zero [] h = tt
-    all_take zero (r ∷ rs) h = tt
-    all_take (suc n) [] h = tt
-    all_take (suc n) (r ∷ rs) h = (h.0, all_take n rs h.1)
+        all_take : (n : ℕ) (rs : List ℕ) → AllByRecursion (λ r. is_better s r p ≡ false) rs → AllByRecursion (λ r. is_better s r p ≡ false) (take n rs)
+        all_take zero [] h = tt
+        all_take zero (r ∷ rs) h = tt
+        all_take (suc n) [] h = tt
+        all_take (suc n) (r ∷ rs) h = (h.0, all_take n rs h.1)
   all_better (suc zero) (r ∷ ps) qs none q full there better = omega arith
   all_better (suc (suc n)) (r ∷ ps) qs none q full there better =
       let place : suc (suc n) - 1 ≡ suc n = omega arith in
@@ -112,9 +112,9 @@ module _ (s : Side) (p : ℕ) where
     prices_apart =
         ap prices (in_front xs h)
         ∙ prices_more (filter ahead xs) (filter behind xs) (passes_filter ahead xs) (All-weaker_rec (λ x. behind x ≡ true) (λ x. ahead x ≡ false) (λ x yes. is_no (ahead x) yes) (filter behind xs) (passes_filter behind xs)) where
-      is_no : (b : Bool) → not b ≡ true → b ≡ false
-      is_no true h = absurd (cc h)
-      is_no false h = refl
+          is_no : (b : Bool) → not b ≡ true → b ≡ false
+          is_no true h = absurd (cc h)
+          is_no false h = refl
 
     -- the first prices are those of the orders ahead, if there are enough
     first_prices : n ≤ length (prices (filter ahead xs)) → take n (prices xs) ≡ take n (prices (filter ahead xs))
@@ -135,19 +135,19 @@ module _ (s : Side) (p : ℕ) where
         all_better n (prices (filter ahead xs)) (prices (filter behind xs)) no_better price.0
         (ap (λ ps. length (take n ps)) (sym prices_apart) ∙ sym (as_many (take n (prices xs))) ∙ full)
         (ap (λ ps. slice_get (take n ps) (n - 1)) (sym prices_apart) ∙ price.1) price.2 where
-      as_many : (ps : List ℕ) → length (map (level_of xs) ps) ≡ length ps
-      as_many [] = refl
-      as_many (q ∷ qs) = ap suc (as_many qs)
+          as_many : (ps : List ℕ) → length (map (level_of xs) ps) ≡ length ps
+          as_many [] = refl
+          as_many (q ∷ qs) = ap suc (as_many qs)
 
-      last_price : (ps : List ℕ) (i : ℕ) → is_past s p (slice_get (map (level_of xs) ps) i) ≡ true → (q : ℕ) × (slice_get ps i ≡ Some q) × (is_better s q p ≡ true)
-      last_price [] i past = absurd (cc past)
-      last_price (q ∷ qs) zero past = (q, refl, past)
-      last_price (q ∷ qs) (suc i) past = last_price qs i past
+          last_price : (ps : List ℕ) (i : ℕ) → is_past s p (slice_get (map (level_of xs) ps) i) ≡ true → (q : ℕ) × (slice_get ps i ≡ Some q) × (is_better s q p ≡ true)
+          last_price [] i past = absurd (cc past)
+          last_price (q ∷ qs) zero past = (q, refl, past)
+          last_price (q ∷ qs) (suc i) past = last_price qs i past
 
     -- the level of a better price is that of the orders ahead
     level_ahead : (q : ℕ) → is_better s q p ≡ true → level_of xs q ≡ level_of (filter ahead xs) q
     level_ahead q better =
-        ap (λ (ys : List Order). let x : Level = record { price = q; shares = sum_by (λ y. y.shares) ys; orders = length ys } in x)
+        ap (λ (ys : List Order). let x : DepthLevel = record { price = q; shares = sum_by (λ y. y.shares) ys; orders = length ys } in x)
         (sym (filter_within (is_at_price q) ahead (λ x at. let here : x.price ≡ q = grind (arith, nat_tests) in ap (λ r. is_better s r p) here ∙ better) xs))
 
     levels_ahead : (qs : List ℕ) → AllByRecursion (λ q. is_better s q p ≡ true) qs → map (level_of xs) qs ≡ map (level_of (filter ahead xs)) qs
@@ -159,11 +159,11 @@ module _ (s : Side) (p : ℕ) where
     ahead_levels enough =
         ap (map (level_of xs)) (first_prices enough)
         ∙ levels_ahead (take n (prices (filter ahead xs))) (all_take n (prices (filter ahead xs)) (all_prices (λ q. is_better s q p ≡ true) (filter ahead xs) (passes_filter ahead xs))) where
-      all_take : (n : ℕ) (rs : List ℕ) → AllByRecursion (λ r. is_better s r p ≡ true) rs → AllByRecursion (λ r. is_better s r p ≡ true) (take n rs)
-      all_take zero [] h = tt
-      all_take zero (r ∷ rs) h = tt
-      all_take (suc n) [] h = tt
-      all_take (suc n) (r ∷ rs) h = (h.0, all_take n rs h.1)
+          all_take : (n : ℕ) (rs : List ℕ) → AllByRecursion (λ r. is_better s r p ≡ true) rs → AllByRecursion (λ r. is_better s r p ≡ true) (take n rs)
+          all_take zero [] h = tt
+          all_take zero (r ∷ rs) h = tt
+          all_take (suc n) [] h = tt
+          all_take (suc n) (r ∷ rs) h = (h.0, all_take n rs h.1)
 
 -- ---- books
 
@@ -220,16 +220,16 @@ module _ (old new : List Order) (at : ChangedPrice) (old_book : IsBook old) (new
       ahead_levels s p n new_line new_order still ∙ ap (levels n) same_ahead ∙ sym (ahead_levels s p n old_line old_order enough)
 
   -- the best prices after a change of the orders of one side
-  pub bids_then : at.side ≡ Buy → (n : ℕ) (bids asks : List Level) → bids ≡ levels n (queue new at.locate at.side) → asks ≡ levels n (queue old at.locate Sell)
+  pub bids_then : at.side ≡ Buy → (n : ℕ) (bids asks : List DepthLevel) → bids ≡ levels n (queue new at.locate at.side) → asks ≡ levels n (queue old at.locate Sell)
       → ◌≡◌ {A = Sides} (record { bids = bids; asks = asks }) (best_of n new at.locate)
   bids_then is n bids asks now were =
-      ap₂ (λ (b a : List Level). let sides : Sides = record { bids = b; asks = a } in sides) (now ∙ ap (λ s. levels n (queue new at.locate s)) is)
+      ap₂ (λ (b a : List DepthLevel). let sides : Sides = record { bids = b; asks = a } in sides) (now ∙ ap (λ s. levels n (queue new at.locate s)) is)
       (were ∙ ap (levels n) (sym (same_queue at.locate Sell (λ x of. ap (λ s. is_of at.locate s x) is ∙ no_bid (x.locate == at.locate) x.side of))))
 
-  pub asks_then : at.side ≡ Sell → (n : ℕ) (bids asks : List Level) → asks ≡ levels n (queue new at.locate at.side) → bids ≡ levels n (queue old at.locate Buy)
+  pub asks_then : at.side ≡ Sell → (n : ℕ) (bids asks : List DepthLevel) → asks ≡ levels n (queue new at.locate at.side) → bids ≡ levels n (queue old at.locate Buy)
       → ◌≡◌ {A = Sides} (record { bids = bids; asks = asks }) (best_of n new at.locate)
   asks_then is n bids asks now were =
-      ap₂ (λ (b a : List Level). let sides : Sides = record { bids = b; asks = a } in sides)
+      ap₂ (λ (b a : List DepthLevel). let sides : Sides = record { bids = b; asks = a } in sides)
       (were ∙ ap (levels n) (sym (same_queue at.locate Buy (λ x of. ap (λ s. is_of at.locate s x) is ∙ no_ask (x.locate == at.locate) x.side of))))
       (now ∙ ap (λ s. levels n (queue new at.locate s)) is)
 
@@ -238,7 +238,7 @@ module _ (old new : List Order) (at : ChangedPrice) (old_book : IsBook old) (new
 same_number : (n : ℕ) → (n == n) ≡ true
 same_number n = grind (arith, nat_tests)
 
-pub same_levels_again : (xs : List Level) → same_levels xs xs ≡ true
+pub same_levels_again : (xs : List DepthLevel) → same_levels xs xs ≡ true
 same_levels_again [] = refl
 same_levels_again (x ∷ xs) = simp (same_number x.price, same_number x.shares, same_number x.orders) (same_levels_again xs)
 
@@ -251,10 +251,10 @@ true_and true b is = refl
 true_and false b is = absurd (cc is)
 
 -- the sides differ if one of them does and the other is the same
-pub bids_tell : (bids now asks : List Level) → not (same_levels bids now) ≡ not (same_sides (record { bids = bids; asks = asks }) (record { bids = now; asks = asks }))
+pub bids_tell : (bids now asks : List DepthLevel) → not (same_levels bids now) ≡ not (same_sides (record { bids = bids; asks = asks }) (record { bids = now; asks = asks }))
 bids_tell bids now asks = ap not (sym (and_true (same_levels bids now) (same_levels asks asks) (same_levels_again asks)))
 
-pub asks_tell : (bids asks now : List Level) → not (same_levels asks now) ≡ not (same_sides (record { bids = bids; asks = asks }) (record { bids = bids; asks = now }))
+pub asks_tell : (bids asks now : List DepthLevel) → not (same_levels asks now) ≡ not (same_sides (record { bids = bids; asks = asks }) (record { bids = bids; asks = now }))
 asks_tell bids asks now = ap not (sym (true_and (same_levels bids bids) (same_levels asks now) (same_levels_again bids)))
 
 -- what follows from a result

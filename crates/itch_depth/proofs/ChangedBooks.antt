@@ -12,23 +12,23 @@ use Rattle.itch_book.specs.Prices.{prices}
 use Rattle.itch_market.specs.Content.{Content, Listing}
 use Rattle.itch_commands.specs.Forms.{level_line, row, title_line}
 use Rattle.itch_commands.specs.declared.form.BookForm.TheVariants as book
-use Rattle.itch_depth.specs.declared.changes.best.Level.{Level}
+use Rattle.itch_depth.specs.declared.changes.best.DepthLevel.{DepthLevel}
 use Rattle.itch_depth.specs.Changes.{best_of, front, level_lines, level_of, levels, text_lines}
 use Rattle.itch_depth.specs.Timed.{book_list, list_at, listed_list, side_list}
 
 -- the lines of prices, and the prices
 of_prices : (line : Side → ℕ → ℕ → ℕ → List ℕ) (side : Side) (orders : List Order) (ps : List ℕ)
     → map (λ p. line side (level_of orders p).price (level_of orders p).shares (level_of orders p).orders) ps
-    ≡ map (λ (x : Level). line side x.price x.shares x.orders) (map (level_of orders) ps)
+    ≡ map (λ (x : DepthLevel). line side x.price x.shares x.orders) (map (level_of orders) ps)
 of_prices line side orders [] = refl
 of_prices line side orders (p ∷ ps) = ap (λ rest. line side (level_of orders p).price (level_of orders p).shares (level_of orders p).orders ∷ rest) (of_prices line side orders ps)
 
 pub of_levels : (line : Side → ℕ → ℕ → ℕ → List ℕ) (depth : ℕ) (side : Side) (orders : List Order)
-    → side_list line (Some depth) side orders ≡ map (λ (x : Level). line side x.price x.shares x.orders) (levels depth orders)
+    → side_list line (Some depth) side orders ≡ map (λ (x : DepthLevel). line side x.price x.shares x.orders) (levels depth orders)
 of_levels line depth side orders = of_prices line side orders (take depth (prices orders))
 
 -- text in front of lines
-in_front : (ahead : List ℕ) (line : Level → List ℕ) (xs : List Level) → flat_map (λ text. ahead ++ text) (map line xs) ≡ flat_map (λ x. ahead ++ line x) xs
+in_front : (ahead : List ℕ) (line : DepthLevel → List ℕ) (xs : List DepthLevel) → flat_map (λ text. ahead ++ text) (map line xs) ≡ flat_map (λ x. ahead ++ line x) xs
 in_front ahead line [] = refl
 in_front ahead line (x ∷ xs) = ap (λ rest. (ahead ++ line x) ++ rest) (in_front ahead line xs)
 
@@ -36,7 +36,7 @@ side_front : (ahead : List ℕ) (locate : ℕ) (stock : List ℕ) (depth : ℕ) 
     → level_lines ahead side (levels depth orders) ≡ flat_map (λ text. ahead ++ text) (side_list (row book.Text locate stock) (Some depth) side orders)
 side_front ahead locate stock depth side orders =
     sym (ap (flat_map (λ text. ahead ++ text)) (of_levels (row book.Text locate stock) depth side orders)
-    ∙ in_front ahead (λ (x : Level). level_line side x.price x.shares x.orders) (levels depth orders))
+    ∙ in_front ahead (λ (x : DepthLevel). level_line side x.price x.shares x.orders) (levels depth orders))
 
 book_front : (ahead : List ℕ) (locate : ℕ) (stock : List ℕ) (depth : ℕ) (orders : List Order)
     → flat_map (λ text. ahead ++ text) (book_list book.Text locate (Some depth) stock orders)

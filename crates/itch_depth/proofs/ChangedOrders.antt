@@ -44,9 +44,9 @@ not_better_first : (s : Side) (p q : ℕ) → is_better s p (better_of s p q) �
 not_better_first s p q = by_test (is_better s q p)
     (λ better. ap (λ b. is_better s p (cond b q p)) better ∙ one_way s p q better)
     (λ worse. ap (λ b. is_better s p (cond b q p)) worse ∙ not_itself s p) where
-  one_way : (s : Side) (p q : ℕ) → is_better s q p ≡ true → is_better s p q ≡ false
-  one_way Buy p q better = grind (arith, nat_tests)
-  one_way Sell p q better = grind (arith, nat_tests)
+      one_way : (s : Side) (p q : ℕ) → is_better s q p ≡ true → is_better s p q ≡ false
+      one_way Buy p q better = grind (arith, nat_tests)
+      one_way Sell p q better = grind (arith, nat_tests)
 
 not_better_second : (s : Side) (p q : ℕ) → is_better s q (better_of s p q) ≡ false
 not_better_second s p q = by_test (is_better s q p)

@@ -26,7 +26,6 @@ use Rattle.itch_depth.specs.declared.changes.request.OneStock.{OneStock}
 abbrev Empty : Type 0
 Empty = Unit {0}
 
-
 module _ {X : Type 0} where
   abbrev no_value : X → Empty
   no_value x = tt
@@ -77,11 +76,11 @@ module _ {X : Type 0} where
   pub same_keys : (m n : finite.FinMap nat_cmp X) → ((q : ℕ) → is_some (finite.get m q) ≡ is_some (finite.get n q)) → finite.keys m ≡ finite.keys n
   same_keys m n same =
       sym (keys_alone m) ∙ ap finite.keys (same_map (key_set m) (key_set n) (λ q. get_key m q ∙ alike (finite.get m q) (finite.get n q) (same q) ∙ sym (get_key n q))) ∙ keys_alone n where
-    alike : (o p : Option X) → is_some o ≡ is_some p → option_map no_value o ≡ option_map no_value p
-    alike None None is = refl
-    alike None (Some y) is = absurd (cc is)
-    alike (Some x) None is = absurd (cc is)
-    alike (Some x) (Some y) is = refl
+        alike : (o p : Option X) → is_some o ≡ is_some p → option_map no_value o ≡ option_map no_value p
+        alike None None is = refl
+        alike None (Some y) is = absurd (cc is)
+        alike (Some x) None is = absurd (cc is)
+        alike (Some x) (Some y) is = refl
 
 -- the keys that are kept
 kept_keys : (s : Securities) (w : ℕ → Bool) → finite.keys (finite.retain_keys s w) ≡ filter w (finite.keys s)
@@ -126,9 +125,9 @@ module _ (S : OneStock) (m own : Content) (is_own : IsOwn S m own) where
       let before : Order → Order → Bool = λ x y. is_better s x.price y.price in
       sym (ap (λ os. in_order before (filter (is_of l s) os)) is_own.orders
       ∙ ap (in_order before) (filter_within (is_of l s) (λ x. is_stock S m.securities x.locate) (λ x of. at_locate x (x.locate == l) refl of) m.orders)) where
-    at_locate : (x : Order) (b : Bool) → (x.locate == l) ≡ b → is_of l s x ≡ true → is_stock S m.securities x.locate ≡ true
-    at_locate x true on of = let here : x.locate ≡ l = grind (arith, nat_tests) in ap (is_stock S m.securities) here ∙ has
-    at_locate x false off of = let no : is_of l s x ≡ false = simp off refl in absurd (cc (sym no ∙ of))
+        at_locate : (x : Order) (b : Bool) → (x.locate == l) ≡ b → is_of l s x ≡ true → is_stock S m.securities x.locate ≡ true
+        at_locate x true on of = let here : x.locate ≡ l = grind (arith, nat_tests) in ap (is_stock S m.securities) here ∙ has
+        at_locate x false off of = let no : is_of l s x ≡ false = simp off refl in absurd (cc (sym no ∙ of))
 
   -- the best prices of the stock are those of that market
   pub best_own : (depth : ℕ) → best depth S m ≡ best_at depth own.orders (first_of (finite.keys own.securities))

@@ -58,11 +58,11 @@ pub other_locate : (old new : List Order) (at : ChangedPrice) (l depth : ℕ) �
 other_locate old new at l depth old_book new_book same other =
     ap₂ (λ (b a : List Order). let sides : Sides = record { bids = levels depth b; asks = levels depth a } in sides)
     (same_queue old new at old_book new_book same l Buy (apart Buy)) (same_queue old new at old_book new_book same l Sell (apart Sell)) where
-  apart : (s : Side) (x : Order) → is_of l s x ≡ true → is_of at.locate at.side x ≡ false
-  apart s x of = by_locate (x.locate == l) refl of where
-    by_locate : (b : Bool) → (x.locate == l) ≡ b → is_of l s x ≡ true → is_of at.locate at.side x ≡ false
-    by_locate true on yes_it_is = let out : (x.locate == at.locate) ≡ false = (let here : x.locate ≡ l = grind (arith, nat_tests) in ap (λ q. q == at.locate) here ∙ other) in simp out refl
-    by_locate false off is_it = let never : is_of l s x ≡ false = simp off refl in absurd (cc (sym never ∙ is_it))
+      apart : (s : Side) (x : Order) → is_of l s x ≡ true → is_of at.locate at.side x ≡ false
+      apart s x of = by_locate (x.locate == l) refl of where
+        by_locate : (b : Bool) → (x.locate == l) ≡ b → is_of l s x ≡ true → is_of at.locate at.side x ≡ false
+        by_locate true on yes_it_is = let out : (x.locate == at.locate) ≡ false = (let here : x.locate ≡ l = grind (arith, nat_tests) in ap (λ q. q == at.locate) here ∙ other) in simp out refl
+        by_locate false off is_it = let never : is_of l s x ≡ false = simp off refl in absurd (cc (sym never ∙ is_it))
 
 -- without a change of the orders of the locate, nothing changes
 pub unchanged : (depth : ℕ) (own : Content) (locate : Option ℕ) (shown : Sides) → shown ≡ best_at depth own.orders locate → Renews depth own locate shown (Ok false) shown
@@ -102,11 +102,11 @@ module _ (R : ChangesRequest) (m own : Content) (locate : Option ℕ) (shown : S
       follow.place ∙ followed_own R.stock m own follow.own_market
       ∙ ap first_of (same_keys own.securities (effect own x).securities (λ q. alike (finite.get own.securities q) (finite.get (effect own x).securities q) (stocks_kept own x other q)))
       ∙ sym (followed_own R.stock n (laid (effect own x)) is_own) where
-    alike : (o p : Option Listing) → option_map (λ (s : Listing). s.entry.stock) p ≡ option_map (λ (s : Listing). s.entry.stock) o → is_some o ≡ is_some p
-    alike None None is = refl
-    alike None (Some t) is = absurd (cc is)
-    alike (Some s) None is = absurd (cc is)
-    alike (Some s) (Some t) is = refl
+        alike : (o p : Option Listing) → option_map (λ (s : Listing). s.entry.stock) p ≡ option_map (λ (s : Listing). s.entry.stock) o → is_some o ≡ is_some p
+        alike None None is = refl
+        alike None (Some t) is = absurd (cc is)
+        alike (Some s) None is = absurd (cc is)
+        alike (Some s) (Some t) is = refl
 
   -- the best prices after a message about the stock
   pub follows_on : (n now : Content) (there : Option ℕ) (result : Result Bool Unfollowed) (shows : Sides) → IsOwn R.stock n now → there ≡ followed R.stock n → (there ≡ None → shown ≡ nothing)
@@ -183,6 +183,6 @@ some_locate own x none =
     let s = (effect own (is.StockDirectory x)).securities in
     let there : finite.contains_key s x.header.locate ≡ true = ap is_some (get_there own.securities x.header.locate _) in
     no_keys (finite.keys s) none (sym (finite.contains_key-keys s x.header.locate) ∙ there) where
-  no_keys : (ks : List ℕ) → first_of ks ≡ None → list_any (eq_by_cmp nat_cmp x.header.locate) ks ≡ true → ⊥
-  no_keys [] gone has = let no_one : ⊥ = cc in no_one
-  no_keys (k ∷ ks) gone has = let no_one : ⊥ = cc in no_one
+      no_keys : (ks : List ℕ) → first_of ks ≡ None → list_any (eq_by_cmp nat_cmp x.header.locate) ks ≡ true → ⊥
+      no_keys [] gone has = let no_one : ⊥ = cc in no_one
+      no_keys (k ∷ ks) gone has = let no_one : ⊥ = cc in no_one

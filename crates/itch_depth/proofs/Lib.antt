@@ -13,3 +13,8 @@ pub mod ChangedOrders
 pub mod OwnMarkets
 pub mod FollowedStocks
 pub mod Followings
+pub mod FollowedTexts
+pub mod FollowedLines
+pub mod FollowedMessages
+pub mod OtherPayloads
+pub mod FollowedDays

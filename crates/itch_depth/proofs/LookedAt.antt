@@ -8,7 +8,7 @@ use Rattle.itch_book.specs.declared.order.Order.{Order}
 use Rattle.itch_book.specs.Orders.{IsBook, is_worse, level_total, next_price, queue}
 use Rattle.itch_book.specs.Prices.{prices}
 use Rattle.itch_book.proofs.QueuePrices.{DonePrices, level_is, none_done, none_left, one_done}
-use Rattle.itch_depth.specs.declared.changes.best.Level.{Level}
+use Rattle.itch_depth.specs.declared.changes.best.DepthLevel.{DepthLevel}
 use Rattle.itch_depth.specs.Changes.{level_of, levels, same_level, same_levels}
 use Rattle.itch_depth.specs.Following.{is_level, was_other, with_level}
 
@@ -83,7 +83,7 @@ still_differs false b = refl
 -- ---- prices
 
 -- one more price
-same_more : (old seen : List Level) (x : Level)
+same_more : (old seen : List DepthLevel) (x : DepthLevel)
     → same_levels (take (suc (length seen)) old) (seen ++ x ∷ []) ≡ (same_levels (take (length seen) old) seen && is_level x (slice_get old (length seen)))
 same_more [] [] x = refl
 same_more [] (z ∷ zs) x = refl
@@ -93,7 +93,7 @@ same_more (y ∷ ys) (z ∷ zs) x =
     ∙ all_three (same_level y z) (same_levels (take (length zs) ys) zs) (is_level x (slice_get ys (length zs)))
 
 -- all prices are the same if as many are, and there are no more
-same_whole : (old seen : List Level) → same_levels old seen ≡ (same_levels (take (length seen) old) seen && not (nat_lt (length seen) (length old)))
+same_whole : (old seen : List DepthLevel) → same_levels old seen ≡ (same_levels (take (length seen) old) seen && not (nat_lt (length seen) (length old)))
 same_whole [] [] = refl
 same_whole [] (z ∷ zs) = refl
 same_whole (y ∷ ys) [] = sym (some_less (length ys))
@@ -104,18 +104,18 @@ same_whole (y ∷ ys) (z ∷ zs) =
 
 -- the totals of a book at a price are those of the queue
 pub level_there : (orders : List Order) (l : ℕ) (s : Side) (price : ℕ) (total : ℕ × ℕ) → total ≡ level_total orders l s price
-    → ◌≡◌ {A = Level} (record { price = price; shares = total.0; orders = total.1 }) (level_of (queue orders l s) price)
+    → ◌≡◌ {A = DepthLevel} (record { price = price; shares = total.0; orders = total.1 }) (level_of (queue orders l s) price)
 level_there orders l s price total is =
-    ap (λ (t : ℕ × ℕ). let x : Level = record { price = price; shares = t.0; orders = t.1 } in x) is
-    ∙ ap (λ (xs : List Order). let x : Level = record { price = price; shares = sum_by (λ y. y.shares) xs; orders = length xs } in x) (level_is orders l s price)
+    ap (λ (t : ℕ × ℕ). let x : DepthLevel = record { price = price; shares = t.0; orders = t.1 } in x) is
+    ∙ ap (λ (xs : List Order). let x : DepthLevel = record { price = price; shares = sum_by (λ y. y.shares) xs; orders = length xs } in x) (level_is orders l s price)
 
-module _ (orders : List Order) (l : ℕ) (s : Side) (old : List Level) where
-  abbrev levels_at : List ℕ → List Level
+module _ (orders : List Order) (l : ℕ) (s : Side) (old : List DepthLevel) where
+  abbrev levels_at : List ℕ → List DepthLevel
   levels_at done = map (level_of (queue orders l s)) done
 
   -- This many prices were looked at, up to the last, and put in place of the first of the old ones; and this tells whether any of them differs
   -- from the old one.
-  pub record LookedAt (count : ℕ) (last : Option ℕ) (known : List Level) (changed : Bool) : Type 0 where
+  pub record LookedAt (count : ℕ) (last : Option ℕ) (known : List DepthLevel) (changed : Bool) : Type 0 where
     pub done : List ℕ
     pub so_far : DonePrices orders l s last done
     pub counted : length done ≡ count
@@ -139,8 +139,8 @@ module _ (orders : List Order) (l : ℕ) (s : Side) (old : List Level) where
   more_levels [] price = refl
   more_levels (p ∷ ps) price = ap (λ xs. level_of (queue orders l s) p ∷ xs) (more_levels ps price)
 
-  module _ (count : ℕ) (last : Option ℕ) (known : List Level) (changed : Bool) (book : IsBook orders) (so_far : LookedAt count last known changed) where
-    seen : List Level
+  module _ (count : ℕ) (last : Option ℕ) (known : List DepthLevel) (changed : Bool) (book : IsBook orders) (so_far : LookedAt count last known changed) where
+    seen : List DepthLevel
     seen = levels_at so_far.done
 
     many : length (levels_at so_far.done) ≡ count
@@ -155,35 +155,35 @@ module _ (orders : List Order) (l : ℕ) (s : Side) (old : List Level) where
     pub place_is_there : count ≤ length known
     place_is_there = omega (arith, many, ap length known_is, length-append (levels_at so_far.done) (drop (length (levels_at so_far.done)) old))
 
-    put_more : (x : Level) → with_level count x known ≡ (levels_at so_far.done ++ x ∷ []) ++ drop (suc (length (levels_at so_far.done))) old
+    put_more : (x : DepthLevel) → with_level count x known ≡ (levels_at so_far.done ++ x ∷ []) ++ drop (suc (length (levels_at so_far.done))) old
     put_more x =
-        let zs : List Level = levels_at so_far.done in
-        let rest : List Level = drop (length zs) old in
+        let zs : List DepthLevel = levels_at so_far.done in
+        let rest : List DepthLevel = drop (length zs) old in
         ap₂ (λ n ks. take n ks ++ x ∷ drop 1 (drop n ks)) (sym many) known_is
-        ∙ ap₂ (λ (a b : List Level). a ++ x ∷ drop 1 b) (take_front zs rest) (drop_front zs rest)
-        ∙ ap (λ (b : List Level). zs ++ x ∷ b) (drop_one (length zs) old)
+        ∙ ap₂ (λ (a b : List DepthLevel). a ++ x ∷ drop 1 b) (take_front zs rest) (drop_front zs rest)
+        ∙ ap (λ (b : List DepthLevel). zs ++ x ∷ b) (drop_one (length zs) old)
         ∙ sym (append_assoc zs (x ∷ []) (drop (suc (length zs)) old))
 
-    other_more : (x : Level) → was_other count x known ≡ not (is_level x (slice_get old (length (levels_at so_far.done))))
+    other_more : (x : DepthLevel) → was_other count x known ≡ not (is_level x (slice_get old (length (levels_at so_far.done))))
     other_more x =
         ap₂ (λ n ks. not (is_level x (slice_get ks n))) (sym many) known_is
         ∙ ap (λ there. not (is_level x there)) (get_front (levels_at so_far.done) old)
 
-    pub one_looked_at : (price : ℕ) (x : Level) (now : List Level) (is_other : Bool) → next_price orders l s last ≡ Some price → x ≡ level_of (queue orders l s) price
+    pub one_looked_at : (price : ℕ) (x : DepthLevel) (now : List DepthLevel) (is_other : Bool) → next_price orders l s last ≡ Some price → x ≡ level_of (queue orders l s) price
         → now ≡ with_level count x known → is_other ≡ was_other count x known → LookedAt (count + 1) (Some price) now (changed || is_other)
     one_looked_at price x now is_other next is put other =
-        let zs : List Level = levels_at so_far.done in
-        let more : levels_at (so_far.done ++ price ∷ []) ≡ zs ++ x ∷ [] = more_levels so_far.done price ∙ ap (λ (y : Level). zs ++ y ∷ []) (sym is) in
+        let zs : List DepthLevel = levels_at so_far.done in
+        let more : levels_at (so_far.done ++ price ∷ []) ≡ zs ++ x ∷ [] = more_levels so_far.done price ∙ ap (λ (y : DepthLevel). zs ++ y ∷ []) (sym is) in
         let one : suc (length zs) ≡ count + 1 = omega (arith, many) in
         record {
           done = so_far.done ++ price ∷ [];
           so_far = one_done orders l s last so_far.done price book so_far.so_far next;
           counted = omega (arith, so_far.counted, length-append so_far.done (price ∷ []));
-          put = put ∙ put_more x ∙ ap₂ (λ (a : List Level) n. a ++ drop n old) (sym more) one;
+          put = put ∙ put_more x ∙ ap₂ (λ (a : List DepthLevel) n. a ++ drop n old) (sym more) one;
           tells = ap₂ ◌||◌ tells_so (other ∙ other_more x)
               ∙ one_differs (same_levels (take (length zs) old) zs) (is_level x (slice_get old (length zs)))
               ∙ ap not (sym (same_more old zs x))
-              ∙ ap₂ (λ n (a : List Level). not (same_levels (take n old) a)) one (sym more);
+              ∙ ap₂ (λ n (a : List DepthLevel). not (same_levels (take n old) a)) one (sym more);
         }
 
     pub now_known : take count known ≡ levels_at so_far.done
@@ -200,7 +200,7 @@ module _ (orders : List Order) (l : ℕ) (s : Side) (old : List Level) where
     -- any of the old prices differs, or one more was known
     pub any_other : (changed || nat_lt count (length known)) ≡ not (same_levels old (levels_at so_far.done))
     any_other =
-        let zs : List Level = levels_at so_far.done in
-        ap₂ ◌||◌ tells_so (ap₂ (λ n (ks : List Level). nat_lt n (length ks)) (sym many) known_is ∙ longer zs old)
+        let zs : List DepthLevel = levels_at so_far.done in
+        ap₂ ◌||◌ tells_so (ap₂ (λ n (ks : List DepthLevel). nat_lt n (length ks)) (sym many) known_is ∙ longer zs old)
         ∙ still_differs (same_levels (take (length zs) old) zs) (nat_lt (length zs) (length old))
         ∙ ap not (sym (same_whole old zs))

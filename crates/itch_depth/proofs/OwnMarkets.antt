@@ -94,10 +94,10 @@ pub stock_set : (m : Content) (x : StockDirectory) (l : ℕ) → stock_at (effec
 stock_set m x l =
     ap (option_map (λ (s : Listing). s.entry.stock)) (get-insert m.securities x.header.locate (entered (finite.get m.securities x.header.locate) x.entry) l)
     ∙ by_key (eqb l x.header.locate) (finite.get m.securities x.header.locate) where
-  by_key : (b : Bool) (o : Option Listing) → option_map (λ (s : Listing). s.entry.stock) (cond b (Some (entered o x.entry)) (finite.get m.securities l)) ≡ cond b (Some x.entry.stock) (stock_at m l)
-  by_key true None = refl
-  by_key true (Some s) = refl
-  by_key false o = refl
+      by_key : (b : Bool) (o : Option Listing) → option_map (λ (s : Listing). s.entry.stock) (cond b (Some (entered o x.entry)) (finite.get m.securities l)) ≡ cond b (Some x.entry.stock) (stock_at m l)
+      by_key true None = refl
+      by_key true (Some s) = refl
+      by_key false o = refl
 
 -- a message has the same effect on the same orders
 same_effect : (m n : Content) (x : Message) → m.orders ≡ n.orders → (effect m x).orders ≡ (effect n x).orders
@@ -171,9 +171,9 @@ order_there m r l later good none = by_found (book.get m.orders r) refl none whe
       let here = passed (not (x.locate == l)) LocateMismatch (later x) fine in
       let same : x.locate ≡ l = at_locate (x.locate == l) refl here.0 in
       subst (λ q. IsSome (finite.get m.securities q)) same (All-found_rec (IsListed m.securities) (book.has_reference r) m.orders x good.listed there) where
-    at_locate : (b : Bool) → (x.locate == l) ≡ b → not b ≡ false → x.locate ≡ l
-    at_locate true on h = grind (arith, nat_tests)
-    at_locate false off h = absurd (cc h)
+        at_locate : (b : Bool) → (x.locate == l) ≡ b → not b ≡ false → x.locate ≡ l
+        at_locate true on h = grind (arith, nat_tests)
+        at_locate false off h = absurd (cc h)
 
 security_there : (o : Option Listing) (stock : List ℕ) (later : Option Refusal) → security_reason o stock later ≡ None → IsSome o
 security_there None stock later none = absurd (cc none)
@@ -236,11 +236,11 @@ module _ (S : OneStock) where
     unwanted x l other none far there =
         let gone : is_some (finite.get own.securities l) ≡ false = sym (located own x l there) ∙ sym (is_its own S x other) ∙ far in
         out (is_stock S m.securities l) (finite.get m.securities l) (finite.get own.securities l) (IsOwn.listed is_own l) (listed m x l good other none there) gone where
-      out : (b : Bool) (o p : Option Listing) → option_map (λ (s : Listing). s.entry.stock) p ≡ own_stock b (option_map (λ (s : Listing). s.entry.stock) o) → IsSome o → is_some p ≡ false → b ≡ false
-      out false o p is some none = refl
-      out true None p is some none = absurd (cc some)
-      out true (Some s) None is some none = absurd (cc is)
-      out true (Some s) (Some t) is some none = absurd (cc none)
+          out : (b : Bool) (o p : Option Listing) → option_map (λ (s : Listing). s.entry.stock) p ≡ own_stock b (option_map (λ (s : Listing). s.entry.stock) o) → IsSome o → is_some p ≡ false → b ≡ false
+          out false o p is some none = refl
+          out true None p is some none = absurd (cc some)
+          out true (Some s) None is some none = absurd (cc is)
+          out true (Some s) (Some t) is some none = absurd (cc none)
 
     -- such a message changes no order of the stock
     orders_kept : (x : Message) → is_entry x ≡ false → reason m x ≡ None → concerns S own x ≡ false
@@ -282,9 +282,9 @@ module _ (S : OneStock) where
           let this : s.entry.stock ≡ stock = cc in
           let test = passed (not (bytes_eq s.entry.stock x.entry.stock)) StockMismatch None fine in
           sym this ∙ (bytes_eq-Decides s.entry.stock x.entry.stock).0 (yes_from (bytes_eq s.entry.stock x.entry.stock) test.0) where
-        yes_from : (b : Bool) → not b ≡ false → b ≡ true
-        yes_from true h = refl
-        yes_from false h = absurd (cc h)
+            yes_from : (b : Bool) → not b ≡ false → b ≡ true
+            yes_from true h = refl
+            yes_from false h = absurd (cc h)
 
     -- an order's locate has the stock before an entry exactly if it has it after it
     still_wanted : (x : StockDirectory) → reason m (is.StockDirectory x) ≡ None
@@ -332,15 +332,15 @@ module _ (S : OneStock) where
     entry_near x near l =
         stock_set own x l ∙ ap (cond (eqb l x.header.locate) (Some x.entry.stock)) (own_listed m own is_own l)
         ∙ by_key (eqb l x.header.locate) refl ∙ ap (own_of l) (sym (stock_set m x l)) where
-      is_wanted : (S : OneStock) → enters S x ≡ true → wants S x.header.locate (Some x.entry.stock) ≡ true
-      is_wanted (Locate k) h = h
-      is_wanted (Named name) h = h
+          is_wanted : (S : OneStock) → enters S x ≡ true → wants S x.header.locate (Some x.entry.stock) ≡ true
+          is_wanted (Locate k) h = h
+          is_wanted (Named name) h = h
 
-      by_key : (b : Bool) → eqb l x.header.locate ≡ b → cond b (Some x.entry.stock) (own_of l (stock_at m l)) ≡ own_of l (cond b (Some x.entry.stock) (stock_at m l))
-      by_key false off = refl
-      by_key true on =
-          let here : l ≡ x.header.locate = grind (arith, nat_tests) in
-          sym (ap (λ q. own_of q (Some x.entry.stock)) here ∙ ap (λ b. own_stock b (Some x.entry.stock)) (is_wanted S near))
+          by_key : (b : Bool) → eqb l x.header.locate ≡ b → cond b (Some x.entry.stock) (own_of l (stock_at m l)) ≡ own_of l (cond b (Some x.entry.stock) (stock_at m l))
+          by_key false off = refl
+          by_key true on =
+              let here : l ≡ x.header.locate = grind (arith, nat_tests) in
+              sym (ap (λ q. own_of q (Some x.entry.stock)) here ∙ ap (λ b. own_stock b (Some x.entry.stock)) (is_wanted S near))
 
     -- a message about another stock leaves the market of the stock
     pub far_message : (x : Message) → reason m x ≡ None → concerns S own x ≡ false → IsOwn S (laid (effect m x)) own

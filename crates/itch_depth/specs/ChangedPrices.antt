@@ -8,7 +8,7 @@ use Rattle.itch_codec.specs.declared.orders.AddOrder.{AddOrder}
 use Rattle.itch_codec.specs.declared.orders.Side.{Side}
 use Rattle.itch_book.specs.declared.order.Order.{Order}
 use Rattle.itch_book.specs.Orders.{get, is_better, is_of}
-use Rattle.itch_depth.specs.declared.changes.best.Level.{Level}
+use Rattle.itch_depth.specs.declared.changes.best.DepthLevel.{DepthLevel}
 use Rattle.itch_depth.specs.declared.changes.changed_price.ChangedPrice.{ChangedPrice}
 
 -- the price of a new order
@@ -48,10 +48,10 @@ abbrev pub AreSameElsewhere : ChangedPrice → List Order → List Order → Typ
 AreSameElsewhere at old new = filter (is_elsewhere at) new ≡ filter (is_elsewhere at) old
 
 -- there is a price, and it is better
-abbrev pub is_past : Side → ℕ → Option Level → Bool
+abbrev pub is_past : Side → ℕ → Option DepthLevel → Bool
 is_past side price None = false
 is_past side price (Some worst) = is_better side worst.price price
 
 -- as many prices as requested are better
-abbrev pub is_behind : ℕ → Side → ℕ → List Level → Bool
+abbrev pub is_behind : ℕ → Side → ℕ → List DepthLevel → Bool
 is_behind depth side price known = (length known == depth) && is_past side price (slice_get known (length known - 1))

@@ -20,7 +20,7 @@ use Rattle.itch_commands.specs.Forms.{json_text, level_line, title_line}
 use Rattle.itch_commands.specs.Stocks.{has_stock}
 use Rattle.itch_commands.specs.declared.form.BookForm.{BookForm}
 use Rattle.itch_commands.specs.declared.form.BookForm.TheVariants as book
-use Rattle.itch_depth.specs.declared.changes.best.Level.{Level}
+use Rattle.itch_depth.specs.declared.changes.best.DepthLevel.{DepthLevel}
 use Rattle.itch_depth.specs.declared.changes.request.ChangesRequest.{ChangesRequest}
 use Rattle.itch_depth.specs.declared.changes.request.OneStock.{OneStock}
 use Rattle.itch_depth.specs.declared.changes.request.OneStock.TheVariants.{Locate, Named}
@@ -36,20 +36,20 @@ followed stock m = find (is_stock stock m.securities) (finite.keys m.securities)
 
 -- the best prices of each side, the best one first
 pub record Sides : Type 0 where
-  pub bids : List Level
-  pub asks : List Level
+  pub bids : List DepthLevel
+  pub asks : List DepthLevel
 
 -- no prices
 abbrev pub nothing : Sides
 nothing = record { bids = []; asks = [] }
 
 -- a price of the orders of a side: all shares at it, and the number of its orders
-abbrev pub level_of : List Order → ℕ → Level
+abbrev pub level_of : List Order → ℕ → DepthLevel
 level_of orders price =
     record { price = price; shares = sum_by (λ x. x.shares) (filter (is_at_price price) orders); orders = length (filter (is_at_price price) orders) }
 
 -- the best prices of the orders of a side, which are in priority order
-abbrev pub levels : ℕ → List Order → List Level
+abbrev pub levels : ℕ → List Order → List DepthLevel
 levels depth orders = map (level_of orders) (take depth (prices orders))
 
 -- the best prices of a locate
@@ -66,10 +66,10 @@ abbrev pub best : ℕ → OneStock → Content → Sides
 best depth stock m = best_at depth m.orders (followed stock m)
 
 -- the same price, shares and number of orders
-abbrev pub same_level : Level → Level → Bool
+abbrev pub same_level : DepthLevel → DepthLevel → Bool
 same_level x y = (x.price == y.price) && ((x.shares == y.shares) && (x.orders == y.orders))
 
-abbrev pub same_levels : List Level → List Level → Bool
+abbrev pub same_levels : List DepthLevel → List DepthLevel → Bool
 same_levels [] [] = true
 same_levels [] (y ∷ ys) = false
 same_levels (x ∷ xs) [] = false
@@ -85,8 +85,8 @@ front book.Json number time = codes "{\"message\":" ++ decimal number ++ codes "
 front book.Csv number time = decimal number ++ 44 ∷ clock time
 
 -- the lines of the prices of a side, as `book` prints them, with this in front
-abbrev pub level_lines : List ℕ → Side → List Level → List ℕ
-level_lines ahead side xs = flat_map (λ (x : Level). ahead ++ level_line side x.price x.shares x.orders) xs
+abbrev pub level_lines : List ℕ → Side → List DepthLevel → List ℕ
+level_lines ahead side xs = flat_map (λ (x : DepthLevel). ahead ++ level_line side x.price x.shares x.orders) xs
 
 -- lines of text: that of the stock, the bids, and the asks
 abbrev pub text_lines : ℕ → ℕ → ℕ → List ℕ → Sides → List ℕ
@@ -95,15 +95,15 @@ text_lines number time locate stock sides =
     ++ (title_line locate stock ++ (level_lines (front book.Text number time) Buy sides.bids ++ level_lines (front book.Text number time) Sell sides.asks))
 
 -- the object of a price
-abbrev pub json_level : Level → List ℕ
+abbrev pub json_level : DepthLevel → List ℕ
 json_level x = codes "{\"price\":\"" ++ price_text x.price ++ codes "\",\"shares\":" ++ decimal x.shares ++ codes ",\"orders\":" ++ decimal x.orders ++ codes "}"
 
 -- the object of a price after another one
-abbrev pub next_level : Level → List ℕ
+abbrev pub next_level : DepthLevel → List ℕ
 next_level x = 44 ∷ json_level x
 
 -- the objects of the prices of a side, with commas between them
-abbrev pub json_levels : List Level → List ℕ
+abbrev pub json_levels : List DepthLevel → List ℕ
 json_levels [] = []
 json_levels (x ∷ xs) = json_level x ++ flat_map next_level xs
 
@@ -118,16 +118,16 @@ json_line number time locate stock sides =
     ++ (members locate stock ++ (json_levels sides.bids ++ (codes "],\"asks\":[" ++ (json_levels sides.asks ++ codes "]}\n"))))
 
 -- the columns of a price: the price and its shares, or two empty ones
-abbrev pub cells_of : Option Level → List ℕ
+abbrev pub cells_of : Option DepthLevel → List ℕ
 cells_of None = codes ",,"
 cells_of (Some x) = 44 ∷ (price_text x.price ++ 44 ∷ decimal x.shares)
 
 -- the columns of an ask and a bid
-abbrev pub cells : Option Level → Option Level → List ℕ
+abbrev pub cells : Option DepthLevel → Option DepthLevel → List ℕ
 cells ask bid = cells_of ask ++ cells_of bid
 
 -- the columns of the ask and the bid at a place, which is counted from 0
-abbrev pub cells_at : List Level → List Level → ℕ → List ℕ
+abbrev pub cells_at : List DepthLevel → List DepthLevel → ℕ → List ℕ
 cells_at asks bids place = cells (slice_get asks place) (slice_get bids place)
 
 -- comma-separated values: the number, the time, and for each of that many places the ask and the bid at it

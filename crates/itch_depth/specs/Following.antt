@@ -34,7 +34,7 @@ use Rattle.itch_commands.specs.declared.fault.Source.TheVariants.{Only}
 use Rattle.itch_commands.specs.declared.fault.ToolFault.{ToolFault}
 use Rattle.itch_commands.specs.declared.fault.ToolFault.TheVariants as tool
 use Rattle.itch_depth.specs.Changes.{Sides, best, best_of, change, change_head, change_past, changes_of_day, followed, is_stock, same_level, same_sides}
-use Rattle.itch_depth.specs.declared.changes.best.Level.{Level}
+use Rattle.itch_depth.specs.declared.changes.best.DepthLevel.{DepthLevel}
 use Rattle.itch_depth.specs.declared.changes.request.ChangesRequest.{ChangesRequest}
 use Rattle.itch_depth.specs.declared.changes.request.OneStock.{OneStock}
 use Rattle.itch_depth.specs.declared.changes.request.OneStock.TheVariants.{Locate, Named}
@@ -63,7 +63,7 @@ pub record IsFollowing (request : ChangesRequest) (m own : Content) (locate : Op
   pub sides : shown ≡ best request.depth request.stock m
 
 -- this is the level that is there
-abbrev pub is_level : Level → Option Level → Bool
+abbrev pub is_level : DepthLevel → Option DepthLevel → Bool
 is_level level None = false
 is_level level (Some there) = same_level there level
 
@@ -112,11 +112,11 @@ Renews depth own (Some locate) old (Ok changed) new = (new ≡ best_of depth own
 Renews depth own locate old (Err fault) new = fault ≡ unfollowed.OutOfMemory
 
 -- the prices of a side with this one at a place, or at the end
-abbrev pub with_level : ℕ → Level → List Level → List Level
+abbrev pub with_level : ℕ → DepthLevel → List DepthLevel → List DepthLevel
 with_level place level xs = take place xs ++ level ∷ drop 1 (drop place xs)
 
 -- another price, or none, was at this place
-abbrev pub was_other : ℕ → Level → List Level → Bool
+abbrev pub was_other : ℕ → DepthLevel → List DepthLevel → Bool
 was_other place level xs = not (is_level level (slice_get xs place))
 
 -- the fault if no locate has the stock

@@ -1,6 +1,7 @@
 //! The best prices of one stock after each message that changes them.
 ghost use Rattle.std.specs.Prelude.{◌≡◌};
-ghost use Rattle.itch_depth.specs.Following.{FollowsDay, FollowsPart, answer_of};
+ghost use Rattle.itch_market.specs.Content.{empty};
+ghost use Rattle.itch_depth.specs.Following.{FollowsDay, FollowsPart, IsFollowing, answer_of};
 
 mod best;
 mod book;
@@ -51,11 +52,26 @@ fn follow_part<R: CountedRead, A: Allocator, B: OrderBook, W: CountedWrite>(
     ensures { FollowsPart W.contents W.failures R.remaining R.failures limit request.entry reader.old reader.new out.old result out.new }
 {
     let mut followed: Followed<B> = Followed::new(alloc);
+    follow_from(&mut followed, reader, limit, request, out)
+}
+
+// Does the same with the market before any message.
+fn follow_from<R: CountedRead, A: Allocator, B: OrderBook, W: CountedWrite>(
+    followed: &mut Followed<B>,
+    reader: &mut BlockReader<R, A>,
+    limit: Limit,
+    request: ChangesRequest<'_>,
+    out: &mut W,
+) -> Result<bool, ToolFault>
+    requires market { followed.old.market ≡ empty }
+    requires following { IsFollowing request followed.old.market followed.old.own followed.old.locate followed.old.best }
+    ensures { FollowsPart W.contents W.failures R.remaining R.failures limit request.entry reader.old reader.new out.old result out.new }
+{
     let mut count = 0;
     let mut lines = ChangeLines {
         out,
         request,
-        followed: &mut followed,
+        followed,
     };
     let stop = read_part(reader, &mut count, &mut lines, limit);
     pass_stop(reader, &stop);

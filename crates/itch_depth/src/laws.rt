@@ -23,7 +23,7 @@ ghost use Rattle.itch_commands.specs.declared.selection.Selection.{Selection};
 ghost use Rattle.itch_depth.specs.Series.{AtEach, AtTime, ListsPart};
 ghost use Rattle.itch_depth.specs.Changes.{best_of, front, levels, text_lines};
 ghost use Rattle.itch_depth.specs.Timed.{books_list, joined, joined_at, list_at, side_list, timed_books};
-ghost use Rattle.itch_depth.specs.declared.changes.best.Level.{Level};
+ghost use Rattle.itch_depth.specs.declared.changes.best.DepthLevel.{DepthLevel};
 ghost use Rattle.itch_depth.specs.declared.request.BookRequest.{BookRequest};
 
 use itch_frame::{CountedRead, CountedWrite};
@@ -51,5 +51,5 @@ pub fn one_change()
         → text_lines number time locate (before_spaces s.entry.stock) (best_of depth m.orders locate)
         ≡ flat_map (λ line. front Text number time ++ line) (list_at Text (Some depth) m locate) }
     ensures levels { (line : Side → ℕ → ℕ → ℕ → List ℕ) → (depth : ℕ) → (side : Side) → (orders : List Order)
-        → side_list line (Some depth) side orders ≡ map (λ (x : Level). line side x.price x.shares x.orders) (levels depth orders) }
+        → side_list line (Some depth) side orders ≡ map (λ (x : DepthLevel). line side x.price x.shares x.orders) (levels depth orders) }
 {}

@@ -12,8 +12,8 @@ use Rattle.itch_join.proofs.LawfulRules.{only_lawful}
 use Rattle.itch_join.proofs.JoinerSteps.{always, stands}
 use Rattle.itch_soup.specs.declared.client.ClientAct.{ClientAct}
 use Rattle.itch_soup.specs.declared.client.ClientAct.TheVariants as act
-use Rattle.itch_live.specs.declared.news.Source.{Source}
-use Rattle.itch_live.specs.declared.news.Source.TheVariants as source
+use Rattle.itch_live.specs.declared.news.ServerKind.{ServerKind}
+use Rattle.itch_live.specs.declared.news.ServerKind.TheVariants as source
 use Rattle.itch_live.specs.declared.news.News.{News}
 use Rattle.itch_live.specs.Follows.{Following, Calls, ActsOn, HearsFeed}
 use Rattle.itch_live.specs.Feeds.{Did, Connects, Ticks, Replays, Hears, FitsAct, IsHonest, IsJoining, Does, Followed, StandsJoined}
@@ -43,7 +43,7 @@ called set cap feed f g call (stepped, cap_same, set_same) fits j = record {
 }
 
 module _ {W : Type 0} (contents : W → Option (List ℕ)) (failures : W → Failures) where
-  acted : (set : Wanted) (cap : ℕ) (feed : List (List ℕ)) (f g : Following) (from : Source) (answer : ClientAct) (old new : W) (told : News) → from ≡ f.source
+  acted : (set : Wanted) (cap : ℕ) (feed : List (List ℕ)) (f g : Following) (from : ServerKind) (answer : ClientAct) (old new : W) (told : News) → from ≡ f.source
       → ActsOn contents failures from answer f.joining old told new g.joining → FitsAct (rules_of (has set)) feed (record f { source = from }) answer
       → IsJoining set cap feed f → IsJoining set cap feed g
   acted set cap feed f g from (act.Accepted next) old new told is acts fits j = same_joining set cap feed f g acts.2 j

@@ -22,8 +22,8 @@ use Rattle.itch_soup.specs.Packets.{PacketSpells}
 use Rattle.itch_soup.specs.Connections.{tick_answer, connection_after}
 use Rattle.itch_soup.specs.Clients.{Client, client_turn, client_answer}
 use Rattle.itch_live.specs.declared.news.News.{News}
-use Rattle.itch_live.specs.declared.news.Source.{Source}
-use Rattle.itch_live.specs.declared.news.Source.TheVariants as source
+use Rattle.itch_live.specs.declared.news.ServerKind.{ServerKind}
+use Rattle.itch_live.specs.declared.news.ServerKind.TheVariants as source
 use Rattle.itch_live.specs.declared.sessions.Sessions.{Sessions}
 use Rattle.itch_live.specs.Sessions.{expected, other_name, known_after}
 use Rattle.itch_live.specs.Follows.{Following, Means, ActsOn, HearsFeed, named_in, accepted_as}
@@ -87,7 +87,7 @@ ticked_on tick.Heartbeat c now h = h
 ticked_on tick.Lost c now h = absurd (cc)
 
 -- the expected session after a login was accepted under this name, and not under another one
-pub record Agrees (known : Sessions) (from : Source) (name : List ℕ) : Type 0 where
+pub record Agrees (known : Sessions) (from : ServerKind) (name : List ℕ) : Type 0 where
   pub session : List ℕ
   pub wanted : expected known from ≡ Some session
   pub same : session_name session ≡ session_name name
@@ -103,7 +103,7 @@ first_named : (feed : Option (List ℕ)) (name : List ℕ) → other_name feed (
 first_named None name h = (name, refl, refl)
 first_named (Some wanted) name h = (wanted, refl, same_name wanted name h)
 
-agreed : (known : Sessions) (from : Source) (name : List ℕ) → other_name (expected known from) (Some name) ≡ None → Agrees (known_after known from (Some name)) from name
+agreed : (known : Sessions) (from : ServerKind) (name : List ℕ) → other_name (expected known from) (Some name) ≡ None → Agrees (known_after known from (Some name)) from name
 agreed known source.Live name own = let f = first_named known.feed name own in record { session = f.0; wanted = f.1; same = f.2 }
 agreed known source.Glimpse name own = by_own known.glimpse refl own where
   by_own : (glimpse : Option (List ℕ)) → known.glimpse ≡ glimpse → other_name (option_or glimpse known.feed) (Some name) ≡ None
@@ -115,7 +115,7 @@ agreed known source.Glimpse name own = by_own known.glimpse refl own where
 
 -- a packet changes the joiner only if it is a message
 module _ {W : Type 0} (contents : W → Option (List ℕ)) (failures : W → Failures) where
-  unless_data : (from : Source) (answer : ClientAct) (old new : Joining) (record_old record_new : W) (told : News) → ActsOn contents failures from answer old record_old told record_new new
+  unless_data : (from : ServerKind) (answer : ClientAct) (old new : Joining) (record_old record_new : W) (told : News) → ActsOn contents failures from answer old record_old told record_new new
       → (new ≡ old) ⊎ ((number : ℕ) × (payload : List ℕ) × (answer ≡ act.Data number payload))
   unless_data from (act.Accepted next) old new record_old record_new told (says, kept, same) = inl same
   unless_data from (act.Rejected code) old new record_old record_new told (says, kept, same) = inl same

@@ -4,8 +4,8 @@ use Rattle.std.specs.Option.{option_or}
 use Rattle.itch_frame.specs.declared.tally.Failures.{Failures}
 use Rattle.itch_join.specs.Positions.{Position}
 use Rattle.itch_live.specs.declared.news.News.{News}
-use Rattle.itch_live.specs.declared.news.Source.{Source}
-use Rattle.itch_live.specs.declared.news.Source.TheVariants as source
+use Rattle.itch_live.specs.declared.news.ServerKind.{ServerKind}
+use Rattle.itch_live.specs.declared.news.ServerKind.TheVariants as source
 use Rattle.itch_live.specs.declared.sessions.Sessions.{Sessions}
 use Rattle.itch_live.specs.Sessions.{known_after}
 use Rattle.itch_live.specs.Follows.{Following, accepted_as}
@@ -13,7 +13,7 @@ use Rattle.itch_live.specs.Feeds.{Did, Connects, Ticks, Replays, Hears, Does}
 use Rattle.itch_live.specs.Desks as desks
 use Rattle.itch_live.specs.Desks.{Desk, shot_for, with_shot, answered_with, Call, Event, History}
 
-known_stays : (known : Sessions) (from : Source) (named : Option (List ℕ)) (session : List ℕ) → known.feed ≡ Some session → (known_after known from named).feed ≡ Some session
+known_stays : (known : Sessions) (from : ServerKind) (named : Option (List ℕ)) (session : List ℕ) → known.feed ≡ Some session → (known_after known from named).feed ≡ Some session
 known_stays known source.Live named session there = ap (λ o. option_or o named) there
 known_stays known source.Glimpse named session there = by_own known.glimpse where
   by_own : (own : Option (List ℕ)) → (if not (is_some own) then record known { feed = option_or known.feed named } else known).feed ≡ Some session

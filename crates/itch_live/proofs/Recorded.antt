@@ -30,8 +30,8 @@ use Rattle.itch_join.proofs.CallCases.{IsLiveCase, live_case_is, IsSnapshotCase,
 use Rattle.itch_join.proofs.Maps.{get-remove, get-from}
 use Rattle.itch_soup.specs.declared.client.ClientAct.{ClientAct}
 use Rattle.itch_soup.specs.declared.client.ClientAct.TheVariants as act
-use Rattle.itch_live.specs.declared.news.Source.{Source}
-use Rattle.itch_live.specs.declared.news.Source.TheVariants as source
+use Rattle.itch_live.specs.declared.news.ServerKind.{ServerKind}
+use Rattle.itch_live.specs.declared.news.ServerKind.TheVariants as source
 use Rattle.itch_live.specs.declared.sessions.Sessions.{Sessions}
 use Rattle.itch_live.specs.declared.news.News.{News}
 use Rattle.itch_live.specs.Follows.{Following, Calls, Records, ActsOn, HearsFeed, snapshot_news}
@@ -312,7 +312,7 @@ module _ {W : Type 0} (contents : W → Option (List ℕ)) (failures : W → Fai
             moves past (Hears piece now result old new) f g old new payload move.was move.now w.0 move.was_is move.now_is move.next
             (subst (λ n. slice_get feed (n - 1) ≡ Some payload) move.numbered (fits move.is_message)) w.1 k
 
-  acted : (past : List (Did W)) (piece : List ℕ) (now : ℕ) (result : ℕ × News) (old new : W) (f g : Following) (from : Source) (answer : ClientAct) → from ≡ f.source
+  acted : (past : List (Did W)) (piece : List ℕ) (now : ℕ) (result : ℕ × News) (old new : W) (f g : Following) (from : ServerKind) (answer : ClientAct) → from ≡ f.source
       → ActsOn contents failures from answer f.joining old result.1 new g.joining → FitsAct R feed (record f { source = from }) answer → IsJoining set 0 feed f → IsWritten result.1
       → Kept past f old → Kept (Hears piece now result old new ∷ past) g new
   acted past piece now result old new f g from (act.Accepted next) is (said, same, stays) fits j written k = unchanged past (Hears piece now result old new) f g old new (ap joined_in said) same (ap (λ x. x.state.joined) stays) k

@@ -16,8 +16,8 @@ use Rattle.itch_join.specs.Steps.{live_case, LiveBy, NextBy, SnapshotCase, SnapH
 use Rattle.itch_join.proofs.CallCases.{IsSnapshotCase, snapshot_case_is}
 use Rattle.itch_soup.specs.declared.client.ClientAct.{ClientAct}
 use Rattle.itch_soup.specs.declared.client.ClientAct.TheVariants as act
-use Rattle.itch_live.specs.declared.news.Source.{Source}
-use Rattle.itch_live.specs.declared.news.Source.TheVariants as source
+use Rattle.itch_live.specs.declared.news.ServerKind.{ServerKind}
+use Rattle.itch_live.specs.declared.news.ServerKind.TheVariants as source
 use Rattle.itch_live.specs.declared.news.News.{News}
 use Rattle.itch_live.specs.Follows.{Following, ActsOn}
 use Rattle.itch_live.specs.Feeds.{Did, Connects, Ticks, Replays, Hears, Does}
@@ -109,7 +109,7 @@ restarted_same None s = refl
 restarted_same (Some j) s = refl
 
 module _ {W : Type 0} (contents : W → Option (List ℕ)) (failures : W → Failures) where
-  acted : (from : Source) (answer : ClientAct) (f g : Following) (old new : W) (told : News) → ActsOn contents failures from answer f.joining old told new g.joining
+  acted : (from : ServerKind) (answer : ClientAct) (f g : Following) (old new : W) (told : News) → ActsOn contents failures from answer f.joining old told new g.joining
       → Advances f.joining.state.joined g.joining.state.joined
   acted from (act.Accepted next) f g old new told (says, kept, same) = same_position _ _ (ap (λ x. x.state.joined) same)
   acted from (act.Rejected code) f g old new told (says, kept, same) = same_position _ _ (ap (λ x. x.state.joined) same)

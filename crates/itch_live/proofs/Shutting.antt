@@ -8,8 +8,8 @@ use Rattle.itch_join.specs.States.{Joining}
 use Rattle.itch_soup.specs.declared.client.ClientAct.{ClientAct}
 use Rattle.itch_soup.specs.declared.client.ClientAct.TheVariants as act
 use Rattle.itch_soup.specs.Clients.{Client}
-use Rattle.itch_live.specs.declared.news.Source.{Source}
-use Rattle.itch_live.specs.declared.news.Source.TheVariants as source
+use Rattle.itch_live.specs.declared.news.ServerKind.{ServerKind}
+use Rattle.itch_live.specs.declared.news.ServerKind.TheVariants as source
 use Rattle.itch_live.specs.declared.news.News.{News}
 use Rattle.itch_live.specs.declared.news.News.TheVariants as news
 use Rattle.itch_live.specs.declared.sessions.Sessions.{Sessions}
@@ -36,14 +36,14 @@ or_same None named other is = absurd (cc)
 of_feed : (known : Sessions) (feed : Option (List ℕ)) → feed ≡ known.feed → record known { feed = feed } ≡ known
 of_feed known feed same = ap (λ f. record known { feed = f }) same
 
-pub none_known : (known : Sessions) (from : Source) → known_after known from None ≡ known
+pub none_known : (known : Sessions) (from : ServerKind) → known_after known from None ≡ known
 none_known known source.Live = of_feed known _ (or_none known.feed)
 none_known known source.Glimpse = by_own known.glimpse where
   by_own : (own : Option (List ℕ)) → (if not (is_some own) then record known { feed = option_or known.feed None } else known) ≡ known
   by_own None = of_feed known _ (or_none known.feed)
   by_own (Some session) = refl
 
-known_same : (known : Sessions) (from : Source) (named : Option (List ℕ)) (other : List ℕ) → other_name (expected known from) named ≡ Some other → known_after known from named ≡ known
+known_same : (known : Sessions) (from : ServerKind) (named : Option (List ℕ)) (other : List ℕ) → other_name (expected known from) named ≡ Some other → known_after known from named ≡ known
 known_same known source.Live named other is = of_feed known _ (or_same known.feed named other is)
 known_same known source.Glimpse named other is = by_own known.glimpse is where
   by_own : (own : Option (List ℕ)) → other_name (option_or own known.feed) named ≡ Some other → (if not (is_some own) then record known { feed = option_or known.feed named } else known) ≡ known
@@ -52,7 +52,7 @@ known_same known source.Glimpse named other is = by_own known.glimpse is where
 
 module _ {W : Type 0} (contents : W → Option (List ℕ)) (failures : W → Failures) where
   -- an acceptance under another name has no effect on the joiner and the record
-  nothing_taken : (wanted named : Option (List ℕ)) (from : Source) (answer : ClientAct) (other : List ℕ) (old new : Joining) (record_old record_new : W) (told : News)
+  nothing_taken : (wanted named : Option (List ℕ)) (from : ServerKind) (answer : ClientAct) (other : List ℕ) (old new : Joining) (record_old record_new : W) (told : News)
       → other_name wanted (accepted_as answer named) ≡ Some other → ActsOn contents failures from answer old record_old told record_new new → (record_new ≡ record_old) × (new ≡ old)
   nothing_taken wanted named from (act.Accepted next) other old new record_old record_new told is acts = (acts.1, acts.2)
   nothing_taken wanted named from (act.Rejected code) other old new record_old record_new told is acts = absurd_other wanted other is
@@ -61,7 +61,7 @@ module _ {W : Type 0} (contents : W → Option (List ℕ)) (failures : W → Fai
   nothing_taken wanted named from act.Ended other old new record_old record_new told is acts = absurd_other wanted other is
   nothing_taken wanted named from (act.Fault fault) other old new record_old record_new told is acts = absurd_other wanted other is
 
-  pub by_name : (known : Sessions) (from : Source) (s heard t : Client) (payload : List ℕ) (now : ℕ) (answer : ClientAct) (named : Option (List ℕ)) (old new : Joining)
+  pub by_name : (known : Sessions) (from : ServerKind) (s heard t : Client) (payload : List ℕ) (now : ℕ) (answer : ClientAct) (named : Option (List ℕ)) (old new : Joining)
       (record_old record_new : W) (told : News) (result : News × Sessions) (o : Option (List ℕ)) → Means s payload now answer named heard
       → other_name (expected known from) (accepted_as answer named) ≡ o → ActsOn contents failures from answer old record_old told record_new new
       → result ≡ (news_or o told, known_after known from (accepted_as answer named)) → t ≡ shut_if o heard now

@@ -16,8 +16,8 @@ use Rattle.itch_soup.specs.declared.login.Credentials.{Credentials}
 use Rattle.itch_soup.specs.declared.client.ClientAct.{ClientAct}
 use Rattle.itch_soup.specs.declared.client.ClientAct.TheVariants as act
 use Rattle.itch_soup.specs.Clients.{Client}
-use Rattle.itch_live.specs.declared.news.Source.{Source}
-use Rattle.itch_live.specs.declared.news.Source.TheVariants as source
+use Rattle.itch_live.specs.declared.news.ServerKind.{ServerKind}
+use Rattle.itch_live.specs.declared.news.ServerKind.TheVariants as source
 use Rattle.itch_live.specs.declared.news.News.{News}
 use Rattle.itch_live.specs.Follows.{Following, connected, ticked, Means, HearsFeed, Replayed}
 
@@ -31,7 +31,7 @@ pub data Did (W : Type 0) : Type 0 where
 
 -- a message of the live feed is the feed's message with its number; a message of a snapshot consists of bytes, and the snapshot is one of the
 -- feed
-abbrev pub FitsSource : Rules → List (List ℕ) → State → Source → ℕ → List ℕ → Type 0
+abbrev pub FitsSource : Rules → List (List ℕ) → State → ServerKind → ℕ → List ℕ → Type 0
 FitsSource R feed s source.Live number payload = is_number number ≡ true → slice_get feed (number - 1) ≡ Some payload
 FitsSource R feed s source.Glimpse number payload = AreBytes payload × IsOfFeed R feed (snapshot_case R s payload)
 

@@ -24,8 +24,8 @@ use Rattle.itch_soup.specs.declared.origin.Origin.TheVariants.{Server}
 use Rattle.itch_soup.specs.declared.fault.SoupFault.{SoupFault}
 use Rattle.itch_soup.specs.Packets.{PacketSpells, packet_fault}
 use Rattle.itch_soup.specs.Clients.{Client, new_client, client_answer, client_after_packet, client_after_tick}
-use Rattle.itch_live.specs.declared.news.Source.{Source}
-use Rattle.itch_live.specs.declared.news.Source.TheVariants as source
+use Rattle.itch_live.specs.declared.news.ServerKind.{ServerKind}
+use Rattle.itch_live.specs.declared.news.ServerKind.TheVariants as source
 use Rattle.itch_live.specs.declared.news.News.{News}
 use Rattle.itch_live.specs.declared.news.News.TheVariants as news
 use Rattle.itch_live.specs.declared.sessions.Sessions.{Sessions}
@@ -35,7 +35,7 @@ use Rattle.itch_live.specs.Sessions.{expected, other_name, known_after}
 -- session, and its joiner
 pub record Following : Type 0 where
   pub sessions : Sessions
-  pub source : Source
+  pub source : ServerKind
   pub held : List ℕ
   pub session : Client
   pub joining : Joining
@@ -44,7 +44,7 @@ abbrev pub new_following : Credentials → Sessions → Joining → ℕ → Foll
 new_following credentials known joining now = record { sessions = known; source = source.Live; held = []; session = new_client credentials 0 now; joining = joining }
 
 -- while there is no market, the login asks for a complete snapshot; afterwards it asks for the feed's messages from the next number on
-abbrev pub source_for : Option Position → Source
+abbrev pub source_for : Option Position → ServerKind
 source_for None = source.Glimpse
 source_for (Some j) = source.Live
 
@@ -128,12 +128,12 @@ module _ {W : Type 0} (contents : W → Option (List ℕ)) (failures : W → Fai
   TakesLive old number payload record_old told record_new new =
       (result : Result Live JoinFault) × Calls old (CallLive number payload result) new × Records payload result record_old told record_new
 
-  abbrev pub TakesFrom : Source → Joining → ℕ → List ℕ → W → News → W → Joining → Type 0
+  abbrev pub TakesFrom : ServerKind → Joining → ℕ → List ℕ → W → News → W → Joining → Type 0
   TakesFrom source.Glimpse old number payload record_old told record_new new = TakesSnapshot old payload told new × (record_new ≡ record_old)
   TakesFrom source.Live old number payload record_old told record_new new = TakesLive old number payload record_old told record_new new
 
   -- only messages reach the joiner
-  abbrev pub ActsOn : Source → ClientAct → Joining → W → News → W → Joining → Type 0
+  abbrev pub ActsOn : ServerKind → ClientAct → Joining → W → News → W → Joining → Type 0
   ActsOn from (act.Accepted next) old record_old told record_new new = (told ≡ news.Accepted next) × (record_new ≡ record_old) × (new ≡ old)
   ActsOn from (act.Rejected code) old record_old told record_new new = (told ≡ news.Rejected code) × (record_new ≡ record_old) × (new ≡ old)
   ActsOn from (act.Data number payload) old record_old told record_new new = TakesFrom from old number payload record_old told record_new new
@@ -142,7 +142,7 @@ module _ {W : Type 0} (contents : W → Option (List ℕ)) (failures : W → Fai
   ActsOn from (act.Fault fault) old record_old told record_new new = (told ≡ news.Broken fault) × (record_new ≡ record_old) × (new ≡ old)
 
   -- the meaning of a packet is acted on; if it accepts a login, the session that it names is known from now on
-  abbrev pub TakesPacket : Source → Sessions → ClientAct → Option (List ℕ) → Joining → W → News × Sessions → W → Joining → Type 0
+  abbrev pub TakesPacket : ServerKind → Sessions → ClientAct → Option (List ℕ) → Joining → W → News × Sessions → W → Joining → Type 0
   TakesPacket from known answer accepted old record_old result record_new new =
       ActsOn from answer old record_old result.0 record_new new × (result.1 ≡ known_after known from accepted)
 
@@ -152,7 +152,7 @@ module _ {W : Type 0} (contents : W → Option (List ℕ)) (failures : W → Fai
       (result ≡ (news.OtherSession other, known)) × (t ≡ client_after_packet s is.EndOfSession now) × (record_new ≡ record_old) × (new ≡ old)
 
   -- the meaning of a payload is acted on, unless it accepts a login under the name of a session other than the expected one
-  abbrev pub HearsPacket : Source → Sessions → Client → Joining → List ℕ → ℕ → W → News × Sessions → W → Client → Joining → Type 0
+  abbrev pub HearsPacket : ServerKind → Sessions → Client → Joining → List ℕ → ℕ → W → News × Sessions → W → Client → Joining → Type 0
   HearsPacket from known s old payload now record_old result record_new t new =
       (answer : ClientAct) × (named : Option (List ℕ)) × (heard : Client) × Means s payload now answer named heard
       × (((other : List ℕ) × (other_name (expected known from) (accepted_as answer named) ≡ Some other) × Shuts known other heard old now record_old result record_new t new)

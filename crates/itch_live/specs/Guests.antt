@@ -17,8 +17,8 @@ use Rattle.itch_soup.specs.Servers.{Server, new_server, server_answer, server_af
 use Rattle.itch_soup.specs.Sending.{session_packets, messages_from}
 use Rattle.itch_live.specs.declared.gone.Gone.{Gone}
 use Rattle.itch_live.specs.declared.gone.Gone.TheVariants as reason
-use Rattle.itch_live.specs.declared.login.Login.{Login}
-use Rattle.itch_live.specs.declared.login.Login.TheVariants as login
+use Rattle.itch_live.specs.declared.login.LoginState.{LoginState}
+use Rattle.itch_live.specs.declared.login.LoginState.TheVariants as login
 use Rattle.itch_live.specs.declared.told.Told.{Told}
 use Rattle.itch_live.specs.declared.told.Told.TheVariants as told
 
@@ -75,11 +75,11 @@ abbrev pub shot_in : Option ℕ → Option (List ℕ) → ℕ → Option (List �
 shot_in snapshot bytes number = if is_at snapshot number then bytes else None
 
 -- the accepted login, and the code of a rejected one
-abbrev pub asked_of : Login → Option LoginRequest
+abbrev pub asked_of : LoginState → Option LoginRequest
 asked_of (login.Accepted request) = Some request
 asked_of other = None
 
-abbrev pub rejection_of : Login → Option ℕ
+abbrev pub rejection_of : LoginState → Option ℕ
 rejection_of (login.Rejected code) = Some code
 rejection_of other = None
 

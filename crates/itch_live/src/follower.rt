@@ -7,7 +7,7 @@ ghost use Rattle.itch_soup.specs.Connections.{tick_answer};
 ghost use Rattle.itch_soup.specs.Clients.{login_of};
 ghost use Rattle.itch_soup.specs.Packets.{packet_spelling};
 
-use crate::news::{News, Source};
+use crate::news::{News, ServerKind};
 use crate::sessions::{Sessions, other_name};
 use itch_book::OrderBook;
 use itch_codec::{Alpha, CodecFault, GREATEST_SEQ, Message};
@@ -26,7 +26,7 @@ use std::marker::Model;
 #[derive(Drop)]
 pub struct Follower<B: OrderBook> {
     sessions: Sessions,
-    source: Source,
+    source: ServerKind,
     splitter: Splitter<B::Alloc>,
     session: ClientSession,
     joiner: Joiner<B>,
@@ -62,7 +62,7 @@ impl<B: OrderBook> Follower<B> {
     {
         Ok(Follower {
             sessions,
-            source: Source::Live,
+            source: ServerKind::Live,
             splitter: Splitter::new(alloc)?,
             session: ClientSession::new(credentials, 0, now_ms),
             joiner,
@@ -77,8 +77,8 @@ impl<B: OrderBook> Follower<B> {
         ensures login { result ≡ packet_spelling (Packet.LoginRequest (login_of self.new.session)) }
     {
         let (source, next) = match self.joiner.next() {
-            Some(next) => (Source::Live, next.min(GREATEST_SEQ)),
-            None => (Source::Glimpse, 1),
+            Some(next) => (ServerKind::Live, next.min(GREATEST_SEQ)),
+            None => (ServerKind::Glimpse, 1),
         };
         let credentials = asking(credentials, self.sessions.expected(source));
         self.joiner.restart();
@@ -210,7 +210,7 @@ fn shut_if(other: Option<Alpha<10>>, session: &mut ClientSession, news: News, no
 fn hear_packet<B: OrderBook, W: CountedWrite>(
     session: &mut ClientSession,
     joiner: &mut Joiner<B>,
-    source: Source,
+    source: ServerKind,
     sessions: &mut Sessions,
     payload: &[u8],
     now_ms: u64,
@@ -236,7 +236,7 @@ fn hear_packet<B: OrderBook, W: CountedWrite>(
 fn act_on<B: OrderBook, W: CountedWrite>(
     act: ClientAct<'_>,
     joiner: &mut Joiner<B>,
-    source: Source,
+    source: ServerKind,
     record: &mut W,
 ) -> News
     ensures { follows.ActsOn W.contents W.failures source act.entry joiner.old record.old result record.new joiner.new }
@@ -245,8 +245,8 @@ fn act_on<B: OrderBook, W: CountedWrite>(
         ClientAct::Accepted { next } => News::Accepted { next: next.value() },
         ClientAct::Rejected(code) => News::Rejected(code),
         ClientAct::Data { number, payload } => match source {
-            Source::Glimpse => take_snapshot(joiner, payload.bytes()),
-            Source::Live => take_live(joiner, number, payload.bytes(), record),
+            ServerKind::Glimpse => take_snapshot(joiner, payload.bytes()),
+            ServerKind::Live => take_live(joiner, number, payload.bytes(), record),
         },
         ClientAct::Nothing => News::Nothing,
         ClientAct::Ended => News::Ended,

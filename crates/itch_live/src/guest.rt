@@ -5,7 +5,7 @@ ghost use Rattle.itch_frame.specs.Blocks.{block};
 ghost use Rattle.itch_live.specs.Guests as guests;
 
 use crate::gone::Gone;
-use crate::login::Login;
+use crate::login::LoginState;
 use crate::pending_packet::PendingPacket;
 use crate::shot::Shot;
 use crate::told::Told;
@@ -34,7 +34,7 @@ const SHARE: usize = 65_536;
 pub struct Guest<A: Allocator> {
     splitter: Splitter<A>,
     session: ServerSession,
-    login: Login,
+    login: LoginState,
     note: PendingPacket,
     told: Told<A>,
     taken: usize,
@@ -67,7 +67,7 @@ impl<A: Allocator> Guest<A> {
         Ok(Guest {
             splitter: Splitter::new(alloc)?,
             session: ServerSession::new(config, 0, now_ms),
-            login: Login::Awaited,
+            login: LoginState::Awaited,
             note: PendingPacket::none(),
             told: Told::Nothing,
             taken: 0,
@@ -120,12 +120,12 @@ impl<A: Allocator> Guest<A> {
             ServerAct::Accept { next } => {
                 let packet = self.session.accepted(next);
                 self.note(&packet, now_ms);
-                self.login = Login::accepted(login);
+                self.login = LoginState::accepted(login);
             }
             ServerAct::Reject(code) => {
                 let packet = ServerSession::rejected(code);
                 self.note(&packet, now_ms);
-                self.login = Login::Rejected { code };
+                self.login = LoginState::Rejected { code };
             }
             ServerAct::Nothing => {}
             ServerAct::Close => self.go(Gone::Left),

@@ -35,7 +35,7 @@ pub use desk::Desk;
 pub use follower::Follower;
 pub use gone::Gone;
 pub use guest::Guest;
-pub use news::{News, Source};
+pub use news::{News, ServerKind};
 pub use pending_packet::PendingPacket;
 pub use player::Player;
 pub use sessions::Sessions;

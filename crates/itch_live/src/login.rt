@@ -6,7 +6,7 @@ use itch_soup::LoginRequest;
 
 /// The state of a client's login.
 #[derive(Clone, Copy)]
-pub(crate) enum Login {
+pub(crate) enum LoginState {
     /// No login was answered yet.
     Awaited,
     /// The login was accepted.
@@ -15,29 +15,29 @@ pub(crate) enum Login {
     Rejected { code: u8 },
 }
 
-impl Login {
+impl LoginState {
     /// Returns the state after this login was accepted, if there is one.
-    pub(crate) fn accepted(login: Option<LoginRequest>) -> Login
+    pub(crate) fn accepted(login: Option<LoginRequest>) -> LoginState
         ensures asked { guests.asked_of result ≡ login }
         ensures rejection { guests.rejection_of result ≡ None }
     {
         match login {
-            Some(login) => Login::Accepted(login),
-            None => Login::Awaited,
+            Some(login) => LoginState::Accepted(login),
+            None => LoginState::Awaited,
         }
     }
 
     pub(crate) fn is_accepted(&self) -> bool
         ensures { result ≡ is_some (guests.asked_of self.now) }
     {
-        matches!(self, Login::Accepted(_))
+        matches!(self, LoginState::Accepted(_))
     }
 
     pub(crate) fn rejection(&self) -> Option<u8>
         ensures { result ≡ guests.rejection_of self.now }
     {
         match self {
-            Login::Rejected { code } => Some(*code),
+            LoginState::Rejected { code } => Some(*code),
             _ => None,
         }
     }

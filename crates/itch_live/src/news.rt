@@ -32,7 +32,7 @@ pub enum News {
 
 /// The kind of server that a connection is made to: a snapshot server or a live feed.
 #[derive(Clone, Copy, Debug, PartialEq, Eq)]
-pub enum Source {
+pub enum ServerKind {
     Glimpse,
     Live,
 }

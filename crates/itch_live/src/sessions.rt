@@ -4,7 +4,7 @@ ghost use Rattle.std.specs.Str.{bytes_eq};
 ghost use Rattle.itch_soup.specs.Names.{session_name};
 ghost use Rattle.itch_live.specs.Sessions as sessions;
 
-use crate::news::Source;
+use crate::news::ServerKind;
 use itch_codec::Alpha;
 use itch_codec::spaces::after_spaces;
 
@@ -23,27 +23,27 @@ pub struct Sessions {
 
 impl Sessions {
     /// Returns the session that a server must serve, if it is known.
-    pub(crate) fn expected(&self, source: Source) -> Option<Alpha<10>>
+    pub(crate) fn expected(&self, source: ServerKind) -> Option<Alpha<10>>
         ensures { result ≡ sessions.expected self.now source }
     {
         match source {
-            Source::Live => self.feed,
-            Source::Glimpse => self.glimpse.or(self.feed),
+            ServerKind::Live => self.feed,
+            ServerKind::Glimpse => self.glimpse.or(self.feed),
         }
     }
 
     // Returns whether a server uses the feed's name for the session.
-    fn names_feed(&self, source: Source) -> bool
+    fn names_feed(&self, source: ServerKind) -> bool
         ensures { result ≡ sessions.names_feed self.now source }
     {
         match source {
-            Source::Live => true,
-            Source::Glimpse => self.glimpse.is_none(),
+            ServerKind::Live => true,
+            ServerKind::Glimpse => self.glimpse.is_none(),
         }
     }
 
     /// Learns the feed's session from the name under which a server accepted a login, if it did.
-    pub(crate) fn learn(&mut self, source: Source, named: Option<Alpha<10>>)
+    pub(crate) fn learn(&mut self, source: ServerKind, named: Option<Alpha<10>>)
         ensures { self.new ≡ sessions.known_after self.old source named }
     {
         if self.names_feed(source) {

@@ -9,7 +9,7 @@ use Rattle.itch_day.specs.Marks.{is_in}
 use Rattle.itch_day.specs.declared.limit.Limit.{Limit}
 use Rattle.itch_day.specs.declared.mark.Mark.{Mark}
 use Rattle.itch_offsets.specs.declared.begin.Range.{Range}
-use Rattle.itch_offsets.specs.declared.row.Row.{Row}
+use Rattle.itch_offsets.specs.declared.row.IndexRow.{IndexRow}
 
 -- the range of a part of a file, unless an order is followed
 abbrev pub range_unless : Option ℕ → Range → Option Range
@@ -30,15 +30,15 @@ abbrev pub may_begin : Range → Mark → Bool
 may_begin range mark = is_beyond range.start mark && is_in range.limit mark
 
 -- the number of messages of a row, if there is one
-abbrev pub most_of : Option Row → ℕ
+abbrev pub most_of : Option IndexRow → ℕ
 most_of None = 0
 most_of (Some row) = row.mark.count
 
 -- a row, if a range can be read from there and it has more messages than the best one so far
-abbrev pub better : Range → Option Row → Row → Option Row
+abbrev pub better : Range → Option IndexRow → IndexRow → Option IndexRow
 better range best row = if nat_lt (most_of best) row.mark.count && may_begin range row.mark then Some row else best
 
 -- the best one of these rows and of those before
-unfoldable pub begin_after : Range → Option Row → List Row → Option Row
+unfoldable pub begin_after : Range → Option IndexRow → List IndexRow → Option IndexRow
 begin_after range best [] = best
 begin_after range best (row ∷ rows) = begin_after range (better range best row) rows

@@ -2,7 +2,7 @@
 ghost use Rattle.std.specs.Prelude.{◌≡◌, None, option_map};
 ghost use Rattle.itch_offsets.specs.Beginnings.{begin_after, better, may_begin, range_in, range_of};
 
-use crate::row::Row;
+use crate::row::IndexRow;
 use itch_commands::{Command, FileKind, Filters, Limit, Start};
 use itch_day::Mark;
 
@@ -50,7 +50,7 @@ pub fn may_begin(mark: &Mark, range: Range) -> bool
 }
 
 /// Returns the row with the most messages from which a range can be read, if there is one.
-pub fn begin_from(rows: &[Row], range: Range) -> Option<Row>
+pub fn begin_from(rows: &[IndexRow], range: Range) -> Option<IndexRow>
     ensures { result ≡ begin_after range None rows.now }
 {
     let mut best = None;
@@ -61,7 +61,7 @@ pub fn begin_from(rows: &[Row], range: Range) -> Option<Row>
 }
 
 // Returns the better of two rows for a range: the second, if the range can be read from there, and it has more messages.
-fn better(best: Option<Row>, row: Row, range: Range) -> Option<Row>
+fn better(best: Option<IndexRow>, row: IndexRow, range: Range) -> Option<IndexRow>
     ensures { result ≡ better range best row }
 {
     let most = match best {

@@ -1,35 +1,54 @@
 //! The Stock Directory messages of a day.
-ghost use Rattle.std.specs.Prelude.{◌≡◌, ◌++◌, length, OnOk};
-ghost use Rattle.itch_offsets.specs.Rows.{directory_line};
+ghost use Rattle.std.specs.Prelude.{◌≡◌, ◌<◌, ◌++◌, ℕ, List, [], length, OnOk};
+ghost use Rattle.itch_codec.specs.Messages.{message_of};
+ghost use Rattle.itch_commands.specs.Showing.{IsClean};
+ghost use Rattle.itch_commands.specs.declared.fault.Source.TheVariants.{Only};
+ghost use Rattle.itch_commands.specs.declared.fault.ToolFault.TheVariants.{Stopped};
+ghost use Rattle.itch_frame.specs.Blocks.{Blocks, block};
+ghost use Rattle.itch_offsets.specs.Passes.{kept_block};
+ghost use Rattle.itch_offsets.specs.Rows.{directory_line, directory_lines};
 
 use itch_codec::{CodecFault, Message};
+use itch_commands::{Source, ToolFault};
 use itch_day::Sink;
+use itch_frame::split_first_block;
+use itch_market::{ReplayEnd, Stop};
 use std::alloc::{AllocError, Allocator};
+use std::marker::Model;
 
 /// The number of bytes in the payload of a Stock Directory message.
 const PAYLOAD: usize = 39;
 
-/// Appends a line for each of these payloads of Stock Directory messages, which follow one another.
-pub(crate) fn push_directory<A: Allocator>(
+/// Appends a line for each of these blocks of Stock Directory messages.
+pub(crate) fn push_directory<A: Allocator + Copy>(
+    alloc: A,
     lines: &mut Vec<u8, A>,
-    payloads: &[u8],
-) -> Result<(), AllocError> {
-    for payload in payloads.chunks_exact(PAYLOAD) {
-        push_payload(lines, payload)?;
+    directory: &[u8],
+) -> Result<(), AllocError>
+    ensures { (payloads : List (List ℕ)) → (rest : List ℕ) → Blocks directory.now payloads rest
+        → OnOk result (lines.new.items ≡ lines.old.items ++ directory_lines payloads) }
+{
+    let mut rest = directory;
+    while let Some((payload, after)) = split_first_block(rest) {
+        push_payload(alloc, lines, payload)?;
+        rest = after;
     }
     Ok(())
 }
 
 // Appends the line of the payload of a Stock Directory message.
-fn push_payload<A: Allocator>(lines: &mut Vec<u8, A>, payload: &[u8]) -> Result<(), AllocError>
-    requires { length payload.now ≡ 39 }
+fn push_payload<A: Allocator + Copy>(
+    alloc: A,
+    lines: &mut Vec<u8, A>,
+    payload: &[u8],
+) -> Result<(), AllocError>
     ensures { OnOk result (lines.new.items ≡ lines.old.items ++ directory_line payload.now) }
 {
-    let mut digits = [0; 2 * PAYLOAD];
-    hex::encode_to_slice(payload, &mut digits).unwrap();
+    let digits = hex::encode(alloc, payload)?;
     lines.extend_from_slice(b"{\"directory\":\"")?;
-    lines.extend_from_slice(&digits)?;
-    lines.extend_from_slice(b"\"}\n")
+    lines.extend_from_slice(digits.as_bytes())?;
+    lines.extend_from_slice(b"\"}\n")?;
+    Ok(())
 }
 
 /// Returns the block of the Stock Directory message of a line, if it is such a line.
@@ -43,38 +62,75 @@ pub(crate) fn block_of(line: &[u8]) -> Option<[u8; PAYLOAD + 2]> {
     Some(block)
 }
 
-/// The payloads of the Stock Directory messages that passed, one after another.
+/// The blocks of the Stock Directory messages that passed, one after another.
 #[derive(Drop)]
-pub(crate) struct Directory<A: Allocator> {
-    pub(crate) payloads: Vec<u8, A>,
+pub(crate) struct DirectoryBlocks<A: Allocator> {
+    blocks: Vec<u8, A>,
 }
 
-/// The reason why a message does not pass.
-#[derive(Drop)]
-pub(crate) enum NotPassed {
-    /// Its payload is not a valid message.
-    Codec(CodecFault),
-    /// Memory ran out for a Stock Directory message.
-    OutOfMemory,
+impl<A: Allocator> Model for DirectoryBlocks<A> {
+    ghost use Rattle.std.specs.Prelude.{ℕ, List};
+
+    ghost Value = { List ℕ };
+
+    ghost view = { λ d. d.blocks.items };
 }
 
-impl From<AllocError> for NotPassed {
-    fn from(_error: AllocError) -> NotPassed {
-        NotPassed::OutOfMemory
+impl<A: Allocator> DirectoryBlocks<A> {
+    pub(crate) fn new(alloc: A) -> DirectoryBlocks<A>
+        ensures { result ≡ [] }
+    {
+        DirectoryBlocks {
+            blocks: Vec::new(alloc),
+        }
+    }
+
+    /// Returns the blocks.
+    pub(crate) fn blocks(&self) -> &[u8]
+        ensures { result.now ≡ self.now }
+    {
+        &self.blocks
+    }
+
+    pub(crate) fn clear(&mut self)
+        ensures { self.new ≡ [] }
+    {
+        self.blocks.clear();
+    }
+
+    // Keeps the block of a message if it is a Stock Directory message.
+    fn keep(&mut self, payload: &[u8], message: &Message<'_>) -> Result<(), AllocError>
+        requires clean { IsClean payload.now }
+        requires message { message.now ≡ message_of payload.now }
+        ensures { OnOk result (self.new ≡ self.old ++ kept_block payload.now) }
+    {
+        match message {
+            Message::StockDirectory(_) => self.push(payload),
+            _ => Ok(()),
+        }
+    }
+
+    // Appends the block of a payload.
+    fn push(&mut self, payload: &[u8]) -> Result<(), AllocError>
+        requires { length payload.now < 65536 }
+        ensures { OnOk result (self.new ≡ self.old ++ block payload.now) }
+    {
+        let len = payload.len() as u16;
+        self.blocks.extend_from_slice(&len.to_be_bytes())?;
+        self.blocks.extend_from_slice(payload)
     }
 }
 
-impl<A: Allocator> Sink for Directory<A> {
-    ghost use Rattle.std.specs.Prelude.{◌≡◌};
-    ghost use Rattle.itch_codec.specs.Messages.{fault};
+impl<A: Allocator> Sink for DirectoryBlocks<A> {
+    ghost use Rattle.itch_offsets.specs.Passes.{RefusesEntry, TakesEntry};
 
-    type Fault = NotPassed;
+    type Fault = ToolFault;
 
     ghost is_ready = { λ _ _. Unit {0} };
 
-    ghost takes = { λ s number payload t. fault payload ≡ Rattle.std.specs.Prelude.None };
+    ghost takes = { TakesEntry };
 
-    ghost refuses = { λ s number payload why t. Unit {0} };
+    ghost refuses = { RefusesEntry };
 
     #[inline(always)]
     fn take(
@@ -82,12 +138,20 @@ impl<A: Allocator> Sink for Directory<A> {
         number: u64,
         payload: &[u8],
         message: &Result<Message<'_>, CodecFault>,
-    ) -> Result<(), NotPassed> {
-        let _number = number;
+    ) -> Result<(), ToolFault> {
         match message {
-            Ok(Message::StockDirectory(_)) => Ok(self.payloads.extend_from_slice(payload)?),
-            Ok(_) => Ok(()),
-            Err(fault) => Err(NotPassed::Codec(*fault)),
+            Ok(message) => Ok(self.keep(payload, message)?),
+            Err(fault) => Err(stopped(number - 1, Stop::Codec(*fault))),
         }
+    }
+}
+
+/// Returns the fault of the only file, which stops after this many messages.
+pub(crate) fn stopped(count: u64, stop: Stop) -> ToolFault
+    ensures { result ≡ Stopped Only (record { count = count; stop = stop }) }
+{
+    ToolFault::Stopped {
+        file: Source::Only,
+        end: ReplayEnd { count, stop },
     }
 }

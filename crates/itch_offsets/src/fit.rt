@@ -7,7 +7,7 @@ use std::fmt;
 
 /// The reason why an index is not used for a day file.
 #[derive(Clone, Copy, Debug, PartialEq, Eq)]
-pub enum Unfit {
+pub enum IndexUnfit {
     /// It is not an index of a day file, or it was changed.
     Invalid,
     /// It covers messages beyond the end of the file.
@@ -16,24 +16,24 @@ pub enum Unfit {
     OtherDay,
 }
 
-impl fmt::Display for Unfit {
+impl fmt::Display for IndexUnfit {
     fn fmt<W: fmt::Write>(&self, f: &mut fmt::Formatter<W>) -> fmt::Result {
         f.write_str(match self {
-            Unfit::Invalid => "index: not of a day file",
-            Unfit::Beyond => "index: beyond the end of the file",
-            Unfit::OtherDay => "index: of another day",
+            IndexUnfit::Invalid => "index: not of a day file",
+            IndexUnfit::Beyond => "index: beyond the end of the file",
+            IndexUnfit::OtherDay => "index: of another day",
         })
     }
 }
 
 /// Returns the reason why an index is not used for a day file, if there is one. `recorded` is the fingerprint of a row, and `found` that of
 /// the file's bytes before the row, if the file is long enough.
-pub fn why_unfit(recorded: Fingerprint, found: Option<Fingerprint>) -> Option<Unfit>
+pub fn why_unfit(recorded: Fingerprint, found: Option<Fingerprint>) -> Option<IndexUnfit>
     ensures { result ≡ unfit_of recorded found }
 {
     match found {
-        None => Some(Unfit::Beyond),
-        Some(found) if recorded != found => Some(Unfit::OtherDay),
+        None => Some(IndexUnfit::Beyond),
+        Some(found) if recorded != found => Some(IndexUnfit::OtherDay),
         Some(_) => None,
     }
 }

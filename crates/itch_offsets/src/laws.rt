@@ -1,4 +1,4 @@
-//! Laws of reading a range from a row of an index on.
+//! Laws of the rows of an index, and of reading a range from one on.
 //!
 //! The functions do nothing: their clauses are the laws.
 ghost use Rattle.std.specs.Prelude.{◌≡◌, ◌+◌, ◌++◌, ◌≤◌, ℕ, true, List, None, IfSome, length, map};
@@ -8,15 +8,19 @@ ghost use Rattle.itch_codec.specs.Messages.{message_of};
 ghost use Rattle.itch_codec.specs.declared.message.Message.{Message};
 ghost use Rattle.itch_commands.specs.Choices.{Chosen, chosen_lines, chosen_listing_all, chosen_past, chosen_past_mark, directory_of};
 ghost use Rattle.itch_commands.specs.Cuts.{kept_of};
+ghost use Rattle.itch_commands.specs.Further.{AreListed};
+ghost use Rattle.itch_commands.specs.Showing.{IsClean};
 ghost use Rattle.itch_commands.specs.Starts.{before_range, is_beyond, start_after_all, start_past};
 ghost use Rattle.itch_commands.specs.declared.form.ShowForm.{ShowForm};
 ghost use Rattle.itch_commands.specs.declared.start.Start.{Start};
 ghost use Rattle.itch_day.specs.Limits.{IsEarly};
-ghost use Rattle.itch_day.specs.Marks.{IsMark};
+ghost use Rattle.itch_day.specs.Marks.{IsMark, first_mark, mark_after};
 ghost use Rattle.itch_day.specs.declared.mark.Mark.{Mark};
+ghost use Rattle.itch_frame.specs.Blocks.{IsFull, blocks};
 ghost use Rattle.itch_offsets.specs.Beginnings.{begin_after, may_begin, most_of};
+ghost use Rattle.itch_offsets.specs.Passes.{entries};
 ghost use Rattle.itch_offsets.specs.declared.begin.Range.{Range};
-ghost use Rattle.itch_offsets.specs.declared.row.Row.{Row};
+ghost use Rattle.itch_offsets.specs.declared.row.IndexRow.{IndexRow};
 
 /// The number of the messages of a mark and their latest timestamp determine whether all of them are before a range, and where the range
 /// begins in the messages after them.
@@ -42,8 +46,18 @@ pub fn marked_choices()
 
 /// A range can be read from the chosen row on, and from no row with more messages. The messages before it are in the requested part.
 pub fn chosen_rows()
-    ensures found { (range : Range) → (rows : List Row) → IfSome (begin_after range None rows) (λ row. may_begin range row.mark ≡ true) }
-    ensures most { (range : Range) → (rows : List Row) → AllByRecursion (λ row. may_begin range row.mark ≡ true → row.mark.count ≤ most_of (begin_after range None rows)) rows }
+    ensures found { (range : Range) → (rows : List IndexRow) → IfSome (begin_after range None rows) (λ row. may_begin range row.mark ≡ true) }
+    ensures most { (range : Range) → (rows : List IndexRow) → AllByRecursion (λ row. may_begin range row.mark ≡ true → row.mark.count ≤ most_of (begin_after range None rows)) rows }
     ensures early { (range : Range) → (mark : Mark) → (payloads : List (List ℕ)) → IsMark mark payloads → may_begin range mark ≡ true
         → IfSome range.limit.after (λ most. length payloads ≤ most) × AllByRecursion (IsEarly range.limit) payloads }
+{}
+
+/// The rows that a pass reads one after another: the mark of a row is that of all messages before it, and the Stock Directory messages kept
+/// for the rows are those among all messages, in whose blocks stocks can be looked up.
+pub fn rows_in_turn()
+    ensures first { (payloads : List (List ℕ)) → AllByRecursion IsClean payloads → IsMark (mark_after first_mark payloads) payloads }
+    ensures mark { (before after : List (List ℕ)) → mark_after (mark_after first_mark before) after ≡ mark_after first_mark (before ++ after) }
+    ensures kept { (before after : List (List ℕ)) → entries (before ++ after) ≡ entries before ++ entries after }
+    ensures directory { (payloads : List (List ℕ)) → map message_of (entries payloads) ≡ directory_of (map message_of payloads) }
+    ensures listed { (payloads : List (List ℕ)) → AllByRecursion IsFull payloads → AllByRecursion IsClean payloads → AreListed (entries payloads) (blocks (entries payloads)) }
 {}

@@ -15,8 +15,8 @@ mod row;
 mod writing;
 
 pub use begin::{Range, begin_from, may_begin, range_of};
-pub use fit::{Unfit, why_unfit};
+pub use fit::{IndexUnfit, why_unfit};
 pub use pass::IndexPass;
 pub use reading::DayIndex;
-pub use row::Row;
+pub use row::IndexRow;
 pub use writing::IndexWriter;

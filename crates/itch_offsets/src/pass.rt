@@ -1,10 +1,12 @@
 //! Reads a day file from row to row.
+ghost use Rattle.std.specs.Prelude.{◌≡◌, ◌≤◌, ◌-◌, ◌^◌};
+ghost use Rattle.itch_offsets.specs.Passes.{row_answer, row_part};
 
-use crate::directory::{Directory, NotPassed};
+use crate::directory::{DirectoryBlocks, stopped};
 use itch_commands::{Limit, Source, ToolFault};
 use itch_day::{Mark, Marked, Stop as PartStop, read_part};
 use itch_frame::{BlockReader, CountedRead};
-use itch_market::{ReplayEnd, Stop};
+use itch_market::Stop;
 use std::alloc::Allocator;
 
 /// The number of messages between two rows.
@@ -14,54 +16,71 @@ const ROW: u64 = 65_536;
 #[derive(Drop)]
 pub struct IndexPass<R: CountedRead, A: Allocator, B: Allocator> {
     reader: BlockReader<R, A>,
-    marked: Marked<Directory<B>>,
+    marked: Marked<DirectoryBlocks<B>>,
     ghost few: { marked.mark.count ≤ 10 ^ 19 - 1 },
 }
 
 impl<R: CountedRead, A: Allocator, B: Allocator> IndexPass<R, A, B> {
-    ghost use Rattle.std.specs.Prelude.{◌≤◌, ◌-◌, ◌^◌};
+    ghost use Rattle.std.specs.Prelude.{◌≡◌, []};
+    ghost use Rattle.itch_day.specs.Marks.{first_mark};
+    ghost use Rattle.itch_offsets.specs.Passes.{ReadsRow};
 
     /// Creates a pass that begins at this reader's position, the beginning of a day file.
-    pub fn new(alloc: B, reader: BlockReader<R, A>) -> IndexPass<R, A, B> {
+    pub fn new(alloc: B, reader: BlockReader<R, A>) -> IndexPass<R, A, B>
+        ensures reader { result.reader ≡ reader }
+        ensures marked { result.marked ≡ record { sink = []; mark = first_mark } }
+    {
         IndexPass {
             reader,
             marked: Marked {
-                sink: Directory {
-                    payloads: Vec::new(alloc),
-                },
+                sink: DirectoryBlocks::new(alloc),
                 mark: Mark::new(),
             },
         }
     }
 
     /// Returns the mark after the messages read so far.
-    pub fn mark(&self) -> Mark {
+    pub fn mark(&self) -> Mark
+        ensures { result ≡ self.now.marked.mark }
+    {
         self.marked.mark
     }
 
-    /// Returns the payloads of the Stock Directory messages since the last row, one after another.
-    pub fn directory(&self) -> &[u8] {
-        &self.marked.sink.payloads
+    /// Returns the blocks of the Stock Directory messages since the last row, one after another.
+    pub fn directory(&self) -> &[u8]
+        ensures { result.now ≡ self.now.marked.sink }
+    {
+        self.marked.sink.blocks()
     }
 
     /// Reads on to the next row of a part of the file, and returns true; or to the end of the part, and returns false.
     ///
     /// The faults are those of `show` for this part.
-    pub fn read_row(&mut self, limit: Limit) -> Result<bool, ToolFault> {
-        self.marked.sink.payloads.clear();
+    pub fn read_row(&mut self, limit: Limit) -> Result<bool, ToolFault>
+        ensures { ReadsRow R.remaining R.failures limit self.old.reader self.new.reader self.old.marked.mark self.new.marked result }
+    {
+        self.marked.sink.clear();
         let mut count = self.marked.mark.count;
-        let most = count.saturating_add(ROW).min(limit.most());
-        let part = Limit {
-            after: Some(most),
-            until: limit.until,
-        };
+        let part = row_part(limit, count);
         let stop = read_part(&mut self.reader, &mut count, &mut self.marked, part);
         answer(stop, limit, count)
     }
 }
 
+// Returns the messages of a part up to the next row after this many messages.
+fn row_part(limit: Limit, count: u64) -> Limit
+    ensures { result ≡ row_part limit count }
+{
+    Limit {
+        after: Some(count.saturating_add(ROW).min(limit.most())),
+        until: limit.until,
+    }
+}
+
 // Returns whether a part goes on after a stop of the reading after this many messages, at a row or before.
-fn answer(stop: PartStop<NotPassed>, limit: Limit, count: u64) -> Result<bool, ToolFault> {
+fn answer(stop: PartStop<ToolFault>, limit: Limit, count: u64) -> Result<bool, ToolFault>
+    ensures { result ≡ row_answer limit count stop }
+{
     match stop {
         PartStop::Full => Ok(count < limit.most()),
         PartStop::Late => Ok(false),
@@ -74,15 +93,6 @@ fn answer(stop: PartStop<NotPassed>, limit: Limit, count: u64) -> Result<bool, T
         },
         PartStop::Frame(fault) => Err(stopped(count, Stop::Frame(fault))),
         PartStop::TooMany => Err(stopped(count, Stop::TooManyMessages)),
-        PartStop::Refused(NotPassed::Codec(fault)) => Err(stopped(count, Stop::Codec(fault))),
-        PartStop::Refused(NotPassed::OutOfMemory) => Err(ToolFault::OutOfMemory),
-    }
-}
-
-// Returns the fault of the only file, which stops after this many messages.
-fn stopped(count: u64, stop: Stop) -> ToolFault {
-    ToolFault::Stopped {
-        file: Source::Only,
-        end: ReplayEnd { count, stop },
+        PartStop::Refused(fault) => Err(fault),
     }
 }

@@ -1,9 +1,9 @@
 //! Reads an index.
+ghost use Rattle.std.specs.Prelude.{◌≡◌, take};
 
 use crate::directory::block_of;
-use crate::row::Row;
-use crate::writing::digits_of;
-use itch_checkpoints::Lines;
+use crate::row::IndexRow;
+use itch_checkpoints::{Lines, first_digits};
 use sha2::{Digest, Sha256};
 use std::alloc::{AllocError, Global};
 use std::io::{self, BufRead};
@@ -11,7 +11,7 @@ use std::io::{self, BufRead};
 /// The rows of an index in ascending order, and the blocks of the Stock Directory messages before the last row.
 #[derive(Drop)]
 pub struct DayIndex {
-    rows: Vec<Row, Global>,
+    rows: Vec<IndexRow, Global>,
     directory: Vec<u8, Global>,
 }
 
@@ -42,7 +42,7 @@ impl DayIndex {
                     hasher.update(b"\n");
                 }
                 LineKind::End(digits) => {
-                    let is_complete = digits == digits_of(hasher) && lines.next()?.is_none();
+                    let is_complete = digits == first_digits(hasher) && lines.next()?.is_none();
                     return Ok(if is_complete { Some(read) } else { None });
                 }
                 LineKind::Invalid => break,
@@ -52,12 +52,16 @@ impl DayIndex {
     }
 
     /// Returns the rows.
-    pub fn rows(&self) -> &[Row] {
+    pub fn rows(&self) -> &[IndexRow]
+        ensures { result.now ≡ self.now.rows.items }
+    {
         &self.rows
     }
 
     /// Returns the blocks of the Stock Directory messages before a row.
-    pub fn directory(&self, row: &Row) -> &[u8] {
+    pub fn directory(&self, row: &IndexRow) -> &[u8]
+        ensures { result.now ≡ take row.now.listed self.now.directory.items }
+    {
         &self.directory[..row.listed.min(self.directory.len())]
     }
 
@@ -70,7 +74,7 @@ impl DayIndex {
         if let Some(digits) = end_of(line) {
             return Ok(LineKind::End(digits));
         }
-        match Row::read(alloc, line, self.directory.len())? {
+        match IndexRow::read(alloc, line, self.directory.len())? {
             Some(row) => {
                 self.rows.push(row)?;
                 Ok(LineKind::Used)

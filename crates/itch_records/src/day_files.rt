@@ -3,7 +3,7 @@ ghost use Rattle.std.specs.Prelude.{◌≡◌, ◌<◌, ◌++◌, IfOk, OnOk};
 ghost use Rattle.itch_records.specs.DayFiles.{digit, file_character, file_stem, is_plain};
 
 use itch_codec::Alpha;
-use itch_sessions::log::entry::{Event, Level, write_text};
+use itch_sessions::log::entry::{LogEvent, LogLevel, write_text};
 use itch_sessions::log::form::LogForm;
 use itch_sessions::name_of;
 use std::alloc::{AllocError, Allocator};
@@ -100,9 +100,9 @@ impl Display for DayBegun<'_> {
     }
 }
 
-impl Event for DayBegun<'_> {
-    fn level(&self) -> Level {
-        Level::Info
+impl LogEvent for DayBegun<'_> {
+    fn level(&self) -> LogLevel {
+        LogLevel::Info
     }
 
     fn name(&self) -> &'static str {

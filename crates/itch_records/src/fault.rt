@@ -3,9 +3,9 @@ ghost use Rattle.std.specs.Prelude.{◌≡◌};
 ghost use Rattle.itch_records.specs.LiveFaults.{live_status, record_status};
 
 use crate::day_files::DayPaths;
-use crate::watch::Change;
+use crate::watch::FileChange;
 use itch_codec::Alpha;
-use itch_live::Source;
+use itch_live::ServerKind;
 use itch_market::ReplayEnd;
 use itch_sessions::{Feeds, SessionFault};
 use std::alloc::AllocError;
@@ -30,7 +30,7 @@ pub enum LiveFault {
     InUse(Owned),
     /// A server accepted the login under another session than the requested one.
     OtherSession {
-        server: Source,
+        server: ServerKind,
         named: Alpha<10>,
         wanted: Alpha<10>,
     },
@@ -92,7 +92,7 @@ pub enum RecordFault {
         named: Alpha<10>,
     },
     /// Its file was changed while messages were being appended.
-    Changed(Change),
+    Changed(FileChange),
 }
 
 impl LiveFault {
@@ -134,8 +134,8 @@ impl LiveFault {
                 Some(Detail::Feed(place.words, *session))
             }
             LiveFault::OtherSession { server, named, .. } => match server {
-                Source::Glimpse => Some(Detail::GlimpseSession(*named)),
-                Source::Live => None,
+                ServerKind::Glimpse => Some(Detail::GlimpseSession(*named)),
+                ServerKind::Live => None,
             },
             LiveFault::GlimpseSession { snapshot, .. } => Some(Detail::GlimpseSession(*snapshot)),
         }
@@ -145,7 +145,7 @@ impl LiveFault {
     /// session.
     pub fn after_glimpse(self) -> LiveFault {
         if let LiveFault::OtherSession {
-            server: Source::Live,
+            server: ServerKind::Live,
             named,
             wanted,
         } = &self
@@ -180,7 +180,7 @@ impl LiveFault {
     /// Returns the same fault for a feed that is recorded: the feed is then not in the record's session.
     pub fn of_record(self) -> LiveFault {
         if let LiveFault::OtherSession {
-            server: Source::Live,
+            server: ServerKind::Live,
             named,
             wanted,
         } = &self
@@ -230,10 +230,10 @@ impl Display for LiveFault {
                 let named = named.text().trim();
                 let wanted = wanted.text().trim();
                 match server {
-                    Source::Glimpse => {
+                    ServerKind::Glimpse => {
                         write!(f, "itchsnap: glimpse: in session {named}, not in {wanted}")
                     }
-                    Source::Live => write!(
+                    ServerKind::Live => write!(
                         f,
                         "itchsnap: feed: in session {named}, not in {wanted}"
                     ),

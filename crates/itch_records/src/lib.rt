@@ -27,4 +27,4 @@ pub use replay::{Replay, next_stop};
 pub use resuming::{Replayed, at_the_first, newest};
 pub use saving::{RecordPart, Saver, SnapshotWords};
 pub use step::{Step, rejection_ends, step_of};
-pub use watch::{Change, Seen, change_of};
+pub use watch::{FileChange, Seen, change_of};

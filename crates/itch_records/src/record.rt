@@ -5,14 +5,14 @@ use crate::recording::Recording;
 use crate::replay::Replay;
 use crate::session_file::{read_session, write_session};
 use crate::step::record_fault;
-use crate::watch::{Change, Seen, change_of};
+use crate::watch::{FileChange, Seen, change_of};
 use itch_codec::Alpha;
 use itch_day::Mark;
 use itch_frame::Buffered;
 use itch_frame::tally::Failures;
 use itch_sessions::SessionFault;
 use itch_sessions::log::Log;
-use itch_sessions::log::entry::{Event, Level, write_shown};
+use itch_sessions::log::entry::{LogEvent, LogLevel, write_shown};
 use itch_sessions::log::form::LogForm;
 use itch_sessions::log::lines::Dropped;
 use itch_sessions::sessions::PIECE;
@@ -68,12 +68,12 @@ pub struct RecordWords<'a> {
 #[derive(Drop)]
 pub struct Record {
     pub recording: Recording<File>,
-    kept: Option<Kept>,
+    kept: Option<RecordFile>,
 }
 
 // The file of a record.
 #[derive(Drop)]
-struct Kept {
+struct RecordFile {
     path: String,
     sync: SyncTime,
     is_optional: bool,
@@ -123,7 +123,7 @@ impl Record {
             failures: Failures::none(),
             added: 0,
         };
-        let kept = Some(Kept {
+        let kept = Some(RecordFile {
             path,
             sync: words.sync,
             is_optional: words.is_optional,
@@ -318,7 +318,7 @@ impl Record {
 #[derive(Debug, Drop)]
 pub enum RecordLoss {
     /// Another process changed its file.
-    Changed(Change),
+    Changed(FileChange),
     /// A system call failed.
     System(io::Error),
 }
@@ -344,9 +344,9 @@ impl Display for RecordLoss {
     }
 }
 
-impl Event for RecordLoss {
-    fn level(&self) -> Level {
-        Level::Error
+impl LogEvent for RecordLoss {
+    fn level(&self) -> LogLevel {
+        LogLevel::Error
     }
 
     fn name(&self) -> &'static str {

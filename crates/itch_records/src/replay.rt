@@ -38,11 +38,11 @@ pub fn next_stop(every: u64, count: u64) -> u64
 
 // A follower of a feed that takes the messages of a record, or stops the replay with a reason.
 #[derive(Drop)]
-struct Recorded<'x, B: OrderBook> {
+struct RecordSink<'x, B: OrderBook> {
     follower: &'x mut Follower<B>,
 }
 
-impl<'x, B: OrderBook> Sink for Recorded<'x, B> {
+impl<'x, B: OrderBook> Sink for RecordSink<'x, B> {
     ghost use Rattle.std.specs.Prelude.{◌≡◌};
     ghost use Rattle.itch_records.specs.Replays.{TakesRecorded};
 
@@ -133,7 +133,7 @@ impl<S: CountedRead + Drop> Replay<S> {
             return Err(refused(count, Stop::TooManyMessages));
         }
         let mut recorded = Marked {
-            sink: Recorded { follower },
+            sink: RecordSink { follower },
             mark: self.mark,
         };
         let limit = Limit::counted(Some(most));

@@ -12,7 +12,7 @@ use itch_frame::{BlockReader, Buffered};
 use itch_join::{Joiner, Snap};
 use itch_sessions::SessionFault;
 use itch_sessions::log::Log;
-use itch_sessions::log::entry::{Event, Level, write_number, write_shown, write_text};
+use itch_sessions::log::entry::{LogEvent, LogLevel, write_number, write_shown, write_text};
 use itch_sessions::log::form::LogForm;
 use itch_sessions::sessions::PIECE;
 use itch_snapshot::SnapFault;
@@ -215,9 +215,9 @@ impl Display for Resumed<'_> {
     }
 }
 
-impl Event for Resumed<'_> {
-    fn level(&self) -> Level {
-        Level::Info
+impl LogEvent for Resumed<'_> {
+    fn level(&self) -> LogLevel {
+        LogLevel::Info
     }
 
     fn name(&self) -> &'static str {
@@ -249,9 +249,9 @@ impl Display for Skipped<'_> {
     }
 }
 
-impl Event for Skipped<'_> {
-    fn level(&self) -> Level {
-        Level::Warn
+impl LogEvent for Skipped<'_> {
+    fn level(&self) -> LogLevel {
+        LogLevel::Warn
     }
 
     fn name(&self) -> &'static str {

@@ -16,7 +16,7 @@ use itch_day::Mark;
 use itch_market::Market;
 use itch_sessions::SessionFault;
 use itch_sessions::log::Log;
-use itch_sessions::log::entry::{Event, Level, write_number, write_shown, write_text};
+use itch_sessions::log::entry::{LogEvent, LogLevel, write_number, write_shown, write_text};
 use itch_sessions::log::form::LogForm;
 use itch_sessions::sessions::{PIECE, Sending, write_closed};
 use itch_snapshot::snapshot_len;
@@ -89,9 +89,9 @@ impl Display for Unremoved<'_> {
     }
 }
 
-impl Event for Unremoved<'_> {
-    fn level(&self) -> Level {
-        Level::Warn
+impl LogEvent for Unremoved<'_> {
+    fn level(&self) -> LogLevel {
+        LogLevel::Warn
     }
 
     fn name(&self) -> &'static str {
@@ -124,9 +124,9 @@ impl Display for Missed<'_> {
     }
 }
 
-impl Event for Missed<'_> {
-    fn level(&self) -> Level {
-        Level::Warn
+impl LogEvent for Missed<'_> {
+    fn level(&self) -> LogLevel {
+        LogLevel::Warn
     }
 
     fn name(&self) -> &'static str {

@@ -27,7 +27,7 @@ impl Seen {
 
 /// A change of a file by another process.
 #[derive(Clone, Copy, Debug, PartialEq, Eq)]
-pub enum Change {
+pub enum FileChange {
     Removed,
     Replaced,
     /// The file is shorter than the bytes written.
@@ -36,32 +36,32 @@ pub enum Change {
     Appended,
 }
 
-impl Display for Change {
+impl Display for FileChange {
     fn fmt<W: fmt::Write>(&self, f: &mut Formatter<W>) -> fmt::Result {
         f.write_str(match self {
-            Change::Removed => "removed while it was written",
-            Change::Replaced => "replaced while it was written",
-            Change::CutShort => "cut short while it was written",
-            Change::Appended => "appended to by another process",
+            FileChange::Removed => "removed while it was written",
+            FileChange::Replaced => "replaced while it was written",
+            FileChange::CutShort => "cut short while it was written",
+            FileChange::Appended => "appended to by another process",
         })
     }
 }
 
 /// Returns the change of a file that is being written, if there is one. `seen` is the file that its path leads to now, if any.
-pub fn change_of(written: Seen, seen: Option<Seen>) -> Option<Change>
+pub fn change_of(written: Seen, seen: Option<Seen>) -> Option<FileChange>
     ensures { result ≡ change_of written seen }
 {
     let Some(seen) = seen else {
-        return Some(Change::Removed);
+        return Some(FileChange::Removed);
     };
     if seen.device != written.device || seen.inode != written.inode {
-        return Some(Change::Replaced);
+        return Some(FileChange::Replaced);
     }
     if seen.length < written.length {
-        return Some(Change::CutShort);
+        return Some(FileChange::CutShort);
     }
     if seen.length > written.length {
-        return Some(Change::Appended);
+        return Some(FileChange::Appended);
     }
     None
 }

@@ -1,7 +1,7 @@
 //! Sessions over sockets, and the parts that servers with many of them share.
 //!
 //! [`sessions`] contains both ends of a single session: serving a market, and fetching a snapshot. [`Callers`], [`Socket`] and [`Turns`] are
-//! for sockets that do not block. A [`Link`] is the connection of one client, [`Servers`] are the servers of a feed, which are tried in turn,
+//! for sockets that do not block. A [`SocketLink`] is the connection of one client, [`Servers`] are the servers of a feed, which are tried in turn,
 //! and [`Logins`] are the users who may log in. A [`SessionFault`] is the reason why a session failed, a [`Departure`] is the way in which a
 //! client's connection ended, and [`log`] writes the events.
 //!
@@ -36,11 +36,11 @@ mod who;
 pub use callers::{Caller, Callers};
 pub use departure::{Departure, departure_of, write_departure};
 pub use follow_form::FollowForm;
-pub use link::Link;
+pub use link::SocketLink;
 pub use login_file::{Look, Sight, Version, look_of};
 pub use logins::{LoginSource, Logins, LoginsFault};
 pub use piece::Piece;
-pub use places::{Feeds, MOST_FEEDS, Place};
+pub use places::{Feeds, MOST_FEEDS, ServerAddress};
 pub use refusals::Refusals;
 pub use route::{Route, Servers};
 pub use seated::Seated;

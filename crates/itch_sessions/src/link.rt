@@ -11,7 +11,7 @@ use std::io;
 
 /// The connection of a client, and how much of it has ended.
 #[derive(Drop)]
-pub struct Link {
+pub struct SocketLink {
     socket: Socket,
     who: Who,
     // Whether the client has closed its sending half, whether the server has closed its own, and whether a read or a write has failed.
@@ -20,10 +20,10 @@ pub struct Link {
     has_failed: bool,
 }
 
-impl Link {
+impl SocketLink {
     /// Creates the connection of this client.
-    pub fn new(socket: Socket, who: Who) -> Link {
-        Link {
+    pub fn new(socket: Socket, who: Who) -> SocketLink {
+        SocketLink {
             socket,
             who,
             has_ended: false,

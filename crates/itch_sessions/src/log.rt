@@ -7,7 +7,7 @@ pub mod lines;
 use crate::departure::write_departure;
 use crate::utc::unix_ms;
 use crate::who::{Happening, Visit};
-use entry::{Event, Line};
+use entry::{LogEvent, LogLine};
 use form::LogForm;
 use itch_frame::CountedWrite;
 use itch_status::{UTC, utc};
@@ -105,19 +105,19 @@ impl<'a, R: Eprint> Log<'a, R> {
     }
 
     /// Writes a line to standard error.
-    pub fn say<L: Event>(&mut self, line: &L) {
+    pub fn say<L: LogEvent>(&mut self, line: &L) {
         if !self.is_mute && !self.says(line) {
             self.lost = self.lost.saturating_add(1);
         }
     }
 
-    fn says<L: Event>(&mut self, line: &L) -> bool {
+    fn says<L: LogEvent>(&mut self, line: &L) -> bool {
         if !self.error.has_room() {
             return false;
         }
         let said = match self.form {
             LogForm::Plain => self.rt.eprintln(line),
-            form => self.rt.eprintln(&Line {
+            form => self.rt.eprintln(&LogLine {
                 time: self.time(),
                 form,
                 event: line,

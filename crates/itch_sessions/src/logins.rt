@@ -1,7 +1,7 @@
 //! The logins that a server accepts, or that a client uses: from the command line, or from a file that is read again when it has changed.
 
 use crate::log::Log;
-use crate::log::entry::{Event, Level, write_shown, write_text};
+use crate::log::entry::{LogEvent, LogLevel, write_shown, write_text};
 use crate::log::form::LogForm;
 use crate::login_file::{Look, Sight, Version, look_of};
 use crate::session_fault::SessionFault;
@@ -247,11 +247,11 @@ impl Display for LoginLine<'_, '_, '_> {
     }
 }
 
-impl Event for LoginLine<'_, '_, '_> {
-    fn level(&self) -> Level {
+impl LogEvent for LoginLine<'_, '_, '_> {
+    fn level(&self) -> LogLevel {
         match self.fault {
-            None => Level::Info,
-            Some(_) => Level::Warn,
+            None => LogLevel::Info,
+            Some(_) => LogLevel::Warn,
         }
     }
 

@@ -5,7 +5,7 @@ pub const MOST_FEEDS: usize = 8;
 
 /// A server: its host name or address, and its port.
 #[derive(Clone, Copy, Debug, PartialEq, Eq)]
-pub struct Place<'a> {
+pub struct ServerAddress<'a> {
     /// Both as given on the command line.
     pub words: &'a str,
     pub host: &'a str,
@@ -15,14 +15,14 @@ pub struct Place<'a> {
 /// The servers of one feed, in the order in which they are tried.
 #[derive(Clone, Copy, Debug, PartialEq, Eq)]
 pub struct Feeds<'a> {
-    pub first: Place<'a>,
+    pub first: ServerAddress<'a>,
     /// The servers after the first one, without gaps.
-    pub others: [Option<Place<'a>>; MOST_FEEDS - 1],
+    pub others: [Option<ServerAddress<'a>>; MOST_FEEDS - 1],
 }
 
 impl<'a> Feeds<'a> {
     /// Creates a list of a single server.
-    pub fn one(first: Place<'a>) -> Feeds<'a> {
+    pub fn one(first: ServerAddress<'a>) -> Feeds<'a> {
         Feeds {
             first,
             others: [None; MOST_FEEDS - 1],
@@ -30,7 +30,7 @@ impl<'a> Feeds<'a> {
     }
 
     /// Returns the server with this index, starting at 0.
-    pub fn get(&self, place: usize) -> Option<Place<'a>> {
+    pub fn get(&self, place: usize) -> Option<ServerAddress<'a>> {
         if place == 0 {
             return Some(self.first);
         }

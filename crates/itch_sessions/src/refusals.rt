@@ -9,7 +9,7 @@ const MOST: usize = 256;
 
 // An address with rejected logins: the delay of the last rejection, and the time of that login.
 #[derive(Clone, Copy)]
-struct Refusal {
+struct RejectedAddress {
     address: IpAddr,
     wait_ms: u64,
     at_ms: u64,
@@ -18,7 +18,7 @@ struct Refusal {
 /// The addresses with rejected logins.
 #[derive(Drop)]
 pub struct Refusals {
-    known: Vec<Refusal>,
+    known: Vec<RejectedAddress>,
 }
 
 impl Refusals {
@@ -40,7 +40,7 @@ impl Refusals {
             None => (0, 0),
         };
         let wait_ms = wait_after(last_ms, passed_ms);
-        self.remember(Refusal {
+        self.remember(RejectedAddress {
             address,
             wait_ms,
             at_ms: now_ms,
@@ -48,7 +48,7 @@ impl Refusals {
         wait_ms
     }
 
-    fn remember(&mut self, refusal: Refusal) {
+    fn remember(&mut self, refusal: RejectedAddress) {
         let known = self
             .known
             .iter()

@@ -1,6 +1,6 @@
 //! The servers of a feed and of snapshots: which of their addresses is tried next, and when.
 
-use crate::places::{Feeds, Place};
+use crate::places::{Feeds, ServerAddress};
 use crate::spot::{Spot, pause_after, spot_after};
 use std::alloc::Global;
 use std::net::{Net, SocketAddr, ToSocketAddrs};
@@ -10,12 +10,12 @@ use std::net::{Net, SocketAddr, ToSocketAddrs};
 pub struct Servers<'a> {
     pub feeds: Feeds<'a>,
     /// `None` to start with the feed's first message.
-    pub glimpse: Option<Place<'a>>,
+    pub glimpse: Option<ServerAddress<'a>>,
 }
 
 impl<'a> Servers<'a> {
     // Returns a server of the feed, or the snapshot server.
-    fn get(&self, live: bool, server: usize) -> Option<Place<'a>> {
+    fn get(&self, live: bool, server: usize) -> Option<ServerAddress<'a>> {
         if live {
             return self.feeds.get(server);
         }

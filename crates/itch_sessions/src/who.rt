@@ -2,7 +2,7 @@
 
 use crate::departure::Departure;
 use crate::log::entry::{
-    Event, Level, write_letter, write_number, write_seconds, write_shown, write_text,
+    LogEvent, LogLevel, write_letter, write_number, write_seconds, write_shown, write_text,
 };
 use crate::log::form::LogForm;
 use std::fmt::{self, Display, Formatter};
@@ -91,10 +91,10 @@ impl Display for Visit {
     }
 }
 
-impl Event for Visit {
-    fn level(&self) -> Level {
+impl LogEvent for Visit {
+    fn level(&self) -> LogLevel {
         match self.happening {
-            Happening::Connected | Happening::LoggedIn | Happening::FirstByte => Level::Info,
+            Happening::Connected | Happening::LoggedIn | Happening::FirstByte => LogLevel::Info,
             Happening::Ended(departure) => level_of(departure),
         }
     }
@@ -128,10 +128,10 @@ impl Event for Visit {
     }
 }
 
-fn level_of(departure: Departure) -> Level {
+fn level_of(departure: Departure) -> LogLevel {
     match departure {
-        Departure::Answered { .. } | Departure::Played { .. } | Departure::Left => Level::Info,
-        _ => Level::Warn,
+        Departure::Answered { .. } | Departure::Played { .. } | Departure::Left => LogLevel::Info,
+        _ => LogLevel::Warn,
     }
 }
 

@@ -1,7 +1,7 @@
 -- The table of figures: their names, their descriptions and their values.
 use Rattle.std.specs.Prelude.{ℕ, ◌&&◌, Bool, true, false, List, [], ◌∷◌, Option, None, Some, is_some, option_map, codes}
 use Rattle.itch_status.specs.Rates.{rate}
-use Rattle.itch_status.specs.declared.cause.Cause.{Cause}
+use Rattle.itch_status.specs.declared.cause.LossCause.{LossCause}
 use Rattle.itch_status.specs.declared.state.FeedState.{FeedState}
 use Rattle.itch_status.specs.declared.state.FeedState.TheVariants.{Connecting, Following, Lost, Ended}
 use Rattle.itch_status.specs.declared.figures.Figures.{Figures}
@@ -151,7 +151,7 @@ abbrev pub as_clock : Option ℕ → Shown
 as_clock None = shown.Nothing
 as_clock (Some n) = shown.Clock n
 
-abbrev pub as_cause : Option Cause → Shown
+abbrev pub as_cause : Option LossCause → Shown
 as_cause None = shown.Nothing
 as_cause (Some c) = shown.Cause c
 

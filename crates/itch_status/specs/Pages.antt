@@ -2,12 +2,12 @@
 use Rattle.std.specs.Prelude.{ℕ, ◌==◌, ◌||◌, ◌&&◌, nat_le, Bool, true, false, List, [], ◌∷◌, length, take, drop, Option, None, Some, bytes_eq, codes, if◌then◌else◌}
 use Rattle.std.specs.Str.{str_eq_ignore_ascii_case}
 use Rattle.httparse.specs.Grammar.{RequestHead}
-use Rattle.itch_status.specs.declared.page.Page.{Page}
-use Rattle.itch_status.specs.declared.page.Page.TheVariants.{People, Metrics, Health, Ready, Status, Lines}
-use Rattle.itch_status.specs.declared.refusal.Refusal.{Refusal}
-use Rattle.itch_status.specs.declared.refusal.Refusal.TheVariants as refusal
-use Rattle.itch_status.specs.declared.request.Answer.{Answer}
-use Rattle.itch_status.specs.declared.request.Answer.TheVariants as answer
+use Rattle.itch_status.specs.declared.page.StatusPage.{StatusPage}
+use Rattle.itch_status.specs.declared.page.StatusPage.TheVariants.{People, Metrics, Health, Ready, Status, Lines}
+use Rattle.itch_status.specs.declared.refusal.RequestRefusal.{RequestRefusal}
+use Rattle.itch_status.specs.declared.refusal.RequestRefusal.TheVariants as refusal
+use Rattle.itch_status.specs.declared.request.StatusAnswer.{StatusAnswer}
+use Rattle.itch_status.specs.declared.request.StatusAnswer.TheVariants as answer
 
 -- the part of a target before its query
 abbrev pub before_query : List ℕ → List ℕ
@@ -33,7 +33,7 @@ abbrev pub path_of : List ℕ → List ℕ
 path_of target = if is_absolute target then or_root (before_query (after_host (drop 7 target))) else before_query target
 
 -- the page of a path
-abbrev pub page_at : List ℕ → Option Page
+abbrev pub page_at : List ℕ → Option StatusPage
 page_at path =
     if bytes_eq path (codes "/") then Some People
     else (if bytes_eq path (codes "/metrics") then Some Metrics
@@ -43,25 +43,25 @@ page_at path =
     else (if bytes_eq path (codes "/status.txt") then Some Lines else None)))))
 
 -- the page of a target
-unfoldable pub page_of : List ℕ → Option Page
+unfoldable pub page_of : List ℕ → Option StatusPage
 page_of target = page_at (path_of target)
 
 -- a refusal with a body, for a request whose method is not HEAD or is not known
-abbrev pub refused : Refusal → Answer
+abbrev pub refused : RequestRefusal → StatusAnswer
 refused why = answer.Refused why true
 
 -- a page, or the refusal if there is no page; both with a body or without one
-abbrev pub page_answer : Bool → Option Page → Answer
+abbrev pub page_answer : Bool → Option StatusPage → StatusAnswer
 page_answer body None = answer.Refused refusal.NotFound body
 page_answer body (Some page) = answer.Page page body
 
 -- the answer to a request with this method and this target
-abbrev pub method_answer : List ℕ → List ℕ → Answer
+abbrev pub method_answer : List ℕ → List ℕ → StatusAnswer
 method_answer method target =
     if bytes_eq method (codes "GET") then page_answer true (page_of target)
     else (if bytes_eq method (codes "HEAD") then page_answer false (page_of target)
     else refused refusal.MethodNotAllowed)
 
 -- the answer to a request with this head
-abbrev pub answer_of : RequestHead → Answer
+abbrev pub answer_of : RequestHead → StatusAnswer
 answer_of head = method_answer head.method head.target

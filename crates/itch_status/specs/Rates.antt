@@ -1,7 +1,7 @@
 -- The number of messages in each second of the last minute.
 use Rattle.std.specs.Prelude.{ℕ, zero, suc, ◌+◌, ◌-◌, ◌*◌, ◌/◌, nat_lt, List, [], ◌∷◌, ◌++◌, Option, None, Some, drop, min, max, if◌then◌else◌}
 use Rattle.itch_status.specs.declared.rate.Minute.{Minute}
-use Rattle.itch_status.specs.declared.tally.Tally.{Tally}
+use Rattle.itch_status.specs.declared.tally.FeedTally.{FeedTally}
 
 -- the largest number of 64 bits
 abbrev pub most : ℕ
@@ -53,7 +53,7 @@ received None next = 0
 received (Some before) None = 0
 
 -- the tally with this number of additional messages in the current second, which may be 0
-abbrev pub with_received : Tally → Option ℕ → ℕ → ℕ → Tally
+abbrev pub with_received : FeedTally → Option ℕ → ℕ → ℕ → FeedTally
 with_received t next now_ms count =
     record {
       next = next;
@@ -63,5 +63,5 @@ with_received t next now_ms count =
     }
 
 -- the tally after the messages before this number
-abbrev pub seen : Tally → Option ℕ → ℕ → Tally
+abbrev pub seen : FeedTally → Option ℕ → ℕ → FeedTally
 seen t next now_ms = with_received t next now_ms (received t.next next)

@@ -9,13 +9,13 @@ use Rattle.itch_status.specs.JsonTexts.{json_text}
 use Rattle.itch_status.specs.MetricTexts.{metrics_text}
 use Rattle.itch_status.specs.PlainTexts.{plain_text}
 use Rattle.itch_status.specs.declared.figures.Figures.{Figures}
-use Rattle.itch_status.specs.declared.page.Page.{Page}
-use Rattle.itch_status.specs.declared.page.Page.TheVariants.{People, Metrics, Health, Ready, Status, Lines}
-use Rattle.itch_status.specs.declared.refusal.Refusal.{Refusal}
-use Rattle.itch_status.specs.declared.refusal.Refusal.TheVariants as refusal
+use Rattle.itch_status.specs.declared.page.StatusPage.{StatusPage}
+use Rattle.itch_status.specs.declared.page.StatusPage.TheVariants.{People, Metrics, Health, Ready, Status, Lines}
+use Rattle.itch_status.specs.declared.refusal.RequestRefusal.{RequestRefusal}
+use Rattle.itch_status.specs.declared.refusal.RequestRefusal.TheVariants as refusal
 
 -- the status code of a refusal
-abbrev pub refusal_code : Refusal → ℕ
+abbrev pub refusal_code : RequestRefusal → ℕ
 refusal_code refusal.BadRequest = 400
 refusal_code refusal.NotFound = 404
 refusal_code refusal.MethodNotAllowed = 405
@@ -51,7 +51,7 @@ head_text code kind count date =
     ++ codes "\r\nCache-Control: no-store\r\nX-Content-Type-Options: nosniff\r\nContent-Security-Policy: default-src 'none'; style-src 'unsafe-inline'\r\nConnection: close\r\n\r\n"
 
 -- the content type of a page
-abbrev pub content_type : Page → List ℕ
+abbrev pub content_type : StatusPage → List ℕ
 content_type People = codes "text/html; charset=utf-8"
 content_type Metrics = codes "text/plain; version=0.0.4; charset=utf-8"
 content_type Health = codes "text/plain; charset=utf-8"
@@ -68,7 +68,7 @@ ready_words true = codes "ready\n"
 ready_words false = codes "not ready\n"
 
 -- the status code of a page: 503 for the question whether the server is ready, if it is not
-abbrev pub page_code : Page → Figures → ℕ
+abbrev pub page_code : StatusPage → Figures → ℕ
 page_code People f = 200
 page_code Metrics f = 200
 page_code Health f = 200
@@ -77,7 +77,7 @@ page_code Status f = 200
 page_code Lines f = 200
 
 -- the body of a page
-abbrev pub page_body : Page → Figures → List ℕ → List ℕ
+abbrev pub page_body : StatusPage → Figures → List ℕ → List ℕ
 page_body People f version = html_text f version
 page_body Metrics f version = metrics_text f version
 page_body Health f version = codes "ok\n"
@@ -91,12 +91,12 @@ with_body true head body = head ++ body
 with_body false head body = head
 
 -- the response with a page
-abbrev pub page_response : Page → Bool → Figures → List ℕ → Option HttpDate → List ℕ
+abbrev pub page_response : StatusPage → Bool → Figures → List ℕ → Option HttpDate → List ℕ
 page_response page asked f version date =
     with_body asked (head_text (page_code page f) (content_type page) (length (page_body page f version)) date) (page_body page f version)
 
 -- the response to a request that is not answered with a page: the body states the reason, unless only the head was requested
-abbrev pub refusal_response : Refusal → Bool → Option HttpDate → List ℕ
+abbrev pub refusal_response : RequestRefusal → Bool → Option HttpDate → List ℕ
 refusal_response why asked date =
     let words = status_text (refusal_code why) ++ codes "\n" in
     with_body asked (head_text (refusal_code why) (codes "text/plain; charset=utf-8") (length words) date) words

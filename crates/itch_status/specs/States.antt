@@ -2,8 +2,8 @@
 use Rattle.std.specs.Prelude.{ℕ, Bool, true, false, List, codes}
 use Rattle.itch_status.specs.declared.state.FeedState.{FeedState}
 use Rattle.itch_status.specs.declared.state.FeedState.TheVariants.{Connecting, Following, Lost, Ended}
-use Rattle.itch_status.specs.declared.cause.Cause.{Cause}
-use Rattle.itch_status.specs.declared.cause.Cause.TheVariants as cause
+use Rattle.itch_status.specs.declared.cause.LossCause.{LossCause}
+use Rattle.itch_status.specs.declared.cause.LossCause.TheVariants as cause
 
 -- the word for a state
 abbrev pub state_words : FeedState → List ℕ
@@ -13,7 +13,7 @@ state_words Lost = codes "lost"
 state_words Ended = codes "ended"
 
 -- the text of a cause
-abbrev pub cause_words : Cause → List ℕ
+abbrev pub cause_words : LossCause → List ℕ
 cause_words cause.NotFound = codes "not found"
 cause_words cause.Refused = codes "refused"
 cause_words cause.Unreachable = codes "unreachable"

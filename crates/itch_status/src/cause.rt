@@ -4,7 +4,7 @@ ghost use Rattle.itch_status.specs.States.{cause_words};
 
 /// The reason why the last connection to a feed ended, or failed.
 #[derive(Clone, Copy, Debug, PartialEq, Eq)]
-pub enum Cause {
+pub enum LossCause {
     /// No address was found for the server's name.
     NotFound,
     /// The server's machine refused the connection.
@@ -37,28 +37,28 @@ pub enum Cause {
     Broken,
 }
 
-impl Cause {
+impl LossCause {
     /// Returns the text of the cause.
     pub fn words(self) -> &'static str
         ensures words { result.now ≡ cause_words self }
         ensures short { length result.now ≤ 20 }
     {
         match self {
-            Cause::NotFound => "not found",
-            Cause::Refused => "refused",
-            Cause::Unreachable => "unreachable",
-            Cause::Reset => "reset",
-            Cause::TimedOut => "timed out",
-            Cause::Closed => "closed by the server",
-            Cause::Silent => "silent",
-            Cause::Failed => "socket failed",
-            Cause::WrongLogin => "rejected A",
-            Cause::NoSession => "rejected S",
-            Cause::Rejected => "rejected",
-            Cause::OtherSession => "in another session",
-            Cause::Gap => "gap",
-            Cause::NoMemory => "out of memory",
-            Cause::Broken => "broke the protocol",
+            LossCause::NotFound => "not found",
+            LossCause::Refused => "refused",
+            LossCause::Unreachable => "unreachable",
+            LossCause::Reset => "reset",
+            LossCause::TimedOut => "timed out",
+            LossCause::Closed => "closed by the server",
+            LossCause::Silent => "silent",
+            LossCause::Failed => "socket failed",
+            LossCause::WrongLogin => "rejected A",
+            LossCause::NoSession => "rejected S",
+            LossCause::Rejected => "rejected",
+            LossCause::OtherSession => "in another session",
+            LossCause::Gap => "gap",
+            LossCause::NoMemory => "out of memory",
+            LossCause::Broken => "broke the protocol",
         }
     }
 }

@@ -2,7 +2,7 @@
 ghost use Rattle.std.specs.Prelude.{◌≡◌, ◌≤◌, length};
 ghost use Rattle.itch_status.specs.FigureTables.{figure_key, figure_label, figure_help, figure_kind, figure_value, counted, in_thousandths, as_clock, as_cause, as_session};
 
-use crate::cause::Cause;
+use crate::cause::LossCause;
 use crate::figures::Figures;
 use crate::shown::Shown;
 use itch_codec::Alpha;
@@ -247,7 +247,7 @@ fn clock(nanoseconds: Option<u64>) -> Shown
     }
 }
 
-fn cause(cause: Option<Cause>) -> Shown
+fn cause(cause: Option<LossCause>) -> Shown
     ensures { result ≡ as_cause cause }
 {
     match cause {

@@ -3,7 +3,7 @@ ghost use Rattle.std.specs.Prelude.{◌≡◌, None};
 ghost use Rattle.itch_status.specs.declared.state.FeedState.TheVariants.{Connecting};
 ghost use Rattle.itch_status.specs.FigureTables.{is_ready, record_length, record_unsynced};
 
-use crate::cause::Cause;
+use crate::cause::LossCause;
 use crate::rate::Minute;
 use crate::state::FeedState;
 use itch_codec::Alpha;
@@ -13,7 +13,7 @@ use itch_codec::Alpha;
 pub struct Figures {
     pub state: FeedState,
     /// The reason why the feed is not followed, if it is known.
-    pub cause: Option<Cause>,
+    pub cause: Option<LossCause>,
     /// The feed's session, after the feed named it.
     pub session: Option<Alpha<10>>,
     /// The number of the next message, if there is a market.

@@ -4,7 +4,7 @@ ghost use Rattle.itch_status.specs.Pages.{after_host, before_query, is_absolute,
 
 /// A page of the status port.
 #[derive(Clone, Copy, Debug, PartialEq, Eq)]
-pub enum Page {
+pub enum StatusPage {
     /// `/`, for people.
     People,
     /// `/metrics`, for Prometheus.
@@ -21,22 +21,22 @@ pub enum Page {
 
 /// Returns the page for a request's target, in origin form or in absolute form, for any query after its path.
 #[tactic(auto, unfolding(crate::specs::Pages::page_of))]
-pub fn page_of(target: &[u8]) -> Option<Page>
+pub fn page_of(target: &[u8]) -> Option<StatusPage>
     ensures { result ≡ page_of target.now }
 {
     let path = path_of(target);
     if path == b"/".as_slice() {
-        Some(Page::People)
+        Some(StatusPage::People)
     } else if path == b"/metrics".as_slice() {
-        Some(Page::Metrics)
+        Some(StatusPage::Metrics)
     } else if path == b"/healthz".as_slice() {
-        Some(Page::Health)
+        Some(StatusPage::Health)
     } else if path == b"/readyz".as_slice() {
-        Some(Page::Ready)
+        Some(StatusPage::Ready)
     } else if path == b"/status".as_slice() {
-        Some(Page::Status)
+        Some(StatusPage::Status)
     } else if path == b"/status.txt".as_slice() {
-        Some(Page::Lines)
+        Some(StatusPage::Lines)
     } else {
         None
     }

@@ -6,7 +6,7 @@ use http::StatusCode;
 
 /// The reason why a request is not answered with a page.
 #[derive(Clone, Copy, Debug, PartialEq, Eq)]
-pub enum Refusal {
+pub enum RequestRefusal {
     /// It is not an HTTP/1.1 or HTTP/1.0 request.
     BadRequest,
     /// There is no page at its path.
@@ -19,17 +19,17 @@ pub enum Refusal {
     TooLarge,
 }
 
-impl Refusal {
+impl RequestRefusal {
     /// Returns the status code of the response.
     pub fn code(self) -> StatusCode
         ensures { result ≡ refusal_code self }
     {
         match self {
-            Refusal::BadRequest => StatusCode::BAD_REQUEST,
-            Refusal::NotFound => StatusCode::NOT_FOUND,
-            Refusal::MethodNotAllowed => StatusCode::METHOD_NOT_ALLOWED,
-            Refusal::TimedOut => StatusCode::REQUEST_TIMEOUT,
-            Refusal::TooLarge => StatusCode::REQUEST_HEADER_FIELDS_TOO_LARGE,
+            RequestRefusal::BadRequest => StatusCode::BAD_REQUEST,
+            RequestRefusal::NotFound => StatusCode::NOT_FOUND,
+            RequestRefusal::MethodNotAllowed => StatusCode::METHOD_NOT_ALLOWED,
+            RequestRefusal::TimedOut => StatusCode::REQUEST_TIMEOUT,
+            RequestRefusal::TooLarge => StatusCode::REQUEST_HEADER_FIELDS_TOO_LARGE,
         }
     }
 }

@@ -3,8 +3,8 @@ ghost use Rattle.std.specs.Prelude.{◌≡◌};
 ghost use Rattle.itch_status.specs.Pages.{method_answer, page_answer, refused};
 ghost use Rattle.itch_status.specs.Requests.{Answers};
 
-use crate::page::{Page, page_of};
-use crate::refusal::Refusal;
+use crate::page::{StatusPage, page_of};
+use crate::refusal::RequestRefusal;
 use httparse::spans::{EMPTY_HEADER_SPAN, parse_request};
 use httparse::{Error, Status};
 
@@ -16,41 +16,47 @@ const MOST_FIELDS: usize = 64;
 
 /// The answer to a request.
 #[derive(Clone, Copy, Debug, PartialEq, Eq)]
-pub enum Answer {
+pub enum StatusAnswer {
     /// No answer yet: the head is not complete.
     More,
     /// This page, with its body, or without a body for HEAD.
-    Page { page: Page, has_body: bool },
+    Page {
+        page: StatusPage,
+        has_body: bool,
+    },
     /// No page: a body with the reason, or no body for HEAD.
-    Refused { refusal: Refusal, has_body: bool },
+    Refused {
+        refusal: RequestRefusal,
+        has_body: bool,
+    },
 }
 
 /// Returns this refusal, with a body.
-pub fn refused(refusal: Refusal) -> Answer
+pub fn refused(refusal: RequestRefusal) -> StatusAnswer
     ensures { result ≡ refused refusal }
 {
-    Answer::Refused {
+    StatusAnswer::Refused {
         refusal,
         has_body: true,
     }
 }
 
 /// Returns the answer to the request at the front of the bytes. Bytes after its head are ignored.
-pub fn answer_to(bytes: &[u8]) -> Answer
+pub fn answer_to(bytes: &[u8]) -> StatusAnswer
     ensures { Answers bytes.now result }
 {
     let mut fields = [EMPTY_HEADER_SPAN; MOST_FIELDS];
     match parse_request(bytes, &mut fields) {
         Ok(Status::Complete(head)) => answer_of(head.method.of(bytes), head.path.of(bytes)),
-        Ok(Status::Partial) if bytes.len() >= LONGEST => refused(Refusal::TooLarge),
-        Ok(Status::Partial) => Answer::More,
-        Err(Error::TooManyHeaders) => refused(Refusal::TooLarge),
-        Err(_) => refused(Refusal::BadRequest),
+        Ok(Status::Partial) if bytes.len() >= LONGEST => refused(RequestRefusal::TooLarge),
+        Ok(Status::Partial) => StatusAnswer::More,
+        Err(Error::TooManyHeaders) => refused(RequestRefusal::TooLarge),
+        Err(_) => refused(RequestRefusal::BadRequest),
     }
 }
 
 // Returns the answer to a request with this method and this target.
-fn answer_of(method: &[u8], target: &[u8]) -> Answer
+fn answer_of(method: &[u8], target: &[u8]) -> StatusAnswer
     ensures { result ≡ method_answer method.now target.now }
 {
     if method == b"GET".as_slice() {
@@ -58,17 +64,17 @@ fn answer_of(method: &[u8], target: &[u8]) -> Answer
     } else if method == b"HEAD".as_slice() {
         page_answer(false, page_of(target))
     } else {
-        refused(Refusal::MethodNotAllowed)
+        refused(RequestRefusal::MethodNotAllowed)
     }
 }
 
-fn page_answer(has_body: bool, page: Option<Page>) -> Answer
+fn page_answer(has_body: bool, page: Option<StatusPage>) -> StatusAnswer
     ensures { result ≡ page_answer has_body page }
 {
     match page {
-        Some(page) => Answer::Page { page, has_body },
-        None => Answer::Refused {
-            refusal: Refusal::NotFound,
+        Some(page) => StatusAnswer::Page { page, has_body },
+        None => StatusAnswer::Refused {
+            refusal: RequestRefusal::NotFound,
             has_body,
         },
     }

@@ -9,8 +9,8 @@ use crate::json::json;
 use crate::line::{push, push_number};
 use crate::lines::lines;
 use crate::metrics::metrics;
-use crate::page::Page;
-use crate::refusal::Refusal;
+use crate::page::StatusPage;
+use crate::refusal::RequestRefusal;
 use arrayvec::ArrayVec;
 use http::StatusCode;
 use httpdate::HttpDate;
@@ -22,7 +22,7 @@ const HEAD: usize = 512;
 /// Returns the response with a page, or only its head.
 pub fn respond(
     alloc: Global,
-    page: Page,
+    page: StatusPage,
     has_body: bool,
     figures: &Figures,
     version: &str,
@@ -45,7 +45,7 @@ pub fn respond(
 /// Returns the response to a request that is not answered with a page, or only its head.
 pub fn refuse(
     alloc: Global,
-    refusal: Refusal,
+    refusal: RequestRefusal,
     has_body: bool,
     date: Option<HttpDate>,
 ) -> Result<Vec<u8>, AllocError>
@@ -79,24 +79,24 @@ fn whole(
 const TEXT: &[u8] = b"text/plain; charset=utf-8";
 
 // Returns the content type of a page.
-fn content_type(page: Page) -> &'static [u8]
+fn content_type(page: StatusPage) -> &'static [u8]
     ensures text { result.now ≡ content_type page }
     ensures short { length result.now ≤ 45 }
 {
     match page {
-        Page::People => b"text/html; charset=utf-8",
-        Page::Metrics => b"text/plain; version=0.0.4; charset=utf-8",
-        Page::Status => b"application/json",
-        Page::Health | Page::Ready | Page::Lines => TEXT,
+        StatusPage::People => b"text/html; charset=utf-8",
+        StatusPage::Metrics => b"text/plain; version=0.0.4; charset=utf-8",
+        StatusPage::Status => b"application/json",
+        StatusPage::Health | StatusPage::Ready | StatusPage::Lines => TEXT,
     }
 }
 
 // Returns the status code of a page.
-fn code_of(page: Page, figures: &Figures) -> StatusCode
+fn code_of(page: StatusPage, figures: &Figures) -> StatusCode
     ensures { result ≡ page_code page figures.now }
 {
     match page {
-        Page::Ready => ready_code(figures.is_ready()),
+        StatusPage::Ready => ready_code(figures.is_ready()),
         _ => StatusCode::OK,
     }
 }
@@ -113,19 +113,19 @@ fn ready_code(is_ready: bool) -> StatusCode
 
 fn body_of(
     alloc: Global,
-    page: Page,
+    page: StatusPage,
     figures: &Figures,
     version: &str,
 ) -> Result<Vec<u8>, AllocError>
     ensures { IfOk result (λ body. body.items ≡ page_body page figures.now version.now) }
 {
     match page {
-        Page::People => html(alloc, figures, version),
-        Page::Metrics => metrics(alloc, figures, version),
-        Page::Status => json(alloc, figures, version),
-        Page::Lines => lines(alloc, figures, version),
-        Page::Health => Vec::from_slice(alloc, b"ok\n"),
-        Page::Ready => Vec::from_slice(alloc, ready_words(figures.is_ready())),
+        StatusPage::People => html(alloc, figures, version),
+        StatusPage::Metrics => metrics(alloc, figures, version),
+        StatusPage::Status => json(alloc, figures, version),
+        StatusPage::Lines => lines(alloc, figures, version),
+        StatusPage::Health => Vec::from_slice(alloc, b"ok\n"),
+        StatusPage::Ready => Vec::from_slice(alloc, ready_words(figures.is_ready())),
     }
 }
 

@@ -2,7 +2,7 @@
 ghost use Rattle.std.specs.Prelude.{◌≡◌, ◌≤◌, length};
 ghost use Rattle.itch_status.specs.Texts.{session_name};
 
-use crate::cause::Cause;
+use crate::cause::LossCause;
 use crate::state::FeedState;
 use itch_codec::Alpha;
 use itch_codec::spaces::after_spaces;
@@ -19,7 +19,7 @@ pub(crate) enum Shown {
     Clock(u64),
     Yes(bool),
     State(FeedState),
-    Cause(Cause),
+    Cause(LossCause),
     Session(Alpha<10>),
 }
 

@@ -6,7 +6,7 @@ use crate::rate::Minute;
 
 /// The messages received since the start.
 #[derive(Clone, Copy, Debug, PartialEq, Eq)]
-pub struct Tally {
+pub struct FeedTally {
     /// The number of the next message, if there is a market.
     pub next: Option<u64>,
     pub messages: u64,
@@ -15,14 +15,14 @@ pub struct Tally {
     pub received_ms: Option<u64>,
 }
 
-impl Tally {
+impl FeedTally {
     /// Creates a tally without messages. `next` is the number of the next message, if there is a market.
-    pub fn new(next: Option<u64>) -> Tally
+    pub fn new(next: Option<u64>) -> FeedTally
         ensures next { result.next ≡ next }
         ensures messages { result.messages ≡ 0 }
         ensures received { result.received_ms ≡ None }
     {
-        Tally {
+        FeedTally {
             next,
             messages: 0,
             minute: Minute::new(),

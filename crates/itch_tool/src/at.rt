@@ -11,7 +11,7 @@ use itch_commands::snap::has_each;
 use itch_commands::{FeedPart, Limit, PairCommand, Selection, Source, ToolFault, read_locates};
 use itch_frame::CountedWrite;
 use itch_market::LocateSet;
-use itchsnap_cli::input::Progress;
+use itchsnap_cli::input::ProgressLine;
 use std::alloc::{AllocError, Global};
 use std::rt::{Clock, Files};
 
@@ -22,7 +22,7 @@ pub fn join_at<'x, R: Files + Input + Eprint + AllocGlobal + Clock, W: CountedWr
     feed: Option<&str>,
     point: Limit,
     selection: Selection<'_>,
-    progress: Option<&'x Progress<'_, R>>,
+    progress: Option<&'x ProgressLine<'_, R>>,
     beginning: &'x Beginning,
     only: Option<LocateSet<Global>>,
     out: &mut W,

@@ -40,18 +40,18 @@ impl Beginning {
 
 /// A reader that reads as its inner reader does, and notes the first bytes.
 #[derive(Drop)]
-pub struct Begun<'a, T> {
+pub struct BegunInput<'a, T> {
     inner: T,
     beginning: &'a Beginning,
 }
 
-impl<'a, T> Begun<'a, T> {
-    pub fn new(inner: T, beginning: &'a Beginning) -> Begun<'a, T> {
-        Begun { inner, beginning }
+impl<'a, T> BegunInput<'a, T> {
+    pub fn new(inner: T, beginning: &'a Beginning) -> BegunInput<'a, T> {
+        BegunInput { inner, beginning }
     }
 }
 
-impl<T: Read> Read for Begun<'_, T> {
+impl<T: Read> Read for BegunInput<'_, T> {
     fn read(&mut self, buf: &mut [u8]) -> io::Result<usize> {
         let count = self.inner.read(buf)?;
         self.beginning.pass(&buf[..count]);

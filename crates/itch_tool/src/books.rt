@@ -11,7 +11,7 @@ use itch_depth::{books_at, books_every};
 use itch_frame::{Counted, CountedWrite};
 use itch_market::LocateSet;
 use itch_sessions::sessions::PIECE;
-use itchsnap_cli::input::Progress;
+use itchsnap_cli::input::ProgressLine;
 use itchsnap_cli::words::{BookWords, Times};
 use std::alloc::Allocator;
 use std::io::{self, BufWriter, Read, Write};
@@ -29,7 +29,7 @@ pub fn run_books<R: Files + Input + Print + Eprint + AllocGlobal + Clock>(
         None => None,
     };
     let progress = if words.progress {
-        Progress::begin(rt)
+        ProgressLine::begin(rt)
     } else {
         None
     };

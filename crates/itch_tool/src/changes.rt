@@ -8,7 +8,7 @@ use itch_commands::{Book, Source, ToolFault};
 use itch_depth::book_changes;
 use itch_frame::{Counted, CountedWrite};
 use itch_sessions::sessions::PIECE;
-use itchsnap_cli::input::Progress;
+use itchsnap_cli::input::ProgressLine;
 use itchsnap_cli::words::ChangeWords;
 use std::alloc::Allocator;
 use std::io::{self, BufWriter, Read, Write};
@@ -22,7 +22,7 @@ pub fn run_changes<R: Files + Input + Print + Eprint + AllocGlobal + Clock>(
 ) -> Result<bool, Failure> {
     let alloc = rt.alloc();
     let progress = if words.progress {
-        Progress::begin(rt)
+        ProgressLine::begin(rt)
     } else {
         None
     };

@@ -14,7 +14,7 @@ use clap::Error;
 use clap::error::ErrorKind;
 use itch_checkpoints::Unfit;
 use itch_commands::{Source, ToolFault, Unmet, system_fault};
-use itch_offsets::Unfit as IndexUnfit;
+use itch_offsets::IndexUnfit;
 use itch_records::{LiveFault, Names};
 use itch_sessions::{SessionCause, SessionDevice, SessionFault};
 use itch_soup::SoupFault;

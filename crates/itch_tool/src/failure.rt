@@ -4,7 +4,7 @@ ghost use Rattle.itch_tool.specs.Endings.{failure_status};
 
 use itch_checkpoints::Unfit;
 use itch_commands::ToolFault;
-use itch_offsets::Unfit as IndexUnfit;
+use itch_offsets::IndexUnfit;
 use itch_sessions::{LoginsFault, SessionFault};
 use std::alloc::{AllocError, Global};
 use std::io::{self, ErrorKind};

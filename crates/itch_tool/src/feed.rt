@@ -1,11 +1,11 @@
 //! The feed of a checkpoint, opened directly after the checkpoint's messages.
 
-use crate::beginning::{Beginning, Begun};
+use crate::beginning::{Beginning, BegunInput};
 use crate::opened::{read_fault, size};
 use itch_checkpoints::{Checkpoint, Fingerprint, Passed, Unfit, fingerprint_before, why_unfit};
 use itch_commands::{Source, ToolFault, system_fault};
 use itch_sessions::sessions::PIECE;
-use itchsnap_cli::input::{Opened, Progress, Watched};
+use itchsnap_cli::input::{Opened, ProgressLine, Watched};
 use std::alloc::{AllocError, Global};
 use std::fs;
 use std::io::{self, ErrorKind, Read};
@@ -36,12 +36,12 @@ pub fn open_after<'a, R: Files + Input + Eprint + AllocGlobal + Clock>(
     rt: &R,
     path: Option<&str>,
     checkpoint: &Checkpoint,
-    progress: Option<&'a Progress<'a, R>>,
+    progress: Option<&'a ProgressLine<'a, R>>,
     beginning: &'a Beginning,
-) -> Result<Watched<'a, Opened<R::File, Begun<'a, R::Reader>>, R>, FeedFault> {
+) -> Result<Watched<'a, Opened<R::File, BegunInput<'a, R::Reader>>, R>, FeedFault> {
     let offset = checkpoint.offset;
     let Some(path) = path else {
-        let standard = Begun::new(rt.reader(), beginning);
+        let standard = BegunInput::new(rt.reader(), beginning);
         return read_after(rt, Opened::Standard(standard), checkpoint, progress);
     };
     let mut file = match fs::open(rt, path) {
@@ -76,10 +76,10 @@ pub fn open_after<'a, R: Files + Input + Eprint + AllocGlobal + Clock>(
 // Does the same if the offset can only be reached by reading all bytes before it.
 fn read_after<'a, R: Files + Input + Eprint + AllocGlobal + Clock>(
     rt: &R,
-    opened: Opened<R::File, Begun<'a, R::Reader>>,
+    opened: Opened<R::File, BegunInput<'a, R::Reader>>,
     checkpoint: &Checkpoint,
-    progress: Option<&'a Progress<'a, R>>,
-) -> Result<Watched<'a, Opened<R::File, Begun<'a, R::Reader>>, R>, FeedFault> {
+    progress: Option<&'a ProgressLine<'a, R>>,
+) -> Result<Watched<'a, Opened<R::File, BegunInput<'a, R::Reader>>, R>, FeedFault> {
     if let Some(progress) = progress {
         progress.add_file(None);
     }

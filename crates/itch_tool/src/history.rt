@@ -10,7 +10,7 @@ use crate::run::{blocks, request_to};
 use itch_commands::{Source, ToolFault};
 use itch_history::{SearchFault, first_reference};
 use itch_market::{ReplayEnd, Stop};
-use itchsnap_cli::input::Progress;
+use itchsnap_cli::input::ProgressLine;
 use itchsnap_cli::words::HistoryWords;
 use std::rt::{Clock, Files};
 use std::{fs, io};
@@ -49,7 +49,7 @@ fn find_first<R: Files + Input + Eprint + AllocGlobal + Clock>(
         });
     }
     let progress = if words.progress {
-        Progress::begin(rt)
+        ProgressLine::begin(rt)
     } else {
         None
     };

@@ -1,6 +1,6 @@
 //! Shows and cuts a day file with its index.
 
-use crate::beginning::{Beginning, Begun as BegunInput};
+use crate::beginning::{Beginning, BegunInput};
 use crate::failure::Failure;
 use crate::history::run_history;
 use crate::locate_list::read_only;
@@ -12,9 +12,9 @@ use itch_commands::show::show_after;
 use itch_commands::{Begun, Command, FileKind, Source, ToolFault, cut_after, system_fault};
 use itch_frame::{Counted, CountedWrite};
 use itch_market::LocateSet;
-use itch_offsets::{DayIndex, Row, Unfit, begin_from, range_of, why_unfit};
+use itch_offsets::{DayIndex, IndexRow, IndexUnfit, begin_from, range_of, why_unfit};
 use itch_sessions::sessions::PIECE;
-use itchsnap_cli::input::{Opened, Progress, Watched};
+use itchsnap_cli::input::{Opened, ProgressLine, Watched};
 use itchsnap_cli::words::{IndexedWords, IndexedWork};
 use std::alloc::{AllocError, Global};
 use std::fs;
@@ -60,7 +60,7 @@ fn command_to<R: Files + Input + Eprint + AllocGlobal + Clock, W: Write + Drop>(
     };
     let mut out = Counted::new(buffered);
     let progress = if words.progress {
-        Progress::begin(rt)
+        ProgressLine::begin(rt)
     } else {
         None
     };
@@ -76,7 +76,7 @@ fn perform_indexed<R: Files + Input + Eprint + AllocGlobal + Clock, W: CountedWr
     words: &IndexedWords<'_>,
     command: Command<'_>,
     only: Option<&LocateSet<Global>>,
-    progress: Option<&Progress<'_, R>>,
+    progress: Option<&ProgressLine<'_, R>>,
     out: &mut W,
 ) -> Result<bool, Failure> {
     let mut fitting = open_fitting(rt, words)?;
@@ -141,7 +141,7 @@ fn open_fitting<R: Files + AllocGlobal>(
 ) -> Result<Fitting<R::File>, Failure> {
     let (file, size) = open_file(rt, words.file)?;
     let Some(index) = read_index(rt, words.index)? else {
-        return Err(unfit(rt.alloc(), Unfit::Invalid, words)?);
+        return Err(unfit(rt.alloc(), IndexUnfit::Invalid, words)?);
     };
     let last = index.rows().last().copied();
     let mut fitting = Fitting { file, size, index };
@@ -191,7 +191,7 @@ impl<F: Read + Seek> Fitting<F> {
         &mut self,
         rt: &R,
         words: &IndexedWords<'_>,
-        row: Option<Row>,
+        row: Option<IndexRow>,
     ) -> Result<u64, Failure> {
         if let Some(row) = row {
             self.compare(rt, words, &row)?;
@@ -208,7 +208,7 @@ impl<F: Read + Seek> Fitting<F> {
         &mut self,
         rt: &R,
         words: &IndexedWords<'_>,
-        row: &Row,
+        row: &IndexRow,
     ) -> Result<(), Failure> {
         let alloc = rt.alloc();
         let found = if self.size < row.mark.offset {
@@ -228,14 +228,18 @@ impl<F: Read + Seek> Fitting<F> {
 }
 
 // Returns the failure for an index that is not used, with the details for its message.
-fn unfit(alloc: Global, why: Unfit, words: &IndexedWords<'_>) -> Result<Failure, AllocError> {
+fn unfit(alloc: Global, why: IndexUnfit, words: &IndexedWords<'_>) -> Result<Failure, AllocError> {
     let (file, index) = (words.file, words.index);
     let detail = match why {
-        Unfit::Invalid => {
+        IndexUnfit::Invalid => {
             format!(in alloc; "{index}: not an index of `itchsnap index`, or changed since")?
         }
-        Unfit::Beyond => format!(in alloc; "{file}: it ends before the last message of {index}")?,
-        Unfit::OtherDay => format!(in alloc; "{index}: it is of another day file than {file}")?,
+        IndexUnfit::Beyond => {
+            format!(in alloc; "{file}: it ends before the last message of {index}")?
+        }
+        IndexUnfit::OtherDay => {
+            format!(in alloc; "{index}: it is of another day file than {file}")?
+        }
     };
     Ok(Failure::Index { why, detail })
 }

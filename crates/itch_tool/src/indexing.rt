@@ -10,7 +10,7 @@ use itch_commands::{Limit, Source, ToolFault};
 use itch_frame::{BlockReader, CountedRead};
 use itch_offsets::{IndexPass, IndexWriter};
 use itch_sessions::sessions::PIECE;
-use itchsnap_cli::input::Progress;
+use itchsnap_cli::input::ProgressLine;
 use itchsnap_cli::words::IndexWords;
 use std::alloc::{Allocator, Global};
 use std::fs::OpenFile;
@@ -53,7 +53,7 @@ fn index_to<R: Files + Input + Eprint + AllocGlobal + Clock, W: Write + Drop>(
 ) -> Result<W, Failure> {
     let alloc = rt.alloc();
     let progress = if words.progress {
-        Progress::begin(rt)
+        ProgressLine::begin(rt)
     } else {
         None
     };
@@ -89,7 +89,8 @@ fn write_index<S: CountedRead + Drop, A: Allocator, W: Write>(
                 Ok(fingerprint) => fingerprint,
                 Err(error) => return Err(Failure::from(read_fault(mark.count, error))),
             };
-            write(out, writer.row(pass.directory(), mark, fingerprint)?)?;
+            writer.add(pass.directory(), mark, fingerprint)?;
+            write(out, writer.lines())?;
             last = mark.count;
         }
         if !is_more {

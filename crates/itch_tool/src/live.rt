@@ -8,7 +8,7 @@ use itch_frame::Counted;
 use itch_live::Sessions;
 use itch_records::{DayFault, DayPaths, Names};
 use itch_sessions::sessions::{PIECE, Sending};
-use itch_sessions::{Place, Servers, SessionFault};
+use itch_sessions::{ServerAddress, Servers, SessionFault};
 use itchsnap_cli::words::{FeedWords, FollowWords, LiveWords, session_of_file};
 use itchsnap_live::{Accounts, Following, Serving, follow_feed, serve_live};
 use std::fs::File;
@@ -104,7 +104,7 @@ where
 }
 
 // Looks up the name of a server: a live server or a follower ends if it cannot be found at the start.
-fn look_up<R: Net + AllocGlobal>(rt: &R, place: Place<'_>) -> Result<(), Failure> {
+fn look_up<R: Net + AllocGlobal>(rt: &R, place: ServerAddress<'_>) -> Result<(), Failure> {
     match (place.host, place.port).to_socket_addrs(rt) {
         Ok(_) => Ok(()),
         Err(error) => Err(Failure::open(rt.alloc(), place.words, error)),

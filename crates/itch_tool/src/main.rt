@@ -53,7 +53,7 @@ use std::process::ExitCode;
 
 /// The words of the command line, beginning with the program's name, and the password in the environment.
 #[derive(Drop)]
-struct Words {
+struct CommandLine {
     line: Vec<String>,
     password: Option<String>,
 }
@@ -67,7 +67,7 @@ fn main(rt: HostRuntime) -> ExitCode {
 }
 
 // Runs the command line, and returns the exit status.
-fn perform(rt: &HostRuntime, words: &Words) -> u8 {
+fn perform(rt: &HostRuntime, words: &CommandLine) -> u8 {
     let password = match &words.password {
         Some(password) => Some(password.as_str()),
         None => None,
@@ -83,8 +83,8 @@ fn perform(rt: &HostRuntime, words: &Words) -> u8 {
     }
 }
 
-fn read_words<R: Env + AllocGlobal>(rt: &R) -> Result<Words, Error> {
-    Ok(Words {
+fn read_words<R: Env + AllocGlobal>(rt: &R) -> Result<CommandLine, Error> {
+    Ok(CommandLine {
         line: read_line(rt.alloc(), env::args(rt))?,
         password: password_of_environment(rt)?,
     })

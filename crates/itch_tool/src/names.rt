@@ -7,8 +7,8 @@ use crate::selected::Selected;
 use itch_commands::{Command, FileKind, PairCommand, Request, Source};
 use itch_sessions::{SessionDevice, SessionFault};
 use itchsnap_cli::words::{
-    FeedWords, FollowWords, HistoryWords, IndexWords, IndexedWords, IndexedWork, Job, LiveWords,
-    PointWords, Server, StatusWords,
+    FeedWords, FetchServer, FollowWords, HistoryWords, IndexWords, IndexedWords, IndexedWork, Job,
+    LiveWords, PointWords, StatusWords,
 };
 use std::fmt;
 use std::net::SocketAddr;
@@ -303,7 +303,7 @@ impl<'a> SessionNames<'a> {
         SessionNames::of_peer(Name::Address(address), None)
     }
 
-    pub fn of_fetched(server: &Server<'a>, output: Option<&'a str>) -> Self {
+    pub fn of_fetched(server: &FetchServer<'a>, output: Option<&'a str>) -> Self {
         SessionNames::of_peer(Name::Server(server.host, server.port), output)
     }
 

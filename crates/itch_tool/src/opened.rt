@@ -1,10 +1,10 @@
 //! Opens the input of a command.
 
-use crate::beginning::{Beginning, Begun};
+use crate::beginning::{Beginning, BegunInput};
 use itch_commands::{Source, ToolFault, system_fault};
 use itch_frame::FrameFault;
 use itch_market::{ReplayEnd, Stop};
-use itchsnap_cli::input::{Opened, Progress, Watched};
+use itchsnap_cli::input::{Opened, ProgressLine, Watched};
 use std::rt::Files;
 use std::{fs, io};
 
@@ -16,14 +16,14 @@ pub fn open<'a, R: Files + Input + Eprint>(
     rt: &R,
     path: Option<&str>,
     source: Source,
-    progress: Option<&'a Progress<'a, R>>,
+    progress: Option<&'a ProgressLine<'a, R>>,
     beginning: &'a Beginning,
-) -> Result<Watched<'a, Opened<R::File, Begun<'a, R::Reader>>, R>, ToolFault> {
+) -> Result<Watched<'a, Opened<R::File, BegunInput<'a, R::Reader>>, R>, ToolFault> {
     let Some(path) = path else {
         if let Some(progress) = progress {
             progress.add_file(None);
         }
-        let standard = Begun::new(rt.reader(), beginning);
+        let standard = BegunInput::new(rt.reader(), beginning);
         return Ok(Watched::new(Opened::Standard(standard), progress));
     };
     let file = match fs::open(rt, path) {

@@ -59,7 +59,7 @@ impl fmt::Display for PackedFile<'_> {
         };
         write!(f, "{name}: this is {form} file: {reader}")?;
         if let Some(path) = self.path {
-            write!(f, " {}", Quoted { path })?;
+            write!(f, " {}", ShellWord { path })?;
         }
         // A command that reads its file twice takes no pipe.
         match self.words {
@@ -85,11 +85,11 @@ fn form_and_reader(packing: Packing, is_named: bool) -> Option<(&'static str, &'
 
 // A path as a word of a shell command.
 #[derive(Drop)]
-struct Quoted<'a> {
+struct ShellWord<'a> {
     path: &'a str,
 }
 
-impl fmt::Display for Quoted<'_> {
+impl fmt::Display for ShellWord<'_> {
     fn fmt<W: fmt::Write>(&self, f: &mut fmt::Formatter<W>) -> fmt::Result {
         if self.path.bytes().all(is_plain) {
             return f.write_str(self.path);

@@ -13,7 +13,7 @@ use itch_commands::{Book, Limit, Source, ToolFault, write_locates};
 use itch_frame::{BlockReader, Counted, CountedRead};
 use itch_market::LocateSet;
 use itch_sessions::sessions::PIECE;
-use itchsnap_cli::input::Progress;
+use itchsnap_cli::input::ProgressLine;
 use itchsnap_cli::words::{PointWords, Points};
 use std::alloc::{Allocator, Global};
 use std::fs;
@@ -32,7 +32,7 @@ pub fn run_points<R: Files + Input + Eprint + AllocGlobal + Clock>(
         None => None,
     };
     let progress = if words.progress {
-        Progress::begin(rt)
+        ProgressLine::begin(rt)
     } else {
         None
     };

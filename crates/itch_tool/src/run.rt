@@ -21,7 +21,7 @@ use itch_commands::{
 use itch_frame::{BlockReader, Buffered, Counted, CountedWrite};
 use itch_market::LocateSet;
 use itch_sessions::sessions::{PIECE, default_session};
-use itchsnap_cli::input::Progress;
+use itchsnap_cli::input::ProgressLine;
 use itchsnap_cli::words::{Completions, Job, Shell};
 use std::alloc::{Allocator, Global};
 use std::fs::File;
@@ -118,7 +118,11 @@ pub fn request_to<R: Files + Input + Eprint + AllocGlobal + Clock, W: Write + Dr
         return Err(Failure::from(ToolFault::OutOfMemory));
     };
     let mut out = Counted::new(buffered);
-    let progress = if progress { Progress::begin(rt) } else { None };
+    let progress = if progress {
+        ProgressLine::begin(rt)
+    } else {
+        None
+    };
     let answer = answer(rt, request, progress.as_ref(), beginning, only, &mut out)?;
     match out.into_inner().flush() {
         Ok(()) => Ok(answer),
@@ -130,7 +134,7 @@ pub fn request_to<R: Files + Input + Eprint + AllocGlobal + Clock, W: Write + Dr
 fn answer<R: Files + Input + Eprint + AllocGlobal + Clock, W: CountedWrite>(
     rt: &R,
     request: Request<'_>,
-    progress: Option<&Progress<'_, R>>,
+    progress: Option<&ProgressLine<'_, R>>,
     beginning: &Beginning,
     only: Option<LocateSet<Global>>,
     out: &mut W,

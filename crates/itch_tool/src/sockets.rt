@@ -13,8 +13,8 @@ use itch_commands::{Book, FileKind, Source};
 use itch_frame::{BlockReader, Buffered, Counted};
 use itch_sessions::SessionFault;
 use itch_sessions::sessions::{Login, PIECE, fetch, fetch_rest};
-use itchsnap_cli::input::Progress;
-use itchsnap_cli::words::{LoginWords, Server};
+use itchsnap_cli::input::ProgressLine;
+use itchsnap_cli::words::{FetchServer, LoginWords};
 use std::alloc::Global;
 use std::io::{self, BufReader, BufWriter, Write};
 use std::net::{Net, SocketAddr, TcpListener, TcpStream, ToSocketAddrs};
@@ -38,7 +38,11 @@ where
     R: Net<Listener = TcpListener, Stream = TcpStream>,
 {
     let login = read_login(rt, login)?;
-    let progress = if progress { Progress::begin(rt) } else { None };
+    let progress = if progress {
+        ProgressLine::begin(rt)
+    } else {
+        None
+    };
     let file = open(rt, file, Source::Only, progress.as_ref(), beginning)?;
     let alloc = rt.alloc();
     let mut reader = blocks(alloc, file)?;
@@ -60,7 +64,7 @@ where
 /// output is written to the file at a path, or to standard output.
 pub fn run_fetch<R>(
     rt: &R,
-    server: &Server<'_>,
+    server: &FetchServer<'_>,
     login: &LoginWords<'_>,
     from: Option<Seq>,
     output: Option<&str>,
@@ -82,7 +86,7 @@ where
 
 fn fetch_to<R, W: Write + Drop>(
     rt: &R,
-    server: &Server<'_>,
+    server: &FetchServer<'_>,
     login: &Login,
     from: Option<Seq>,
     writer: W,
@@ -131,7 +135,7 @@ pub fn read_login<R: Files + AllocGlobal>(
 
 fn connect<N: Net<Stream = TcpStream>>(
     net: &N,
-    server: &Server<'_>,
+    server: &FetchServer<'_>,
 ) -> Result<TcpStream, SessionFault> {
     match connect_as_told(net, server) {
         Ok(stream) => Ok(stream),
@@ -142,7 +146,7 @@ fn connect<N: Net<Stream = TcpStream>>(
 // Connects to a server, for a login that is sent at once, because no further data follows for which it could wait.
 fn connect_as_told<N: Net<Stream = TcpStream>>(
     net: &N,
-    server: &Server<'_>,
+    server: &FetchServer<'_>,
 ) -> io::Result<TcpStream> {
     let address = (server.host, server.port);
     let Some(limit) = limit_of(server) else {
@@ -157,7 +161,7 @@ fn connect_as_told<N: Net<Stream = TcpStream>>(
 }
 
 // Returns how long a server may be silent, if there is a time limit.
-fn limit_of(server: &Server<'_>) -> Option<Duration> {
+fn limit_of(server: &FetchServer<'_>) -> Option<Duration> {
     server.timeout.map(Duration::from_secs)
 }
 

@@ -3,7 +3,7 @@
 use crate::failure::Failure;
 use crate::sockets::connect_within;
 use itch_commands::{ToolFault, system_fault};
-use itch_sessions::{Place, SessionFault};
+use itch_sessions::{ServerAddress, SessionFault};
 use itch_status::{body_of, is_ready};
 use itchsnap_cli::words::StatusWords;
 use std::io::{self, ErrorKind, Read, Write};
@@ -45,7 +45,7 @@ fn ask<R>(rt: &R, words: &StatusWords<'_>) -> io::Result<Vec<u8>>
 where
     R: AllocGlobal + Net<Stream = TcpStream>,
 {
-    let Place { host, port, .. } = words.place;
+    let ServerAddress { host, port, .. } = words.place;
     let patience = Duration::from_secs(PATIENCE_S);
     let mut stream = connect_within(rt, (host, port), patience)?;
     stream.set_read_timeout(Some(patience))?;

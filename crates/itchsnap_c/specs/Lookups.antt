@@ -6,7 +6,7 @@ use Rattle.itch_codec.specs.declared.orders.Side.{Side}
 use Rattle.itch_codec.specs.declared.orders.Side.TheVariants.{Buy, Sell}
 use Rattle.itch_market.specs.Content.{Content}
 use Rattle.itchsnap_c.specs.declared.answers.BookOrder.{BookOrder}
-use Rattle.itchsnap_c.specs.declared.answers.Level.{Level}
+use Rattle.itchsnap_c.specs.declared.answers.LevelTotal.{LevelTotal}
 use Rattle.itchsnap_c.specs.declared.answers.Price.{Price}
 use Rattle.itchsnap_c.specs.declared.answers.Count.{Count}
 use Rattle.itchsnap_c.specs.Codes.{counted, no_count}
@@ -48,10 +48,10 @@ order_in (Some m) reference = order_answer (book.get m.orders reference)
 order_in None reference = no_order 50
 
 -- a level's shares, in two parts, and the number of its orders
-abbrev pub level_answer : ℕ × ℕ → Level
+abbrev pub level_answer : ℕ × ℕ → LevelTotal
 level_answer total = record { shares_low = total.0 % 2 ^ 64; shares_high = total.0 / 2 ^ 64; orders = total.1; code = 0 }
 
-abbrev pub level_in : Option Content → ℕ → Bool → ℕ → Level
+abbrev pub level_in : Option Content → ℕ → Bool → ℕ → LevelTotal
 level_in (Some m) locate buy price = level_answer (book.level_total m.orders locate (side_of buy) price)
 level_in None locate buy price = record { shares_low = 0; shares_high = 0; orders = 0; code = 50 }
 

@@ -15,7 +15,7 @@ use Rattle.itch_soup.specs.declared.packet.Packet.TheVariants as is
 use Rattle.itchsnap_c.specs.declared.answers.AcceptancePacket.{AcceptancePacket}
 use Rattle.itchsnap_c.specs.declared.answers.Act.{Act}
 use Rattle.itchsnap_c.specs.declared.answers.Answer.{Answer}
-use Rattle.itchsnap_c.specs.declared.answers.Login.{Login}
+use Rattle.itchsnap_c.specs.declared.answers.SessionLogin.{SessionLogin}
 use Rattle.itchsnap_c.specs.declared.answers.LoginPacket.{LoginPacket}
 use Rattle.itchsnap_c.specs.declared.object.Object.{Object}
 use Rattle.itchsnap_c.specs.declared.object.Object.TheVariants.{Market, Joiner, Client, Server}
@@ -29,28 +29,28 @@ abbrev pub wrong_act : Act
 wrong_act = act 50 0 0
 
 -- each text is printable
-abbrev pub AreTexts : Login → Type 0
+abbrev pub AreTexts : SessionLogin → Type 0
 AreTexts login = IsPrintable login.username × IsPrintable login.password × IsPrintable login.session
 
-abbrev pub credentials_of : Login → Credentials
+abbrev pub credentials_of : SessionLogin → Credentials
 credentials_of login = record { username = login.username; password = login.password; session = login.session }
 
-abbrev pub config_of : Login → ServerConfig
+abbrev pub config_of : SessionLogin → ServerConfig
 config_of login = record { username = login.username; password = login.password; session = login.session }
 
 -- a handle is filled with a new session, unless a text is invalid, or the number is above the greatest; this is the code for the latter
-abbrev pub FillsSession : Login → ℕ → ℕ → ℕ → Object → Option Object → Answer → Option Object → Type 0
+abbrev pub FillsSession : SessionLogin → ℕ → ℕ → ℕ → Object → Option Object → Answer → Option Object → Type 0
 FillsSession login number most code session old answer new =
     (AreTexts login × (number ≤ most) × Fills old session answer new)
     ⊎ ((¬ AreTexts login) × (answer ≡ coded 3 0) × (new ≡ old))
     ⊎ (AreTexts login × (most < number) × (answer ≡ coded code 0) × (new ≡ old))
 
 -- the same for a client's session and its number
-abbrev pub FillsClient : Login → ℕ → ℕ → Option Object → Answer → Option Object → Type 0
+abbrev pub FillsClient : SessionLogin → ℕ → ℕ → Option Object → Answer → Option Object → Type 0
 FillsClient login number now = FillsSession login number (10 ^ 19) 54 (Client (soup.new_client (credentials_of login) number now))
 
 -- the same for a server's session and its number of messages
-abbrev pub FillsServer : Login → ℕ → ℕ → Option Object → Answer → Option Object → Type 0
+abbrev pub FillsServer : SessionLogin → ℕ → ℕ → Option Object → Answer → Option Object → Type 0
 FillsServer config total now = FillsSession config total (10 ^ 19 - 1) 33 (Server (soup_server.new_server (config_of config) total now))
 
 -- a block is a packet of this side, and gets this answer; or it is not, and the session is unchanged

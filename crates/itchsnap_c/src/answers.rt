@@ -33,7 +33,7 @@ pub struct BookOrder {
 /// The total of a price level.
 #[repr(C)]
 #[derive(Clone, Copy, Drop)]
-pub struct Level {
+pub struct LevelTotal {
     /// The lower 64 bits of the sum of the shares.
     pub shares_low: u64,
     /// The upper 64 bits of the sum of the shares.
@@ -144,7 +144,7 @@ pub struct Act {
 /// The credentials of a client, or those that a server accepts and the session that it serves. Each text is padded with spaces.
 #[repr(C)]
 #[derive(Clone, Copy, Drop)]
-pub struct Login {
+pub struct SessionLogin {
     pub username: [u8; 6],
     pub password: [u8; 10],
     pub session: [u8; 10],

@@ -6,7 +6,7 @@ ghost use Rattle.itchsnap_c.specs.Objects.{OnHandle, AtMarket};
 use crate::answers::{Answer, Applied};
 use crate::codes::{OUT_OF_MEMORY, WRONG_HANDLE, stop_answer};
 use crate::handle::Handle;
-use crate::object::{Book, Object};
+use crate::object::{HandleBook, Object};
 use crate::slice::SliceReader;
 use itch_frame::BlockReader;
 use itch_market::{Market, replay};
@@ -39,7 +39,7 @@ fn apply(alloc: Global, object: &mut Object, blocks: &[u8]) -> Applied
 }
 
 // Applies the messages of blocks.
-fn apply_all(alloc: Global, market: &mut Market<Book>, blocks: &[u8]) -> Applied
+fn apply_all(alloc: Global, market: &mut Market<HandleBook>, blocks: &[u8]) -> Applied
     ensures { AppliesBlocks blocks.now market.old result market.new }
 {
     let Ok(mut reader) = BlockReader::new(alloc, SliceReader { rest: blocks }) else {

@@ -3,7 +3,7 @@ ghost use Rattle.std.specs.Prelude.{◌≡◌};
 ghost use Rattle.itchsnap_c.specs.Objects.{OnHandle, AtClient};
 ghost use Rattle.itchsnap_c.specs.Sessions.{FillsClient, ClientHears, held_client, login_in, wrong_act};
 
-use crate::answers::{Act, Answer, Login, LoginPacket};
+use crate::answers::{Act, Answer, LoginPacket, SessionLogin};
 use crate::codes::{BAD_TEXT, NO_NUMBER, WRONG_HANDLE, coded};
 use crate::handle::Handle;
 use crate::object::Object;
@@ -19,7 +19,7 @@ use std::alloc::Global;
 pub extern "C" fn itchsnap_client_new(
     alloc: Global,
     handle: &mut Handle,
-    login: &Login,
+    login: &SessionLogin,
     from: u64,
     now_ms: u64,
 ) -> Answer

@@ -6,7 +6,7 @@ use crate::answers::Answer;
 use crate::codes::{DONE, NO_MEMORY, TAKEN};
 use crate::kept::{Kept, empty, seal, unseal};
 use crate::loose::Loose;
-use crate::object::{Book, Object};
+use crate::object::{HandleBook, Object};
 use itch_join::Joiner;
 use itch_market::Market;
 use itch_soup::{ClientSession, ServerSession};
@@ -89,7 +89,7 @@ impl Handle {
     }
 
     /// Calls a function with the joiner; if there is none, the answer is `wrong`.
-    pub(crate) fn with_joiner<R: Copy, F: FnOnce(&mut Joiner<Book>) -> R>(
+    pub(crate) fn with_joiner<R: Copy, F: FnOnce(&mut Joiner<HandleBook>) -> R>(
         &mut self,
         alloc: Global,
         wrong: R,
@@ -128,7 +128,7 @@ impl Handle {
     }
 
     /// Calls a function with the market; if there is none, the answer is `wrong`.
-    pub(crate) fn look_up<R: Drop, F: FnOnce(&Market<Book>) -> R>(
+    pub(crate) fn look_up<R: Drop, F: FnOnce(&Market<HandleBook>) -> R>(
         &mut self,
         alloc: Global,
         wrong: R,
@@ -144,6 +144,31 @@ impl Handle {
         let answer = object.market().map_or(wrong, call);
         self.put(object);
         answer
+    }
+
+    /// Does the same for a look-up by price, for which it prepares the market's book first.
+    pub(crate) fn look_up_by_price<R: Drop, F: FnOnce(&Market<HandleBook>) -> R>(
+        &mut self,
+        alloc: Global,
+        wrong: R,
+        call: F,
+    ) -> R
+        requires { F.IsAlwaysCallable call }
+        ensures answer { MatchOption (held_market self.old.kept.object) (result ≡ wrong) (λ market. FnOnceReturnsAt F.FnOnce call market result) }
+        ensures same { self.new.kept.object ≡ self.old.kept.object }
+    {
+        self.settle(alloc);
+        self.look_up(alloc, wrong, call)
+    }
+
+    // Prepares the market's book for look-ups by price, if there is one. Nothing changes.
+    fn settle(&mut self, alloc: Global)
+        ensures { self.new.kept.object ≡ self.old.kept.object }
+    {
+        if let Some(mut object) = self.take(alloc) {
+            object.settle();
+            self.put(object);
+        }
     }
 }
 

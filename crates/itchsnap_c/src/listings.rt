@@ -9,7 +9,7 @@ use crate::answers::{BookOrder, PriceLevel, Stock, Written};
 use crate::codes::{ABSENT, OUT_OF_MEMORY, WRONG_HANDLE};
 use crate::handle::Handle;
 use crate::lookups::{order_answer, side_of};
-use crate::object::Book;
+use crate::object::HandleBook;
 use crate::snapshots::put;
 use itch_book::OrderBook;
 use itch_codec::Side;
@@ -48,7 +48,7 @@ pub extern "C" fn itchsnap_orders(
     ensures listed { Lists (orders_at locate) (held_market handle.old.kept.object) out.old result out.new }
     ensures same { handle.new.kept.object ≡ handle.old.kept.object }
 {
-    let items = handle.look_up(alloc, Err(WRONG_HANDLE), |market| {
+    let items = handle.look_up_by_price(alloc, Err(WRONG_HANDLE), |market| {
         orders_at(alloc, market, locate)
     });
     put(&items, out)
@@ -66,19 +66,19 @@ pub extern "C" fn itchsnap_levels(
     ensures listed { Lists (levels_at locate buy) (held_market handle.old.kept.object) out.old result out.new }
     ensures same { handle.new.kept.object ≡ handle.old.kept.object }
 {
-    let items = handle.look_up(alloc, Err(WRONG_HANDLE), |market| {
+    let items = handle.look_up_by_price(alloc, Err(WRONG_HANDLE), |market| {
         levels_at(alloc, market, locate, buy)
     });
     put(&items, out)
 }
 
-fn locates_of(alloc: Global, market: &Market<Book>) -> Result<Vec<u16>, u32>
+fn locates_of(alloc: Global, market: &Market<HandleBook>) -> Result<Vec<u16>, u32>
     ensures { Gathers (locates_of market.now) result }
 {
     market.locates().collect(alloc).map_err(|_| OUT_OF_MEMORY)
 }
 
-fn orders_at(alloc: Global, market: &Market<Book>, locate: u16) -> Result<Vec<BookOrder>, u32>
+fn orders_at(alloc: Global, market: &Market<HandleBook>, locate: u16) -> Result<Vec<BookOrder>, u32>
     ensures { Gathers (orders_at locate market.now) result }
 {
     orders_of(alloc, market.book(), locate)
@@ -100,7 +100,7 @@ fn orders_of<B: OrderBook>(alloc: Global, book: &B, locate: u16) -> Result<Vec<B
 
 fn levels_at(
     alloc: Global,
-    market: &Market<Book>,
+    market: &Market<HandleBook>,
     locate: u16,
     buy: bool,
 ) -> Result<Vec<PriceLevel>, u32>

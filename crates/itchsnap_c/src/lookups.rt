@@ -4,7 +4,7 @@ ghost use Rattle.std.specs.Option.{option_copied};
 ghost use Rattle.itchsnap_c.specs.Objects.{held_market};
 ghost use Rattle.itchsnap_c.specs.Lookups.{side_of, no_order, order_answer, best_in, order_in, level_answer, level_in, price_answer, price_in, count_in};
 
-use crate::answers::{BookOrder, Count, Level, Price};
+use crate::answers::{BookOrder, Count, LevelTotal, Price};
 use crate::codes::{ABSENT, WRONG_HANDLE, counted, no_count};
 use crate::handle::Handle;
 use itch_book::{Order, OrderBook};
@@ -22,7 +22,7 @@ pub extern "C" fn itchsnap_best(
     ensures best { result ≡ best_in (held_market handle.old.kept.object) locate buy }
     ensures same { handle.new.kept.object ≡ handle.old.kept.object }
 {
-    handle.look_up(alloc, no_order(WRONG_HANDLE), |market| {
+    handle.look_up_by_price(alloc, no_order(WRONG_HANDLE), |market| {
         order_answer(market.best(locate, side_of(buy)))
     })
 }
@@ -46,11 +46,11 @@ pub extern "C" fn itchsnap_level(
     locate: u16,
     buy: bool,
     price: u32,
-) -> Level
+) -> LevelTotal
     ensures level { result ≡ level_in (held_market handle.old.kept.object) locate buy price }
     ensures same { handle.new.kept.object ≡ handle.old.kept.object }
 {
-    handle.look_up(alloc, NO_LEVEL, |market| {
+    handle.look_up_by_price(alloc, NO_LEVEL, |market| {
         level_answer(market.book().level_total(locate, side_of(buy), price))
     })
 }
@@ -69,7 +69,7 @@ pub extern "C" fn itchsnap_next_price(
     ensures same { handle.new.kept.object ≡ handle.old.kept.object }
 {
     let last = if after { Some(last) } else { None };
-    handle.look_up(alloc, no_price(WRONG_HANDLE), |market| {
+    handle.look_up_by_price(alloc, no_price(WRONG_HANDLE), |market| {
         price_answer(market.book().next_price(locate, side_of(buy), last))
     })
 }
@@ -142,11 +142,11 @@ fn no_price(code: u32) -> Price
     Price { price: 0, code }
 }
 
-fn level_answer(total: (u128, u64)) -> Level
+fn level_answer(total: (u128, u64)) -> LevelTotal
     ensures { result ≡ level_answer total }
 {
     let (shares, orders) = total;
-    Level {
+    LevelTotal {
         shares_low: (shares % (1 << 64)) as u64,
         shares_high: (shares / (1 << 64)) as u64,
         orders,
@@ -155,7 +155,7 @@ fn level_answer(total: (u128, u64)) -> Level
 }
 
 // The result if a handle holds no market.
-const NO_LEVEL: Level = Level {
+const NO_LEVEL: LevelTotal = LevelTotal {
     shares_low: 0,
     shares_high: 0,
     orders: 0,

@@ -9,7 +9,7 @@ ghost use Rattle.itchsnap_c.specs.Markets.{Applies, Loads, LoadsNew, HasMarketOf
 use crate::answers::{Answer, Loaded};
 use crate::codes::{IN_USE, WRONG, not_loaded, outcome_answer, snapshot_answer};
 use crate::handle::Handle;
-use crate::object::{Book, Object};
+use crate::object::{HandleBook, Object};
 use crate::slice::SliceReader;
 use itch_codec::{Seq, decode};
 use itch_frame::BlockReader;
@@ -62,7 +62,7 @@ fn apply(object: &mut Object, payload: &[u8]) -> Answer
 }
 
 // Applies the message of a payload.
-fn take_payload(market: &mut Market<Book>, payload: &[u8]) -> Result<(), Stop>
+fn take_payload(market: &mut Market<HandleBook>, payload: &[u8]) -> Result<(), Stop>
     ensures { TakesOne market.old payload.now result market.new }
 {
     let message = decode(payload).map_err(Stop::Codec)?;

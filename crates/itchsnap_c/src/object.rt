@@ -4,27 +4,28 @@ ghost use Rattle.std.specs.Fn.{FnOnceReturnsAtMut};
 ghost use Rattle.std.specs.Option.{option_copied};
 ghost use Rattle.itchsnap_c.specs.Objects.{AtJoiner, AtClient, AtServer, market_of};
 
-use itch_book::IndexedBook;
+use itch_adaptive::AdaptiveBook;
+use itch_book::{IndexedBook, SettledBook};
 use itch_join::Joiner;
 use itch_market::Market;
 use itch_soup::{ClientSession, ServerSession};
 use std::alloc::Global;
 
 /// The type of book in which every market of a handle keeps its orders.
-pub(crate) type Book = IndexedBook<Global>;
+pub(crate) type HandleBook = AdaptiveBook<SettledBook<Global>, IndexedBook<Global>>;
 
 /// The object in a handle.
 #[derive(Drop)]
 pub(crate) enum Object {
-    Market(Market<Book>),
-    Joiner(Joiner<Book>),
+    Market(Market<HandleBook>),
+    Joiner(Joiner<HandleBook>),
     Client(ClientSession),
     Server(ServerSession),
 }
 
 impl Object {
     /// Returns the market in which look-ups are made: for a joiner the one that it keeps once it has joined.
-    pub(crate) fn market(&self) -> Option<&Market<Book>>
+    pub(crate) fn market(&self) -> Option<&Market<HandleBook>>
         ensures { option_copied result ≡ market_of self.now }
     {
         match self {
@@ -34,8 +35,19 @@ impl Object {
         }
     }
 
+    /// Prepares the book of that market for look-ups by price. Nothing changes.
+    pub(crate) fn settle(&mut self)
+        ensures { self.new ≡ self.old }
+    {
+        match self {
+            Object::Market(market) => market.settle(),
+            Object::Joiner(joiner) => joiner.settle_market(),
+            Object::Client(_) | Object::Server(_) => {}
+        }
+    }
+
     /// Calls a function with a joiner; for any other object the answer is `wrong`.
-    pub(crate) fn at_joiner<R: Copy, F: FnOnce(&mut Joiner<Book>) -> R>(
+    pub(crate) fn at_joiner<R: Copy, F: FnOnce(&mut Joiner<HandleBook>) -> R>(
         &mut self,
         wrong: R,
         call: F,

@@ -63,7 +63,7 @@ pub extern "C" fn itchsnap_decode_blocks(
 {
     match chosen(alloc, locates) {
         Some(set) => fill(
-            Wanted {
+            RowFilter {
                 types,
                 locates,
                 set: &set,
@@ -78,7 +78,7 @@ pub extern "C" fn itchsnap_decode_blocks(
 
 // Which messages are wanted: those of these types and at these locates, which are those of the set. Without locates the set has all.
 #[derive(Clone, Copy)]
-struct Wanted<'a> {
+struct RowFilter<'a> {
     types: &'a [u8],
     locates: &'a [u16],
     set: &'a LocateSet<Global>,
@@ -95,7 +95,7 @@ fn chosen(alloc: Global, locates: &[u16]) -> Option<LocateSet<Global>>
 }
 
 // Fills C's memory with the messages that are wanted.
-fn fill(wanted: Wanted<'_>, before: u64, blocks: &[u8], out: &mut [Row]) -> Decoded
+fn fill(wanted: RowFilter<'_>, before: u64, blocks: &[u8], out: &mut [Row]) -> Decoded
     requires { (locate : ℕ) → has wanted.set.now locate ≡ is_chosen wanted.locates.now locate }
     ensures { Fills wanted.entry.types.now wanted.entry.locates.now before blocks.now out.old result out.new }
 {
@@ -116,7 +116,7 @@ fn fill(wanted: Wanted<'_>, before: u64, blocks: &[u8], out: &mut [Row]) -> Deco
 
 // Takes the next message: its row is written if it is wanted. Or why it is not taken.
 fn take(
-    wanted: Wanted<'_>,
+    wanted: RowFilter<'_>,
     count: u64,
     passed: usize,
     payload: &[u8],
@@ -144,7 +144,7 @@ fn take(
 // The row of a message, if it is wanted; or the fault of a payload whose type is.
 #[inline(always)]
 fn row_of(
-    wanted: Wanted<'_>,
+    wanted: RowFilter<'_>,
     number: u64,
     offset: u64,
     payload: &[u8],
@@ -170,7 +170,7 @@ fn row_of(
 
 // Whether a message is at a locate that is wanted.
 #[inline(always)]
-fn is_at(wanted: Wanted<'_>, message: &Message<'_>) -> bool
+fn is_at(wanted: RowFilter<'_>, message: &Message<'_>) -> bool
     requires { (locate : ℕ) → has wanted.set.now locate ≡ is_chosen wanted.locates.now locate }
     ensures { result ≡ is_at wanted.entry.locates.now (header message.now) }
 {

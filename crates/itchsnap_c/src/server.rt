@@ -3,7 +3,7 @@ ghost use Rattle.std.specs.Prelude.{◌≡◌, Some};
 ghost use Rattle.itchsnap_c.specs.Objects.{OnHandle, AtServer};
 ghost use Rattle.itchsnap_c.specs.Sessions.{FillsServer, ServerHears, held_server, Accepts, no_acceptance, wrong_act};
 
-use crate::answers::{AcceptancePacket, Act, Answer, Login};
+use crate::answers::{AcceptancePacket, Act, Answer, SessionLogin};
 use crate::codes::{BAD_TEXT, NO_NUMBER, TOO_MANY_MESSAGES, WRONG_HANDLE, coded};
 use crate::handle::Handle;
 use crate::object::Object;
@@ -18,7 +18,7 @@ use std::alloc::Global;
 pub extern "C" fn itchsnap_server_new(
     alloc: Global,
     handle: &mut Handle,
-    config: &Login,
+    config: &SessionLogin,
     total: u64,
     now_ms: u64,
 ) -> Answer

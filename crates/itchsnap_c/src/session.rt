@@ -4,7 +4,7 @@ ghost use Rattle.itchsnap_c.specs.Codes.{wrong};
 ghost use Rattle.itchsnap_c.specs.Objects.{OnHandle};
 ghost use Rattle.itchsnap_c.specs.Sessions.{AreTexts, credentials_of, Ticks, Notes};
 
-use crate::answers::{Answer, Login};
+use crate::answers::{Answer, SessionLogin};
 use crate::codes::{DONE, WRONG};
 use crate::handle::Handle;
 use crate::object::Object;
@@ -56,7 +56,7 @@ fn note(object: &mut Object, now_ms: u64) -> Answer
 }
 
 /// Returns the texts of a login.
-pub(crate) fn credentials(login: &Login) -> Result<Credentials, AlphaFault>
+pub(crate) fn credentials(login: &SessionLogin) -> Result<Credentials, AlphaFault>
     ensures taken { IfOk result (λ made. AreTexts login.now × (made ≡ credentials_of login.now)) }
     ensures refused { IfErr result (λ fault. ¬ AreTexts login.now) }
 {

@@ -29,7 +29,7 @@ pub extern "C" fn itchsnap_snapshot(
     ensures put { PutsHeld (λ m. m) (held_market handle.old.kept.object) next out.old result out.new }
     ensures same { handle.new.kept.object ≡ handle.old.kept.object }
 {
-    let bytes = handle.look_up(alloc, Err(WRONG_HANDLE), |market| {
+    let bytes = handle.look_up_by_price(alloc, Err(WRONG_HANDLE), |market| {
         whole_bytes(alloc, market, next)
     });
     put(&bytes, out)
@@ -47,7 +47,7 @@ pub extern "C" fn itchsnap_snapshot_only(
     ensures put { PutsHeld (only (is_listed locates.now)) (held_market handle.old.kept.object) next out.old result out.new }
     ensures same { handle.new.kept.object ≡ handle.old.kept.object }
 {
-    let bytes = handle.look_up(alloc, Err(WRONG_HANDLE), |market| {
+    let bytes = handle.look_up_by_price(alloc, Err(WRONG_HANDLE), |market| {
         partial_bytes(alloc, market, next, locates)
     });
     put(&bytes, out)

@@ -7,7 +7,7 @@ use Rattle.itch_frame.specs.Blocks.{IsPayload, block, blocks, IsBlock, HasNoBloc
 use Rattle.itch_frame.proofs.BlockLemmas.{same_block, blocks-push, each-push, nothing_left}
 use Rattle.itchsnap_cli.specs.declared.input.messages.Place.{Place}
 use Rattle.itchsnap_cli.specs.declared.input.messages.Place.TheVariants.{Border, Length, Payload}
-use Rattle.itchsnap_cli.specs.declared.input.messages.Tally.{Tally}
+use Rattle.itchsnap_cli.specs.declared.input.messages.BlockCounter.{BlockCounter}
 use Rattle.itchsnap_cli.specs.Tallies.{IsWholeAfter, IsAt, Reaches, Counts, CountsOn}
 
 -- bytes that one or more further bytes complete do not begin with a block
@@ -40,21 +40,21 @@ pub lacks_nothing : (bytes : List ℕ) → IsWholeAfter 0 bytes → IsBlock byte
 lacks_nothing bytes whole = subst IsBlock (append-nil bytes) (whole [] refl)
 
 -- an empty piece, and two adjacent pieces
-pub on_nothing : (tally : Tally) → CountsOn tally [] tally
+pub on_nothing : (tally : BlockCounter) → CountsOn tally [] tally
 on_nothing tally bytes counts = subst (Counts tally) (sym (append-nil bytes)) counts
 
-on_both : (old mid new : Tally) (first second : List ℕ) → CountsOn old first mid → CountsOn mid second new → CountsOn old (first ++ second) new
+on_both : (old mid new : BlockCounter) (first second : List ℕ) → CountsOn old first mid → CountsOn mid second new → CountsOn old (first ++ second) new
 on_both old mid new first second one two bytes counts = subst (Counts new) (append_assoc bytes first second) (two (bytes ++ first) (one bytes counts))
 
 -- the next byte of a piece
-pub on_next : (old mid new : Tally) (piece : List ℕ) (i : ℕ) → i < length piece
+pub on_next : (old mid new : BlockCounter) (piece : List ℕ) (i : ℕ) → i < length piece
     → CountsOn old (take i piece) mid → CountsOn mid (get_or piece i 0 ∷ []) new → CountsOn old (take (i + 1) piece) new
 on_next old mid new piece i inside so_far one =
     rw (add-one i) (subst (λ taken. CountsOn old taken new) (sym (take-suc piece i 0 inside))
     (on_both old mid new (take i piece) (get_or piece i 0 ∷ []) so_far one))
 
 -- one more byte, and the next block is not complete
-within_block : (old new : Tally) (bytes : List ℕ) (byte : ℕ) (so_far : Counts old bytes)
+within_block : (old new : BlockCounter) (bytes : List ℕ) (byte : ℕ) (so_far : Counts old bytes)
     → IsAt new.place (so_far.rest ++ byte ∷ []) → new.messages ≡ old.messages → Counts new (bytes ++ byte ∷ [])
 within_block old new bytes byte so_far at same = record {
   payloads = so_far.payloads;
@@ -69,7 +69,7 @@ within_block old new bytes byte so_far at same = record {
 }
 
 -- one more byte, and the next block is complete
-after_block : (old new : Tally) (bytes : List ℕ) (byte : ℕ) (so_far : Counts old bytes)
+after_block : (old new : BlockCounter) (bytes : List ℕ) (byte : ℕ) (so_far : Counts old bytes)
     → IsBlock (so_far.rest ++ byte ∷ []) → new.place ≡ Border → new.messages ≡ min (old.messages + 1) (2 ^ 64 - 1) → Counts new (bytes ++ byte ∷ [])
 after_block old new bytes byte so_far (payload, is) at more = record {
   payloads = so_far.payloads ++ payload ∷ [];
@@ -85,7 +85,7 @@ after_block old new bytes byte so_far (payload, is) at more = record {
 }
 
 -- one more byte
-pub one_on : (old new : Tally) (byte : ℕ) → ((bytes : List ℕ) → IsAt old.place bytes → Reaches new.place (bytes ++ byte ∷ []))
+pub one_on : (old new : BlockCounter) (byte : ℕ) → ((bytes : List ℕ) → IsAt old.place bytes → Reaches new.place (bytes ++ byte ∷ []))
     → (new.place ≡ Border → new.messages ≡ min (old.messages + 1) (2 ^ 64 - 1)) → ((new.place ≡ Border → ⊥) → new.messages ≡ old.messages)
     → CountsOn old (byte ∷ []) new
 one_on old new byte moves more same bytes so_far = by_place new.place refl (moves so_far.rest so_far.place) where

@@ -3,7 +3,7 @@ use Rattle.std.specs.Prelude.{◌≡◌, ℕ, ◌-◌, ◌^◌, ◌<◌, min, Li
 use Rattle.itch_frame.specs.Blocks.{IsBlock, Blocks}
 use Rattle.itchsnap_cli.specs.declared.input.messages.Place.{Place}
 use Rattle.itchsnap_cli.specs.declared.input.messages.Place.TheVariants.{Border, Length, Payload}
-use Rattle.itchsnap_cli.specs.declared.input.messages.Tally.{Tally}
+use Rattle.itchsnap_cli.specs.declared.input.messages.BlockCounter.{BlockCounter}
 
 -- this many more bytes, whatever they are, make these bytes a block
 abbrev pub IsWholeAfter : ℕ → List ℕ → Type 0
@@ -21,7 +21,7 @@ Reaches Border bytes = IsBlock bytes
 Reaches place bytes = IsAt place bytes
 
 -- the tally of the bytes so far: the number of blocks, up to the greatest number, and the place in the next one
-pub record Counts (tally : Tally) (bytes : List ℕ) : Type 0 where
+pub record Counts (tally : BlockCounter) (bytes : List ℕ) : Type 0 where
   pub payloads : List (List ℕ)
   pub rest : List ℕ
   pub reading : Blocks bytes payloads rest
@@ -29,5 +29,5 @@ pub record Counts (tally : Tally) (bytes : List ℕ) : Type 0 where
   pub place : IsAt tally.place rest
 
 -- the tally of some bytes becomes that of these bytes followed by a piece
-abbrev pub CountsOn : Tally → List ℕ → Tally → Type 0
+abbrev pub CountsOn : BlockCounter → List ℕ → BlockCounter → Type 0
 CountsOn old piece new = (bytes : List ℕ) → Counts old bytes → Counts new (bytes ++ piece)

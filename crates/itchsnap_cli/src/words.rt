@@ -43,5 +43,5 @@ pub use indexed::{IndexWords, IndexedWords, IndexedWork};
 pub use job::{Job, read_job};
 pub use live::{FeedWords, FollowWords, LiveWords};
 pub use points::{PointWords, Points};
-pub use session::{LoginWords, Password, Server, UserWords, session_of_file};
+pub use session::{FetchServer, LoginWords, Password, UserWords, session_of_file};
 pub use status::StatusWords;

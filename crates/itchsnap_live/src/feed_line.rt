@@ -4,9 +4,9 @@ ghost use Rattle.itchsnap_live.specs.Losses.{trouble_cause};
 
 use crate::cause::cause_of_code;
 use itch_codec::Alpha;
-use itch_sessions::log::entry::{Event, Level, write_letter, write_number, write_text};
+use itch_sessions::log::entry::{LogEvent, LogLevel, write_letter, write_number, write_text};
 use itch_sessions::log::form::LogForm;
-use itch_status::Cause;
+use itch_status::LossCause;
 use std::fmt::{self, Display, Formatter};
 
 /// The state of the connection to the feed, or to the snapshot server.
@@ -61,11 +61,11 @@ impl<L: Display> Display for Named<'_, L> {
     }
 }
 
-impl Event for FeedLine {
-    fn level(&self) -> Level {
+impl LogEvent for FeedLine {
+    fn level(&self) -> LogLevel {
         match self {
-            FeedLine::GlimpseLost | FeedLine::Lost(_) => Level::Warn,
-            _ => Level::Info,
+            FeedLine::GlimpseLost | FeedLine::Lost(_) => LogLevel::Warn,
+            _ => LogLevel::Info,
         }
     }
 
@@ -103,8 +103,8 @@ fn write_server<W: fmt::Write>(
     }
 }
 
-impl<L: Event> Event for Named<'_, L> {
-    fn level(&self) -> Level {
+impl<L: LogEvent> LogEvent for Named<'_, L> {
+    fn level(&self) -> LogLevel {
         self.line.level()
     }
 
@@ -122,7 +122,7 @@ impl<L: Event> Event for Named<'_, L> {
 #[derive(Clone, Copy)]
 pub(crate) struct Loss<'a> {
     pub line: FeedLine,
-    pub cause: Option<Cause>,
+    pub cause: Option<LossCause>,
     pub name: Option<&'a str>,
 }
 
@@ -139,8 +139,8 @@ impl Display for Loss<'_> {
     }
 }
 
-impl Event for Loss<'_> {
-    fn level(&self) -> Level {
+impl LogEvent for Loss<'_> {
+    fn level(&self) -> LogLevel {
         self.line.level()
     }
 
@@ -175,20 +175,20 @@ pub(crate) enum Trouble {
     /// Memory was refused for the message with this number.
     NoMemory(u64),
     /// The connection ended, or could not be made, for this cause. It appears only in the fields of events.
-    Cut(Cause),
+    Cut(LossCause),
 }
 
 impl Trouble {
     /// Returns the cause for the status.
-    pub(crate) fn cause(&self) -> Cause
+    pub(crate) fn cause(&self) -> LossCause
         ensures { result ≡ trouble_cause self.now }
     {
         match self {
-            Trouble::GlimpseUnknown | Trouble::Unknown => Cause::NotFound,
+            Trouble::GlimpseUnknown | Trouble::Unknown => LossCause::NotFound,
             Trouble::GlimpseRejected(code) | Trouble::Rejected(code) => cause_of_code(*code),
-            Trouble::OtherSession(..) => Cause::OtherSession,
-            Trouble::Gap { .. } => Cause::Gap,
-            Trouble::NoMemory(_) => Cause::NoMemory,
+            Trouble::OtherSession(..) => LossCause::OtherSession,
+            Trouble::Gap { .. } => LossCause::Gap,
+            Trouble::NoMemory(_) => LossCause::NoMemory,
             Trouble::Cut(cause) => *cause,
         }
     }
@@ -204,9 +204,9 @@ impl Trouble {
     }
 }
 
-impl Event for Trouble {
-    fn level(&self) -> Level {
-        Level::Warn
+impl LogEvent for Trouble {
+    fn level(&self) -> LogLevel {
+        LogLevel::Warn
     }
 
     fn name(&self) -> &'static str {

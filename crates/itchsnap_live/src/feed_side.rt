@@ -15,7 +15,7 @@ use itch_sessions::log::Log;
 use itch_sessions::sessions::{Login, current_session};
 use itch_sessions::{Got, Logins, MOST_FEEDS, Piece, Route, Servers, Socket, Turns};
 use itch_soup::{ClientSession, Tick};
-use itch_status::Cause;
+use itch_status::LossCause;
 use mio::Registry;
 use mio::event::Event;
 use mio::net::TcpStream;
@@ -30,12 +30,12 @@ pub(crate) const SHARE: usize = 1 << 18;
 
 // A connection, and the packet that is still to be sent.
 #[derive(Drop)]
-struct Connection {
+struct FeedConnection {
     socket: Socket,
     packet: PendingPacket,
 }
 
-impl Connection {
+impl FeedConnection {
     // Sends the pending bytes, and a heartbeat if one is due.
     fn send(&mut self, heartbeat: bool) -> io::Result<()> {
         if heartbeat && self.packet.is_empty() {
@@ -58,7 +58,7 @@ pub(crate) struct FeedSide<'a> {
     token: usize,
     // The session of the snapshot server, if it differs from the feed's.
     glimpse_session: Option<Alpha<10>>,
-    connection: Option<Connection>,
+    connection: Option<FeedConnection>,
     again_at: u64,
     // Whether a login was accepted on this connection, and when, and whether one was accepted on any.
     is_accepted: bool,
@@ -68,7 +68,7 @@ pub(crate) struct FeedSide<'a> {
     is_down: bool,
     troubles: [Option<Trouble>; MOST_FEEDS],
     // The last cause of a loss since a login was accepted, and the number of losses.
-    cause: Option<Cause>,
+    cause: Option<LossCause>,
     losses: u64,
     glance: Glance,
     // The timestamp of the last message.
@@ -176,13 +176,13 @@ impl<'a> FeedSide<'a> {
         address: SocketAddr,
         follower: &mut Follower<B>,
         now_ms: u64,
-    ) -> io::Result<Connection> {
+    ) -> io::Result<FeedConnection> {
         let credentials = self.account.first().credentials(current_session());
         let login = follower.connect(credentials, now_ms);
         let stream = TcpStream::connect(net, address)?;
         // A login or a heartbeat must not wait for later data.
         let _ = stream.set_nodelay(true);
-        Ok(Connection {
+        Ok(FeedConnection {
             socket: Socket::register(registry, stream, self.token, false)?,
             packet: PendingPacket::of(&login),
         })
@@ -203,7 +203,7 @@ impl<'a> FeedSide<'a> {
         match sent {
             Err(error) => self.break_off(log, follower, cause_of(error), now_ms),
             Ok(()) if matches!(tick, Tick::Lost) => {
-                self.break_off(log, follower, Cause::Silent, now_ms);
+                self.break_off(log, follower, LossCause::Silent, now_ms);
             }
             Ok(()) => {}
         }
@@ -214,7 +214,7 @@ impl<'a> FeedSide<'a> {
         &mut self,
         log: &mut Log<'_, R>,
         follower: &Follower<B>,
-        cause: Cause,
+        cause: LossCause,
         now_ms: u64,
     ) {
         self.cause = Some(cause);
@@ -304,7 +304,7 @@ impl<'a> FeedSide<'a> {
                 Ok(Got::Bytes(_)) => {}
                 Ok(Got::Nothing) => return Ok(None),
                 Ok(Got::Ended) => {
-                    self.break_off(log, follower, Cause::Closed, now_ms);
+                    self.break_off(log, follower, LossCause::Closed, now_ms);
                     return Ok(None);
                 }
                 Err(error) => {

@@ -11,7 +11,7 @@ use crate::feed_side::{FeedSide, SHARE};
 use crate::question::{agreed, ask_session, asks_session};
 use crate::scout::Scout;
 use crate::status::{STATUS, StatusPort};
-use client_side::ClientSide;
+use client_side::ServingSide;
 use day::Day;
 use itch_book::{IndexedBook, OrderBook};
 use itch_codec::Alpha;
@@ -24,7 +24,7 @@ use itch_records::{
 };
 use itch_sessions::log::Log;
 use itch_sessions::log::form::LogForm;
-use itch_sessions::{Logins, Place, Servers, Spare, Turns, Visit};
+use itch_sessions::{Logins, ServerAddress, Servers, Spare, Turns, Visit};
 use mio::Token;
 use std::alloc::Global;
 use std::fs::File;
@@ -74,7 +74,7 @@ pub struct Serving<'a> {
     /// When it starts to send snapshots.
     pub ready: Ready,
     /// The address of its status port, if it has one.
-    pub status: Option<Place<'a>>,
+    pub status: Option<ServerAddress<'a>>,
     pub log: LogForm,
 }
 
@@ -158,7 +158,7 @@ struct Server<'r, 'a, R: Clock, B: OrderBook> {
     status: Option<StatusPort>,
     feed: FeedSide<'a>,
     desk: Desk<B>,
-    client_side: ClientSide<'a>,
+    client_side: ServingSide<'a>,
     // The paths of the day's record and snapshots.
     paths: DayPaths,
     day: Day,

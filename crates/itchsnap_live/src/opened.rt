@@ -1,7 +1,7 @@
 //! The files and ports that a live server opens before it serves.
 
 use crate::live::Serving;
-use crate::start::Start;
+use crate::start::Startup;
 use crate::status::StatusPort;
 use itch_book::OrderBook;
 use itch_codec::Alpha;
@@ -31,7 +31,7 @@ pub(crate) struct OwnFiles {
 
 /// The same, with the market to begin with, and the session of the day, if it is known.
 #[derive(Drop)]
-pub(crate) struct Begun<B: OrderBook> {
+pub(crate) struct OpenedDay<B: OrderBook> {
     pub files: OwnFiles,
     pub joiner: Joiner<B>,
     pub session: Option<Alpha<10>>,
@@ -48,7 +48,7 @@ pub(crate) fn open_files<R, B>(
     serving: &Serving<'_>,
     paths: &DayPaths,
     session: Option<Alpha<10>>,
-) -> Result<Begun<B>, LiveFault>
+) -> Result<OpenedDay<B>, LiveFault>
 where
     R: Files<File = File> + Clock + Eprint + AllocGlobal,
     B: OrderBook<Alloc = Global>,
@@ -74,7 +74,7 @@ where
         replay,
         saver,
     };
-    Ok(Begun {
+    Ok(OpenedDay {
         files,
         joiner,
         session,
@@ -167,7 +167,7 @@ pub(crate) fn follower_of<B: OrderBook<Alloc = Global>>(
 /// A [`SessionFault`] if the port cannot be bound.
 pub(crate) fn listen<R: Net + Clock + Eprint>(
     rt: &R,
-    start: &mut Start<'_, '_, R>,
+    start: &mut Startup<'_, '_, R>,
     address: SocketAddr,
     token: usize,
 ) -> Result<Callers, SessionFault> {
@@ -183,7 +183,7 @@ pub(crate) fn listen<R: Net + Clock + Eprint>(
 /// [`LiveFault::StatusPort`] if the port cannot be bound.
 pub(crate) fn open_status<R: Net + Clock + Eprint + AllocGlobal>(
     serving: &Serving<'_>,
-    start: &mut Start<'_, '_, R>,
+    start: &mut Startup<'_, '_, R>,
 ) -> Result<(), LiveFault> {
     if let Some(place) = serving.status {
         start.status = Some(StatusPort::open(&mut start.log, start.turns.registry(), place)?);

@@ -3,7 +3,7 @@ ghost use Rattle.std.specs.Prelude.{◌≡◌};
 ghost use Rattle.itchsnap_live.specs.Questions.{asks_session};
 
 use crate::feed_side::FeedSide;
-use crate::start::Start;
+use crate::start::Startup;
 use itch_book::OrderBook;
 use itch_codec::Alpha;
 use itch_join::Joiner;
@@ -66,7 +66,7 @@ where
     let Ok(log) = Log::new(rt, LogForm::Plain) else {
         return None;
     };
-    let Ok(mut start) = Start::new(rt, log, feed.servers(), account, None, FEED) else {
+    let Ok(mut start) = Startup::new(rt, log, feed.servers(), account, None, FEED) else {
         return None;
     };
     let credentials = feed.login().credentials(current_session());

@@ -24,7 +24,7 @@ const EVENTS: usize = 1_024;
 
 /// Follows a feed until its session is known. Clients are served under the name of this session.
 #[derive(Drop)]
-pub(crate) struct Start<'r, 'a, R: Clock> {
+pub(crate) struct Startup<'r, 'a, R: Clock> {
     pub log: Log<'r, R>,
     pub turns: Turns<'r, R>,
     pub feed: FeedSide<'a>,
@@ -36,7 +36,7 @@ pub(crate) struct Start<'r, 'a, R: Clock> {
     pub figures: Figures,
 }
 
-impl<'r, 'a, R> Start<'r, 'a, R>
+impl<'r, 'a, R> Startup<'r, 'a, R>
 where
     R: Net + Clock + Files<File = File> + Eprint + AllocGlobal,
 {
@@ -52,10 +52,10 @@ where
         account: Logins<'a>,
         glimpse_session: Option<Alpha<10>>,
         token: usize,
-    ) -> Result<Start<'r, 'a, R>, LiveFault> {
+    ) -> Result<Startup<'r, 'a, R>, LiveFault> {
         let turns = Turns::begin(rt, rt, EVENTS)?;
         let feed = FeedSide::new(rt.alloc(), servers, account, glimpse_session, token)?;
-        Ok(Start {
+        Ok(Startup {
             log,
             turns,
             feed,

@@ -2,12 +2,14 @@
 
 mod connection;
 
-use connection::Connection;
+use connection::StatusConnection;
 use itch_records::LiveFault;
 use itch_sessions::log::Log;
 use itch_sessions::log::lines::StatusOn;
-use itch_sessions::{Caller, Callers, Link, Place, Socket, Spare, VERSION, Who, date};
-use itch_status::{Answer, Figures, LONGEST, refuse, respond};
+use itch_sessions::{
+    Caller, Callers, ServerAddress, Socket, SocketLink, Spare, VERSION, Who, date,
+};
+use itch_status::{Figures, LONGEST, StatusAnswer, refuse, respond};
 use mio::Registry;
 use mio::event::Event;
 use mio::net::TcpStream;
@@ -30,7 +32,7 @@ const SHARE: usize = 4;
 #[derive(Drop)]
 pub(crate) struct StatusPort {
     callers: Callers,
-    connections: Vec<Option<Connection>>,
+    connections: Vec<Option<StatusConnection>>,
     buffer: Vec<u8>,
 }
 
@@ -43,7 +45,7 @@ impl StatusPort {
     pub(crate) fn open<R: Net + Clock + Eprint + AllocGlobal>(
         log: &mut Log<'_, R>,
         registry: &Registry,
-        place: Place<'_>,
+        place: ServerAddress<'_>,
     ) -> Result<StatusPort, LiveFault> {
         let rt = log.runtime();
         let (callers, address) = match listen(rt, registry, place) {
@@ -134,9 +136,9 @@ impl StatusPort {
         let Ok(socket) = Socket::register(registry, stream, token, true) else {
             return;
         };
-        let link = Link::new(socket, Who::new(0, address, now_ms));
+        let link = SocketLink::new(socket, Who::new(0, address, now_ms));
         if let (Ok(connection), Some(free)) = (
-            Connection::new(alloc, link, now_ms),
+            StatusConnection::new(alloc, link, now_ms),
             self.connections.get_mut(place),
         ) {
             *free = Some(connection);
@@ -178,10 +180,14 @@ impl StatusPort {
 }
 
 // Returns the response to a request, or `None` if memory is refused for it.
-fn response<R: Clock + AllocGlobal>(rt: &R, asked: Answer, figures: &Figures) -> Option<Vec<u8>> {
+fn response<R: Clock + AllocGlobal>(
+    rt: &R,
+    asked: StatusAnswer,
+    figures: &Figures,
+) -> Option<Vec<u8>> {
     let made = match asked {
-        Answer::More => return None,
-        Answer::Page { page, has_body } => respond(
+        StatusAnswer::More => return None,
+        StatusAnswer::Page { page, has_body } => respond(
             rt.alloc(),
             page,
             has_body,
@@ -189,7 +195,9 @@ fn response<R: Clock + AllocGlobal>(rt: &R, asked: Answer, figures: &Figures) ->
             VERSION,
             date(rt),
         ),
-        Answer::Refused { refusal, has_body } => { refuse(rt.alloc(), refusal, has_body, date(rt)) }
+        StatusAnswer::Refused { refusal, has_body } => {
+            refuse(rt.alloc(), refusal, has_body, date(rt))
+        }
     };
     made.ok()
 }
@@ -197,12 +205,12 @@ fn response<R: Clock + AllocGlobal>(rt: &R, asked: Answer, figures: &Figures) ->
 fn listen<N: Net>(
     net: &N,
     registry: &Registry,
-    place: Place<'_>,
+    place: ServerAddress<'_>,
 ) -> io::Result<(Callers, SocketAddr)> {
     Callers::open(net, registry, address_of(net, place)?, STATUS)
 }
 
-fn address_of<N: Net>(net: &N, place: Place<'_>) -> io::Result<SocketAddr> {
+fn address_of<N: Net>(net: &N, place: ServerAddress<'_>) -> io::Result<SocketAddr> {
     let mut addresses = (place.host, place.port).to_socket_addrs(net)?;
     match addresses.next() {
         Some(address) => Ok(address),

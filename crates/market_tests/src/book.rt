@@ -372,6 +372,7 @@ fn indexed_book_keeps_priority(rt: HostRuntime) -> TestResult {
     Ok(check_priority::<IndexedBook>(&rt, rt.alloc())?)
 }
 
+mod adaptive;
 mod ladders;
 mod many;
 mod settled;

@@ -90,7 +90,8 @@ impl Market {
         }
     }
 
-    /// Returns the market for look-ups.
+    /// Returns the market for look-ups. The first one by price after a message sorts the orders. Once such look-ups are frequent, one of them
+    /// builds an index instead, and messages take longer from then on.
     pub fn view(&self) -> View<'_> {
         View::of(&self.handle)
     }

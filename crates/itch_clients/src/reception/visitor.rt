@@ -1,11 +1,11 @@
 //! One connection without a place: its packets up to the login, and its end.
 
-use crate::opening::{Opening, opening_of};
+use crate::opening::{FirstBytes, opening_of};
 use arrayvec::ArrayVec;
 use itch_codec::{Alpha, Seq};
 use itch_live::{Gone, PendingPacket};
 use itch_sessions::sessions::Login;
-use itch_sessions::{Departure, Link, User, Verdict, Who, departure_of, verdict_of};
+use itch_sessions::{Departure, SocketLink, User, Verdict, Who, departure_of, verdict_of};
 use itch_soup::{Origin, Packet, ServerConfig, ServerSession, parse_packet};
 use std::net::IpAddr;
 
@@ -17,7 +17,7 @@ pub(super) const KEPT: usize = 64;
 
 // The state of a connection.
 #[derive(Clone, Copy)]
-pub(super) enum Stage {
+pub(super) enum VisitorStage {
     // It has not sent a complete login.
     Opening,
     // Its login is valid for this configuration, and it waits for a place.
@@ -30,7 +30,7 @@ pub(super) enum Stage {
 
 // The data that logins are judged by.
 #[derive(Clone, Copy)]
-pub(super) struct Served<'a> {
+pub(super) struct ServedSession<'a> {
     pub users: &'a [Login],
     pub session: Alpha<10>,
     pub end_number: Seq,
@@ -39,10 +39,10 @@ pub(super) struct Served<'a> {
 /// A connection without a place.
 #[derive(Drop)]
 pub(super) struct Visitor {
-    pub link: Link,
+    pub link: SocketLink,
     pub address: IpAddr,
     pub since_ms: u64,
-    pub stage: Stage,
+    pub stage: VisitorStage,
     pub words: ArrayVec<u8, KEPT>,
     // The number of bytes of a skipped packet that have not arrived yet.
     skipped: usize,
@@ -52,9 +52,11 @@ impl Visitor {
     /// Returns whether there may be bytes to read without waiting for another event.
     pub(super) fn is_busy(&self) -> bool {
         match self.stage {
-            Stage::Opening | Stage::Over(_) => self.link.is_busy(false),
-            Stage::Ready(_) => self.words.remaining_capacity() > 0 && self.link.is_busy(false),
-            Stage::Rejected { .. } => false,
+            VisitorStage::Opening | VisitorStage::Over(_) => self.link.is_busy(false),
+            VisitorStage::Ready(_) => {
+                self.words.remaining_capacity() > 0 && self.link.is_busy(false)
+            }
+            VisitorStage::Rejected { .. } => false,
         }
     }
 
@@ -62,33 +64,33 @@ impl Visitor {
         self.link.who()
     }
 
-    pub(super) fn new(link: Link, address: IpAddr, now_ms: u64) -> Visitor {
+    pub(super) fn new(link: SocketLink, address: IpAddr, now_ms: u64) -> Visitor {
         Visitor {
             link,
             address,
             since_ms: now_ms,
-            stage: Stage::Opening,
+            stage: VisitorStage::Opening,
             words: ArrayVec::new(),
             skipped: 0,
         }
     }
 
     /// Reads bytes of the connection, as far as they are kept, and acts on them.
-    pub(super) fn turn(&mut self, served: &Served<'_>, now_ms: u64, buffer: &mut [u8]) {
+    pub(super) fn turn(&mut self, served: &ServedSession<'_>, now_ms: u64, buffer: &mut [u8]) {
         match self.stage {
-            Stage::Opening => {
+            VisitorStage::Opening => {
                 self.read(buffer);
                 self.hear(served, now_ms);
             }
-            Stage::Ready(_) => self.read(buffer),
-            Stage::Rejected { code, at_ms } if now_ms >= at_ms => {
+            VisitorStage::Ready(_) => self.read(buffer),
+            VisitorStage::Rejected { code, at_ms } if now_ms >= at_ms => {
                 let rejection = PendingPacket::of(&ServerSession::rejected(code));
                 self.link.write(rejection.bytes());
                 self.link.end_sending();
-                self.stage = Stage::Over(Departure::Rejected(code));
+                self.stage = VisitorStage::Over(Departure::Rejected(code));
             }
-            Stage::Rejected { .. } => {}
-            Stage::Over(_) => {
+            VisitorStage::Rejected { .. } => {}
+            VisitorStage::Over(_) => {
                 self.link.read(buffer);
             }
         }
@@ -111,22 +113,22 @@ impl Visitor {
     }
 
     // Handles its packets up to its login. Bytes after the login are kept.
-    fn hear(&mut self, served: &Served<'_>, now_ms: u64) {
+    fn hear(&mut self, served: &ServedSession<'_>, now_ms: u64) {
         for _ in 0..KEPT {
             match opening_of(self.words.as_slice()) {
-                Opening::Begun => return,
-                Opening::Packet(length) => {
+                FirstBytes::Begun => return,
+                FirstBytes::Packet(length) => {
                     if self.hear_packet(length, served, now_ms) {
                         return;
                     }
                     self.pass(length.saturating_add(2));
                 }
-                Opening::Passed(length) => {
+                FirstBytes::Passed(length) => {
                     self.pass(length);
                     return;
                 }
-                Opening::Broken => {
-                    self.stage = Stage::Over(Departure::Fault);
+                FirstBytes::Broken => {
+                    self.stage = VisitorStage::Over(Departure::Fault);
                     return;
                 }
             }
@@ -134,11 +136,11 @@ impl Visitor {
     }
 
     // Acts on a packet, and returns whether it was the last one to handle here.
-    fn hear_packet(&mut self, length: usize, served: &Served<'_>, now_ms: u64) -> bool {
+    fn hear_packet(&mut self, length: usize, served: &ServedSession<'_>, now_ms: u64) -> bool {
         let end = length.saturating_add(2).min(self.words.len());
         let payload = &self.words[end.min(2)..end];
         let Ok(packet) = parse_packet(payload, Origin::Client) else {
-            self.stage = Stage::Over(Departure::Fault);
+            self.stage = VisitorStage::Over(Departure::Fault);
             return true;
         };
         if let Packet::LoginRequest(login) = &packet {
@@ -147,13 +149,13 @@ impl Visitor {
         let messages = served.end_number.value() - 1;
         self.stage = match verdict_of(served.users, &served.session, messages, &packet) {
             Verdict::Waits => return false,
-            Verdict::Accepted(config) => Stage::Ready(config),
-            Verdict::Rejected(code) => Stage::Rejected {
+            Verdict::Accepted(config) => VisitorStage::Ready(config),
+            Verdict::Rejected(code) => VisitorStage::Rejected {
                 code,
                 at_ms: now_ms,
             },
-            Verdict::Left => Stage::Over(Departure::Left),
-            Verdict::Fault => Stage::Over(Departure::Fault),
+            Verdict::Left => VisitorStage::Over(Departure::Left),
+            Verdict::Fault => VisitorStage::Over(Departure::Fault),
         };
         true
     }
@@ -168,7 +170,7 @@ impl Visitor {
     /// Returns the configuration that accepts its login, if it is valid.
     pub(super) fn accepted_by(&self) -> Option<ServerConfig> {
         match &self.stage {
-            Stage::Ready(config) => Some(*config),
+            VisitorStage::Ready(config) => Some(*config),
             _ => None,
         }
     }
@@ -176,19 +178,22 @@ impl Visitor {
     /// Returns how its connection ended, if it is to be closed. A connection whose login has arrived receives the answer, even if it has
     /// closed its sending half.
     pub(super) fn departure(&self, now_ms: u64) -> Option<Departure> {
-        let waits = matches!(self.stage, Stage::Ready(_) | Stage::Rejected { .. });
+        let waits = matches!(
+            self.stage,
+            VisitorStage::Ready(_) | VisitorStage::Rejected { .. }
+        );
         let gone = self.link.ending(None, waits);
         let is_late = now_ms.saturating_sub(self.since_ms) >= PATIENCE_MS;
         match self.stage {
-            Stage::Over(departure @ (Departure::Left | Departure::Fault)) => Some(departure),
-            Stage::Over(departure) if gone.is_some() || is_late => Some(departure),
-            Stage::Over(_) => None,
-            Stage::Rejected { code, .. } if gone.is_some() || is_late => Some(Departure::Rejected(
-                code,
-            )),
-            Stage::Rejected { .. } => None,
-            Stage::Opening if is_late => Some(departure_of(None, None, Gone::Silent)),
-            Stage::Opening | Stage::Ready(_) => Some(departure_of(None, None, gone?)),
+            VisitorStage::Over(departure @ (Departure::Left | Departure::Fault)) => Some(departure),
+            VisitorStage::Over(departure) if gone.is_some() || is_late => Some(departure),
+            VisitorStage::Over(_) => None,
+            VisitorStage::Rejected { code, .. } if gone.is_some() || is_late => {
+                Some(Departure::Rejected(code))
+            }
+            VisitorStage::Rejected { .. } => None,
+            VisitorStage::Opening if is_late => Some(departure_of(None, None, Gone::Silent)),
+            VisitorStage::Opening | VisitorStage::Ready(_) => Some(departure_of(None, None, gone?)),
         }
     }
 }

@@ -10,11 +10,11 @@ ghost use Rattle.itch_commands.specs.FirstDifferences.{FindsFirst, first_line, o
 ghost use Rattle.itch_day.specs.Limits.{counted};
 ghost use Rattle.itch_commands.specs.Outputs.{WritesOutput};
 ghost use Rattle.itch_commands.specs.Readings.{FromBlocks, FromReader};
-ghost use Rattle.itch_commands.specs.declared.form.Form.TheVariants.{Text, Json};
+ghost use Rattle.itch_commands.specs.declared.form.ReportForm.TheVariants.{Text, Json};
 
 use super::tracked::TrackedMarket;
 use crate::fault::{Source, ToolFault};
-use crate::form::Form;
+use crate::form::ReportForm;
 use crate::line::Line;
 use crate::order_book::Book;
 use crate::reading::stopped;
@@ -46,7 +46,7 @@ pub fn compare_first<
         &mut first,
         &mut second,
         Limit::whole(),
-        Form::Text,
+        ReportForm::Text,
         out,
     )
 }
@@ -64,7 +64,7 @@ pub fn compare_first_blocks<
     first: &mut BlockReader<R, A>,
     second: &mut BlockReader<S, C>,
     limit: Limit,
-    form: Form,
+    form: ReportForm,
     out: &mut W,
 ) -> Result<bool, ToolFault>
     ensures { ComparesFirst R.remaining R.failures S.remaining S.failures W.contents W.failures form limit (FromBlocks first.old first.new) (FromBlocks second.old second.new)
@@ -193,14 +193,14 @@ fn settled_same<B: OrderBook>(one: &mut Market<B>, other: &mut Market<B>) -> boo
 
 fn write_first<W: CountedWrite>(
     count: Option<u64>,
-    form: Form,
+    form: ReportForm,
     out: &mut W,
 ) -> Result<bool, ToolFault>
     ensures { WritesOutput W.contents W.failures (first_line form count) (is_none count) out.old result out.new }
 {
     let line = match form {
-        Form::Text => text_line(count),
-        Form::Json => json_line(count),
+        ReportForm::Text => text_line(count),
+        ReportForm::Json => json_line(count),
     };
     write_text(line.as_bytes(), out)?;
     Ok(count.is_none())

@@ -9,7 +9,7 @@ ghost use Rattle.itch_commands.specs.Tallies.{live, summary_by};
 
 use crate::expected::is_last;
 use crate::fault::ToolFault;
-use crate::form::Form;
+use crate::form::ReportForm;
 use crate::info::counts::{KINDS, TypeCounts};
 use crate::info::events::Event;
 use crate::info::lines::{
@@ -27,7 +27,7 @@ use std::alloc::Allocator;
 /// Writes the tally of a day.
 pub fn write_info<B: OrderBook, W: CountedWrite>(
     tally: &Marked<TalliedMarket<B>>,
-    form: Form,
+    form: ReportForm,
     out: &mut W,
 ) -> Result<(), ToolFault>
     ensures { WritesText W.contents W.failures (info_text form (summary_by tally.now.mark tally.now.sink.market tally.now.sink.tally) (slice_index tally.now.sink.tally.counts.counts) tally.now.sink.events.events.items) out.old result out.new }
@@ -73,7 +73,11 @@ fn count<A: Allocator>(locates: Locates<'_, A>) -> u64
 }
 
 // Writes the summary.
-fn write_head<W: CountedWrite>(summary: &Summary, form: Form, out: &mut W) -> Result<(), ToolFault>
+fn write_head<W: CountedWrite>(
+    summary: &Summary,
+    form: ReportForm,
+    out: &mut W,
+) -> Result<(), ToolFault>
     ensures { WritesText W.contents W.failures (head_text form summary.now) out.old result out.new }
 {
     write_text(size_text(form, summary).as_bytes(), out)?;
@@ -84,7 +88,7 @@ fn write_head<W: CountedWrite>(summary: &Summary, form: Form, out: &mut W) -> Re
 // Writes the types that have messages, with their numbers.
 fn write_types<W: CountedWrite>(
     counts: &TypeCounts,
-    form: Form,
+    form: ReportForm,
     out: &mut W,
 ) -> Result<(), ToolFault>
     ensures { WritesText W.contents W.failures (types_text form (slice_index counts.now.counts) true 0 256) out.old result out.new }
@@ -102,7 +106,11 @@ fn write_types<W: CountedWrite>(
 }
 
 // Writes the system events.
-fn write_events<W: CountedWrite>(events: &[Event], form: Form, out: &mut W) -> Result<(), ToolFault>
+fn write_events<W: CountedWrite>(
+    events: &[Event],
+    form: ReportForm,
+    out: &mut W,
+) -> Result<(), ToolFault>
     ensures { WritesText W.contents W.failures (events_text form true events.now) out.old result out.new }
 {
     let mut is_first = true;

@@ -14,7 +14,7 @@ use std::marker::Model;
 
 /// A price of a side: all shares at it, and the number of its orders.
 #[derive(Clone, Copy, Debug, PartialEq, Eq)]
-pub struct Level {
+pub struct DepthLevel {
     pub price: u32,
     pub shares: u128,
     pub orders: u64,
@@ -23,8 +23,8 @@ pub struct Level {
 /// The best prices of each side of a book, the best one first.
 #[derive(Drop)]
 pub struct Best<A: Allocator> {
-    bids: Vec<Level, A>,
-    asks: Vec<Level, A>,
+    bids: Vec<DepthLevel, A>,
+    asks: Vec<DepthLevel, A>,
 }
 
 impl<A: Allocator> Model for Best<A> {
@@ -49,14 +49,14 @@ impl<A: Allocator> Best<A> {
     }
 
     /// Returns the bids.
-    pub fn bids(&self) -> &[Level]
+    pub fn bids(&self) -> &[DepthLevel]
         ensures { result.now ≡ self.now.bids }
     {
         self.bids.as_slice()
     }
 
     /// Returns the asks.
-    pub fn asks(&self) -> &[Level]
+    pub fn asks(&self) -> &[DepthLevel]
         ensures { result.now ≡ self.now.asks }
     {
         self.asks.as_slice()
@@ -99,7 +99,7 @@ impl<A: Allocator> Best<A> {
 
 // Looks at the best prices of the side on which orders have changed, unless their price is behind, and returns whether they have changed.
 fn renew_changed<B: OrderBook, A: Allocator>(
-    known: &mut Vec<Level, A>,
+    known: &mut Vec<DepthLevel, A>,
     book: &B,
     changed: ChangedPrice,
     depth: usize,
@@ -115,7 +115,7 @@ fn renew_changed<B: OrderBook, A: Allocator>(
 }
 
 // Returns whether as many prices as requested are known, and all are better than this price.
-fn is_behind(known: &[Level], side: Side, price: u32, depth: usize) -> bool
+fn is_behind(known: &[DepthLevel], side: Side, price: u32, depth: usize) -> bool
     ensures { result ≡ is_behind depth side price known.now }
 {
     match known.last() {
@@ -126,7 +126,7 @@ fn is_behind(known: &[Level], side: Side, price: u32, depth: usize) -> bool
 
 // Looks at the best prices of a side, and returns whether they have changed.
 fn renew_side<B: OrderBook, A: Allocator>(
-    known: &mut Vec<Level, A>,
+    known: &mut Vec<DepthLevel, A>,
     book: &B,
     locate: u16,
     side: Side,
@@ -141,7 +141,7 @@ fn renew_side<B: OrderBook, A: Allocator>(
             break;
         };
         let (shares, orders) = book.level_total(locate, side, price);
-        let level = Level {
+        let level = DepthLevel {
             price,
             shares,
             orders,
@@ -157,9 +157,9 @@ fn renew_side<B: OrderBook, A: Allocator>(
 
 // Puts a level at a place, or at the end. Returns whether another level or none was there.
 fn put_level<A: Allocator>(
-    levels: &mut Vec<Level, A>,
+    levels: &mut Vec<DepthLevel, A>,
     place: usize,
-    level: Level,
+    level: DepthLevel,
 ) -> Result<bool, AllocError>
     requires { place ≤ length levels.old.items }
     ensures put { IfOk result (λ _. levels.new.items ≡ with_level place level levels.old.items) }

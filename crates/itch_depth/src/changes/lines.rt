@@ -7,7 +7,7 @@ ghost use Rattle.itch_commands.specs.Forms.{level_line, title_line};
 ghost use Rattle.itch_commands.specs.declared.form.BookForm.TheVariants as book;
 ghost use Rattle.itch_depth.specs.Changes.{cells, cells_at, cells_of, change_head, change_line, columns, csv_line, front, json_level, json_levels, json_line, level_lines, members, next_level, text_lines};
 
-use super::best::Level;
+use super::best::DepthLevel;
 use itch_codec::Side;
 use itch_commands::{BookForm, Line, ToolFault, write_text};
 use itch_frame::CountedWrite;
@@ -20,8 +20,8 @@ pub struct Change<'a> {
     pub time: u64,
     pub locate: u16,
     pub stock: &'a str,
-    pub bids: &'a [Level],
-    pub asks: &'a [Level],
+    pub bids: &'a [DepthLevel],
+    pub asks: &'a [DepthLevel],
 }
 
 /// Writes the heading of all lines.
@@ -107,7 +107,7 @@ fn write_lines<W: CountedWrite>(change: &Change<'_>, out: &mut W) -> Result<(), 
 fn write_levels<W: CountedWrite>(
     front: &Line,
     side: Side,
-    levels: &[Level],
+    levels: &[DepthLevel],
     out: &mut W,
 ) -> Result<(), ToolFault>
     ensures { WritesText W.contents W.failures (level_lines front.now side levels.now) out.old result out.new }
@@ -122,7 +122,7 @@ fn write_levels<W: CountedWrite>(
 fn write_level<W: CountedWrite>(
     front: &Line,
     side: Side,
-    level: &Level,
+    level: &DepthLevel,
     out: &mut W,
 ) -> Result<(), ToolFault>
     ensures { WritesText W.contents W.failures (front.now ++ level_line side level.now.price level.now.shares level.now.orders) out.old result out.new }
@@ -146,7 +146,7 @@ fn write_object<W: CountedWrite>(change: &Change<'_>, out: &mut W) -> Result<(),
 }
 
 // Writes the prices of a side, with commas between them.
-fn write_array<W: CountedWrite>(levels: &[Level], out: &mut W) -> Result<(), ToolFault>
+fn write_array<W: CountedWrite>(levels: &[DepthLevel], out: &mut W) -> Result<(), ToolFault>
     ensures { WritesText W.contents W.failures (json_levels levels.now) out.old result out.new }
 {
     let [first, rest @ ..] = levels else {
@@ -157,7 +157,7 @@ fn write_array<W: CountedWrite>(levels: &[Level], out: &mut W) -> Result<(), Too
 }
 
 // Writes the prices after the first one.
-fn write_rest<W: CountedWrite>(levels: &[Level], out: &mut W) -> Result<(), ToolFault>
+fn write_rest<W: CountedWrite>(levels: &[DepthLevel], out: &mut W) -> Result<(), ToolFault>
     ensures { WritesText W.contents W.failures (flat_map next_level levels.now) out.old result out.new }
 {
     for level in levels {
@@ -237,7 +237,7 @@ fn title(locate: u16, stock: &str) -> Line
 }
 
 // Returns the line `SIDE PRICE SHARES ORDERS`.
-fn level_line(side: Side, level: &Level) -> Line
+fn level_line(side: Side, level: &DepthLevel) -> Line
     ensures { result ≡ level_line side level.now.price level.now.shares level.now.orders }
 {
     let mut line = Line::new();
@@ -269,7 +269,7 @@ fn members(locate: u16, stock: &str) -> Line
 }
 
 // Returns the object of a price.
-fn json_level(level: &Level) -> Line
+fn json_level(level: &DepthLevel) -> Line
     ensures text { result ≡ json_level level.now }
     ensures short { length result ≤ 160 }
 {
@@ -285,7 +285,7 @@ fn json_level(level: &Level) -> Line
 }
 
 // Returns a comma and the object of a price.
-fn next_level(level: &Level) -> Line
+fn next_level(level: &DepthLevel) -> Line
     ensures { result ≡ next_level level.now }
 {
     let mut line = Line::new();
@@ -295,7 +295,7 @@ fn next_level(level: &Level) -> Line
 }
 
 // Returns the columns of an ask and a bid.
-fn cells(ask: Option<&Level>, bid: Option<&Level>) -> Line
+fn cells(ask: Option<&DepthLevel>, bid: Option<&DepthLevel>) -> Line
     ensures { result ≡ cells (option_copied ask.entry) (option_copied bid.entry) }
 {
     let mut line = Line::new();
@@ -305,7 +305,7 @@ fn cells(ask: Option<&Level>, bid: Option<&Level>) -> Line
 }
 
 // Appends the columns of a price: the price and its shares, or two empty ones.
-fn push_cells(line: &mut Line, level: Option<&Level>)
+fn push_cells(line: &mut Line, level: Option<&DepthLevel>)
     requires { length line.old ≤ 128 }
     ensures text { line.new ≡ line.old ++ cells_of (option_copied level.entry) }
     ensures short { length line.new ≤ length line.old + 87 }

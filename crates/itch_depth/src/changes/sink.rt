@@ -76,7 +76,11 @@ impl<'a, 'b, 'c, B: OrderBook, W: CountedWrite> Sink for ChangeLines<'a, 'b, 'c,
 
     #[inline(always)]
     fn take_payload(&mut self, number: u64, payload: &[u8]) -> bool {
-        !self.followed.may_concern(payload) && self.followed.market.take_payload(number, payload)
+        self.followed.market.recall_invariant();
+        if self.followed.may_concern(payload) {
+            return false;
+        }
+        self.followed.market.take_payload(number, payload)
     }
 
     #[inline(always)]

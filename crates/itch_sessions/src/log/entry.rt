@@ -7,26 +7,26 @@ use std::str;
 
 /// The severity of a line.
 #[derive(Clone, Copy, Debug, PartialEq, Eq)]
-pub enum Level {
+pub enum LogLevel {
     Info,
     Warn,
     Error,
 }
 
-impl Level {
+impl LogLevel {
     fn words(self) -> &'static str {
         match self {
-            Level::Info => "info",
-            Level::Warn => "warn",
-            Level::Error => "error",
+            LogLevel::Info => "info",
+            LogLevel::Warn => "warn",
+            LogLevel::Error => "error",
         }
     }
 }
 
 /// A line of the log, which is also an event with fields.
-pub trait Event: Display {
+pub trait LogEvent: Display {
     /// Returns its severity.
-    fn level(&self) -> Level;
+    fn level(&self) -> LogLevel;
 
     /// Returns its name.
     fn name(&self) -> &'static str;
@@ -124,13 +124,13 @@ fn write_escaped_character<W: fmt::Write>(f: &mut Formatter<W>, character: char)
 
 /// An event with its time, in a form.
 #[derive(Drop)]
-pub struct Line<'a, E> {
+pub struct LogLine<'a, E> {
     pub time: Option<[u8; UTC]>,
     pub form: LogForm,
     pub event: &'a E,
 }
 
-impl<E: Event> Display for Line<'_, E> {
+impl<E: LogEvent> Display for LogLine<'_, E> {
     fn fmt<W: fmt::Write>(&self, f: &mut Formatter<W>) -> fmt::Result {
         let time = match &self.time {
             Some(time) => str::from_utf8(time).unwrap_or("-"),

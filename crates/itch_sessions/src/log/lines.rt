@@ -1,14 +1,14 @@
 //! The lines of a server other than those of its feed and its clients.
 
-use crate::log::entry::{Event, Level, write_number, write_shown};
+use crate::log::entry::{LogEvent, LogLevel, write_number, write_shown};
 use crate::log::form::LogForm;
 use crate::sessions::Listening;
 use std::fmt::{self, Display, Formatter};
 use std::net::SocketAddr;
 
-impl Event for Listening {
-    fn level(&self) -> Level {
-        Level::Info
+impl LogEvent for Listening {
+    fn level(&self) -> LogLevel {
+        LogLevel::Info
     }
 
     fn name(&self) -> &'static str {
@@ -31,9 +31,9 @@ impl Display for StatusOn {
     }
 }
 
-impl Event for StatusOn {
-    fn level(&self) -> Level {
-        Level::Info
+impl LogEvent for StatusOn {
+    fn level(&self) -> LogLevel {
+        LogLevel::Info
     }
 
     fn name(&self) -> &'static str {
@@ -56,9 +56,9 @@ impl Display for LinesLost {
     }
 }
 
-impl Event for LinesLost {
-    fn level(&self) -> Level {
-        Level::Warn
+impl LogEvent for LinesLost {
+    fn level(&self) -> LogLevel {
+        LogLevel::Warn
     }
 
     fn name(&self) -> &'static str {
@@ -84,9 +84,9 @@ impl Display for Dropped {
     }
 }
 
-impl Event for Dropped {
-    fn level(&self) -> Level {
-        Level::Warn
+impl LogEvent for Dropped {
+    fn level(&self) -> LogLevel {
+        LogLevel::Warn
     }
 
     fn name(&self) -> &'static str {

@@ -39,17 +39,17 @@ impl Place {
 
 /// Counts the complete blocks of a stream.
 #[derive(Clone, Copy, Debug, PartialEq, Eq)]
-pub struct Tally {
+pub struct BlockCounter {
     place: Place,
     messages: u64,
 }
 
-impl Tally {
+impl BlockCounter {
     /// Starts before any bytes.
-    pub fn new() -> Tally
+    pub fn new() -> BlockCounter
         ensures { Counts result [] }
     {
-        Tally {
+        BlockCounter {
             place: Place::Border,
             messages: 0,
         }

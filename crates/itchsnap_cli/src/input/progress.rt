@@ -5,7 +5,7 @@ ghost use Rattle.std.specs.Io.KnownBytes.{ReadConsumes};
 ghost use Rattle.itchsnap_cli.specs.Tallies.{Counts, CountsOn};
 ghost use Rattle.itchsnap_cli.specs.Watches.{Notes};
 
-use crate::input::messages::Tally;
+use crate::input::messages::BlockCounter;
 use std::cell::Cell;
 use std::fmt;
 use std::io::{self, Read};
@@ -57,7 +57,7 @@ impl Amount {
 ///
 /// A line on standard error is updated every 64 MiB, and ends when a file has been read to its end, or with the command. If standard error
 /// cannot be written, the line is left out.
-pub struct Progress<'a, R: Eprint> {
+pub struct ProgressLine<'a, R: Eprint> {
     rt: &'a R,
     begun: Instant,
     bytes: Cell<u64>,
@@ -66,11 +66,11 @@ pub struct Progress<'a, R: Eprint> {
     is_open: Cell<bool>,
 }
 
-impl<'a, R: Eprint + Clock> Progress<'a, R> {
+impl<'a, R: Eprint + Clock> ProgressLine<'a, R> {
     /// Starts now; returns `None` if the clock fails.
-    pub fn begin(rt: &'a R) -> Option<Progress<'a, R>> {
+    pub fn begin(rt: &'a R) -> Option<ProgressLine<'a, R>> {
         let begun = Instant::now(rt).ok()?;
-        Some(Progress {
+        Some(ProgressLine {
             rt,
             begun,
             bytes: Cell::new(0),
@@ -108,7 +108,7 @@ impl<'a, R: Eprint + Clock> Progress<'a, R> {
     }
 }
 
-impl<R: Eprint> Progress<'_, R> {
+impl<R: Eprint> ProgressLine<'_, R> {
     /// Adds another file to read, with its size, if it is known.
     pub fn add_file(&self, size: Option<u64>) {
         let total = match (self.total.get(), size) {
@@ -119,9 +119,9 @@ impl<R: Eprint> Progress<'_, R> {
     }
 }
 
-impl<R: Eprint> Drop for Progress<'_, R> {
+impl<R: Eprint> Drop for ProgressLine<'_, R> {
     fn drop(self) {
-        let Progress {
+        let ProgressLine {
             rt,
             begun: _,
             bytes: _,
@@ -149,14 +149,14 @@ pub struct Watched<'a, T, R: Eprint> {
 
 impl<'a, T, R: Eprint> Watched<'a, T, R> {
     /// Creates a reader at the beginning of its file.
-    pub fn new(inner: T, progress: Option<&'a Progress<'a, R>>) -> Watched<'a, T, R>
+    pub fn new(inner: T, progress: Option<&'a ProgressLine<'a, R>>) -> Watched<'a, T, R>
         ensures inner { result.inner ≡ inner }
         ensures off { IsNone result.watch ↔ IsNone progress.entry }
         ensures nothing { IfSome result.watch (λ watch. Counts watch.tally []) }
     {
         let watch = progress.map(|progress| Watch {
             progress,
-            tally: Tally::new(),
+            tally: BlockCounter::new(),
         });
         Watched { inner, watch }
     }
@@ -191,8 +191,8 @@ impl<T, R: Eprint + Clock> Watched<'_, T, R> {
 // Watches the bytes that pass through a reader.
 #[derive(Drop)]
 struct Watch<'a, R: Eprint> {
-    progress: &'a Progress<'a, R>,
-    tally: Tally,
+    progress: &'a ProgressLine<'a, R>,
+    tally: BlockCounter,
 }
 
 impl<R: Eprint + Clock> Watch<'_, R> {

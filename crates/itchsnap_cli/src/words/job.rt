@@ -16,7 +16,8 @@ use crate::words::live::{FeedWords, FollowWords, LiveWords, read_feed, read_foll
 use crate::words::points::{PointWords, SnapWords, read_snap_words};
 use crate::words::request::{read_kind, read_output, read_path, read_request, read_snap};
 use crate::words::session::{
-    LoginWords, Server, read_address, read_from, read_login, read_number, read_server, read_session,
+    FetchServer, LoginWords, read_address, read_from, read_login, read_number, read_server,
+    read_session,
 };
 use crate::words::status::{StatusWords, read_status_words};
 use clap::{ArgMatches, Error};
@@ -61,7 +62,7 @@ pub enum Job<'a> {
     },
     /// Fetch the snapshot of a server, or its messages from a number on.
     Fetch {
-        server: Server<'a>,
+        server: FetchServer<'a>,
         login: LoginWords<'a>,
         from: Option<Seq>,
         output: Option<&'a str>,

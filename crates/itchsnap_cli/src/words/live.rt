@@ -12,7 +12,7 @@ use itch_clients::Pace;
 use itch_codec::Alpha;
 use itch_records::{Ready, RecordPlace, RecordWords, SnapshotWords, SyncTime};
 use itch_sessions::log::form::LogForm;
-use itch_sessions::{Feeds, FollowForm, Place};
+use itch_sessions::{Feeds, FollowForm, ServerAddress};
 use std::alloc::Global;
 use std::net::SocketAddr;
 
@@ -24,7 +24,7 @@ const CLIENTS: u64 = 64;
 pub struct LiveWords<'a> {
     pub feeds: Feeds<'a>,
     /// The snapshot server to start from, or `None` to start with the feed's first message.
-    pub glimpse: Option<Place<'a>>,
+    pub glimpse: Option<ServerAddress<'a>>,
     pub address: SocketAddr,
     /// The users that may log in.
     pub users: UserWords<'a>,
@@ -47,7 +47,7 @@ pub struct LiveWords<'a> {
     /// When it starts to send snapshots.
     pub ready: Ready,
     /// The address of its status port, if it has one.
-    pub status: Option<Place<'a>>,
+    pub status: Option<ServerAddress<'a>>,
     pub log: LogForm,
 }
 
@@ -55,7 +55,7 @@ pub struct LiveWords<'a> {
 #[derive(Clone, Copy, Debug, PartialEq, Eq)]
 pub struct FollowWords<'a> {
     pub feeds: Feeds<'a>,
-    pub glimpse: Place<'a>,
+    pub glimpse: ServerAddress<'a>,
     pub login: LoginWords<'a>,
     /// The feed's session, if it is named.
     pub session: Option<Alpha<10>>,

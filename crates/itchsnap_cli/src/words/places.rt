@@ -3,7 +3,7 @@
 use crate::words::fault::{Fault, usage_fault};
 use crate::words::time::read_digits;
 use clap::ArgMatches;
-use itch_sessions::{Feeds, Place};
+use itch_sessions::{Feeds, ServerAddress};
 use std::alloc::Global;
 
 /// Reads the servers after `--feed`.
@@ -28,7 +28,7 @@ pub fn read_place<'a>(
     alloc: Global,
     options: &ArgMatches<'a>,
     name: &str,
-) -> Result<Place<'a>, Fault> {
+) -> Result<ServerAddress<'a>, Fault> {
     match read_place_if_any(alloc, options, name)? {
         Some(place) => Ok(place),
         None => Err(usage_fault(alloc, "a server is missing")?),
@@ -40,7 +40,7 @@ pub fn read_place_if_any<'a>(
     alloc: Global,
     options: &ArgMatches<'a>,
     name: &str,
-) -> Result<Option<Place<'a>>, Fault> {
+) -> Result<Option<ServerAddress<'a>>, Fault> {
     let Some(words) = options.get_str(name) else {
         return Ok(None);
     };
@@ -52,7 +52,7 @@ pub fn read_status<'a>(
     alloc: Global,
     options: &ArgMatches<'a>,
     name: &str,
-) -> Result<Option<Place<'a>>, Fault> {
+) -> Result<Option<ServerAddress<'a>>, Fault> {
     let Some(words) = options.get_str(name) else {
         return Ok(None);
     };
@@ -66,7 +66,7 @@ pub fn read_status<'a>(
 }
 
 /// Parses a host and a port, or a port of this machine.
-pub fn status_place_of(words: &str) -> Option<Place<'_>> {
+pub fn status_place_of(words: &str) -> Option<ServerAddress<'_>> {
     if words.contains(':') {
         place_of(words)
     } else {
@@ -75,16 +75,16 @@ pub fn status_place_of(words: &str) -> Option<Place<'_>> {
 }
 
 // Parses a port of this machine.
-fn port_of(words: &str) -> Option<Place<'_>> {
+fn port_of(words: &str) -> Option<ServerAddress<'_>> {
     let port = u16::try_from(read_digits(words)?).ok()?;
-    Some(Place {
+    Some(ServerAddress {
         words,
         host: "127.0.0.1",
         port,
     })
 }
 
-fn read_words<'a>(alloc: Global, words: &'a str) -> Result<Place<'a>, Fault> {
+fn read_words<'a>(alloc: Global, words: &'a str) -> Result<ServerAddress<'a>, Fault> {
     match place_of(words) {
         Some(place) if place.port > 0 => Ok(place),
         _ => Err(usage_fault(
@@ -95,7 +95,7 @@ fn read_words<'a>(alloc: Global, words: &'a str) -> Result<Place<'a>, Fault> {
 }
 
 // Parses a host and a port. An IPv6 address is written in brackets.
-fn place_of(words: &str) -> Option<Place<'_>> {
+fn place_of(words: &str) -> Option<ServerAddress<'_>> {
     let (host, port) = words.rsplit_once(':')?;
     let port = u16::try_from(read_digits(port)?).ok()?;
     let host = match host.strip_prefix('[') {
@@ -106,5 +106,5 @@ fn place_of(words: &str) -> Option<Place<'_>> {
     if host.is_empty() {
         return None;
     }
-    Some(Place { words, host, port })
+    Some(ServerAddress { words, host, port })
 }

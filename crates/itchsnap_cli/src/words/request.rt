@@ -6,8 +6,8 @@ use crate::words::fault::{Fault, usage_fault};
 use crate::words::time::read_time;
 use clap::ArgMatches;
 use itch_commands::{
-    BookForm, Command, Expected, FeedPart, FileKind, Filters, Form, Limit, OrderForm, PairCommand,
-    Request, Selection, ShowForm, Start, path_of,
+    BookForm, Command, Expected, FeedPart, FileKind, Filters, Limit, OrderForm, PairCommand,
+    ReportForm, Request, Selection, ShowForm, Start, path_of,
 };
 use std::alloc::Global;
 
@@ -388,11 +388,11 @@ pub fn read_output<'a>(alloc: Global, options: &ArgMatches<'a>) -> Result<Option
 }
 
 // Reads the form of a count or a verdict.
-fn read_form(options: &ArgMatches<'_>) -> Form {
+fn read_form(options: &ArgMatches<'_>) -> ReportForm {
     if options.get_flag("json") {
-        Form::Json
+        ReportForm::Json
     } else {
-        Form::Text
+        ReportForm::Text
     }
 }
 

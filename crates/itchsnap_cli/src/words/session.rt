@@ -48,7 +48,7 @@ pub enum UserWords<'a> {
 
 /// The server of a fetch.
 #[derive(Clone, Copy, Debug, PartialEq, Eq)]
-pub struct Server<'a> {
+pub struct FetchServer<'a> {
     /// The name or the address of the server.
     pub host: &'a str,
     pub port: u16,
@@ -71,7 +71,7 @@ pub fn read_address<'a>(alloc: Global, options: &ArgMatches<'a>) -> Result<Socke
 }
 
 /// Reads the server of a fetch, as HOST:PORT or after `--host` and `--port`, and `--session` and `--timeout`.
-pub fn read_server<'a>(alloc: Global, options: &ArgMatches<'a>) -> Result<Server<'a>, Fault> {
+pub fn read_server<'a>(alloc: Global, options: &ArgMatches<'a>) -> Result<FetchServer<'a>, Fault> {
     let (host, port) = match read_place_if_any(alloc, options, "HOST:PORT")? {
         Some(place) => (place.host, place.port),
         None => (
@@ -79,7 +79,7 @@ pub fn read_server<'a>(alloc: Global, options: &ArgMatches<'a>) -> Result<Server
             read_port(alloc, options)?,
         ),
     };
-    Ok(Server {
+    Ok(FetchServer {
         host,
         port,
         session: read_session(alloc, options, "session")?.unwrap_or(current_session()),

@@ -4,14 +4,14 @@ use crate::words::fault::{Fault, usage_fault};
 use crate::words::places::status_place_of;
 use crate::words::request::read_count;
 use clap::ArgMatches;
-use itch_sessions::Place;
+use itch_sessions::ServerAddress;
 use std::alloc::Global;
 
 /// The options of `status`.
 #[derive(Clone, Copy, Debug, PartialEq, Eq)]
 pub struct StatusWords<'a> {
     /// The status port.
-    pub place: Place<'a>,
+    pub place: ServerAddress<'a>,
     /// For how many seconds the server is asked again until it is ready.
     pub wait: u64,
     /// Whether to print the status as JSON.

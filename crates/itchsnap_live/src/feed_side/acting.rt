@@ -4,12 +4,12 @@ use super::FeedSide;
 use crate::feed_line::{FeedLine, Named, Trouble};
 use itch_book::OrderBook;
 use itch_codec::Alpha;
-use itch_live::{Follower, Source};
+use itch_live::{Follower, ServerKind};
 use itch_records::{LiveFault, Step, rejection_ends};
 use itch_sessions::SessionFault;
 use itch_sessions::log::Log;
 use itch_soup::SoupFault;
-use itch_status::Cause;
+use itch_status::LossCause;
 
 impl FeedSide<'_> {
     /// Applies a step to the connection.
@@ -38,9 +38,9 @@ impl FeedSide<'_> {
             Step::OtherSession(named) => self.refuse(log, follower, named, now_ms)?,
             Step::NoMemory => match follower.next() {
                 Some(next) => self.lose(log, follower, Some(Trouble::NoMemory(next)), now_ms),
-                None => self.break_off(log, follower, Cause::NoMemory, now_ms),
+                None => self.break_off(log, follower, LossCause::NoMemory, now_ms),
             },
-            Step::Lost => self.break_off(log, follower, Cause::Broken, now_ms),
+            Step::Lost => self.break_off(log, follower, LossCause::Broken, now_ms),
         }
         Ok(())
     }
@@ -91,7 +91,7 @@ impl FeedSide<'_> {
                 self.drop_connection(u64::MAX);
                 log.say(&FeedLine::Ended(next));
             }
-            _ => self.break_off(log, follower, Cause::Closed, now_ms),
+            _ => self.break_off(log, follower, LossCause::Closed, now_ms),
         }
     }
 
@@ -123,8 +123,11 @@ impl FeedSide<'_> {
         now_ms: u64,
     ) -> Result<(), LiveFault> {
         let (server, wanted) = match follower.next() {
-            Some(_) => (Source::Live, follower.session()),
-            None => (Source::Glimpse, self.glimpse_session.or(follower.session())),
+            Some(_) => (ServerKind::Live, follower.session()),
+            None => (
+                ServerKind::Glimpse,
+                self.glimpse_session.or(follower.session()),
+            ),
         };
         match wanted {
             Some(wanted) if !self.was_accepted => Err(LiveFault::OtherSession {

@@ -2,11 +2,11 @@
 
 use super::FeedSide;
 use crate::feed_line::{FeedLine, Loss};
-use itch_status::{Cause, FeedState};
+use itch_status::{FeedState, LossCause};
 
 impl FeedSide<'_> {
     /// Returns the state of the feed, and why it is not followed, if the cause is known.
-    pub(crate) fn state(&self) -> (FeedState, Option<Cause>) {
+    pub(crate) fn state(&self) -> (FeedState, Option<LossCause>) {
         if self.is_over() {
             return (FeedState::Ended, None);
         }

@@ -1,11 +1,11 @@
 //! The start of a live server, up to its first turn.
 
-use super::client_side::ClientSide;
+use super::client_side::ServingSide;
 use super::day::Day;
 use super::{Accounts, FEED, LISTENER, Server, Serving};
-use crate::opened::{Begun, follower_of, listen, open_files, open_status};
+use crate::opened::{OpenedDay, follower_of, listen, open_files, open_status};
 use crate::question::nameless_follower;
-use crate::start::Start;
+use crate::start::Startup;
 use itch_book::OrderBook;
 use itch_codec::Alpha;
 use itch_join::Joiner;
@@ -38,12 +38,12 @@ where
     let mut log = Log::new(rt, serving.log)?;
     let Accounts { users, own } = accounts;
     let login = own.first();
-    let known: Option<Begun<B>> = if serving.has_days() && serving.session.is_none() {
+    let known: Option<OpenedDay<B>> = if serving.has_days() && serving.session.is_none() {
         None
     } else {
         Some(open_day(&mut log, serving, serving.session, paths)?)
     };
-    let mut start = Start::new(rt, log, servers, own, serving.glimpse_session, FEED)?;
+    let mut start = Startup::new(rt, log, servers, own, serving.glimpse_session, FEED)?;
     open_status(serving, &mut start)?;
     let callers = listen(rt, &mut start, serving.address, LISTENER)?;
     let begun = match known {
@@ -59,15 +59,15 @@ fn begin<'r, 'a, R, B: OrderBook<Alloc = Global>>(
     serving: &'a Serving<'a>,
     users: Logins<'a>,
     login: &Login,
-    start: Start<'r, 'a, R>,
+    start: Startup<'r, 'a, R>,
     callers: Callers,
-    begun: Begun<B>,
+    begun: OpenedDay<B>,
 ) -> Result<Server<'r, 'a, R, B>, LiveFault>
 where
     R: Net + Clock + Files<File = File> + Eprint + AllocGlobal,
 {
     let mut start = start;
-    let Begun {
+    let OpenedDay {
         files,
         joiner,
         session,
@@ -76,7 +76,7 @@ where
     let mut follower = follower_of(alloc, serving, login, session, joiner)?;
     session_of(&mut start, &mut follower)?;
     let session = follower.session().unwrap_or(current_session());
-    let client_side = ClientSide::new(alloc, serving, users, callers, session)?;
+    let client_side = ServingSide::new(alloc, serving, users, callers, session)?;
     let day = Day::new(files, follower.next());
     let desk = Desk::new(alloc, follower, serving.clients)?;
     Ok(server_of(serving, start, desk, client_side, day))
@@ -92,7 +92,7 @@ pub(super) fn open_day<R, B: OrderBook<Alloc = Global>>(
     serving: &Serving<'_>,
     session: Option<Alpha<10>>,
     paths: &mut DayPaths,
-) -> Result<Begun<B>, LiveFault>
+) -> Result<OpenedDay<B>, LiveFault>
 where
     R: Net + Clock + Files<File = File> + Eprint + AllocGlobal,
 {
@@ -108,7 +108,7 @@ where
 // Reports which session begins, and where it is recorded.
 fn say_begun<R: Clock + Eprint, B: OrderBook>(
     log: &mut Log<'_, R>,
-    begun: &Begun<B>,
+    begun: &OpenedDay<B>,
     paths: &DayPaths,
 ) {
     let Some(session) = begun.session else {
@@ -122,11 +122,11 @@ fn say_begun<R: Clock + Eprint, B: OrderBook>(
 
 // Opens the files of the day with the session that the feed names. The feed is then followed on a connection of its own.
 fn open_found<R, B: OrderBook<Alloc = Global>>(
-    start: &mut Start<'_, '_, R>,
+    start: &mut Startup<'_, '_, R>,
     serving: &Serving<'_>,
     login: &Login,
     paths: &mut DayPaths,
-) -> Result<Begun<B>, LiveFault>
+) -> Result<OpenedDay<B>, LiveFault>
 where
     R: Net + Clock + Files<File = File> + Eprint + AllocGlobal,
 {
@@ -141,7 +141,7 @@ where
 
 // Returns the session that a feed names.
 fn session_of<R, B: OrderBook<Alloc = Global>>(
-    start: &mut Start<'_, '_, R>,
+    start: &mut Startup<'_, '_, R>,
     follower: &mut Follower<B>,
 ) -> Result<Alpha<10>, LiveFault>
 where
@@ -156,12 +156,12 @@ where
 // Creates a server from its parts. The caller sets its paths.
 fn server_of<'r, 'a, R: Clock, B: OrderBook>(
     serving: &'a Serving<'a>,
-    start: Start<'r, 'a, R>,
+    start: Startup<'r, 'a, R>,
     desk: Desk<B>,
-    client_side: ClientSide<'a>,
+    client_side: ServingSide<'a>,
     day: Day,
 ) -> Server<'r, 'a, R, B> {
-    let Start {
+    let Startup {
         log,
         turns,
         feed,

@@ -14,7 +14,7 @@ use std::rt::Files;
 
 /// The clients of a live server, its users, its port, and the time budget for snapshots.
 #[derive(Drop)]
-pub(super) struct ClientSide<'a> {
+pub(super) struct ServingSide<'a> {
     pub users: Logins<'a>,
     pub callers: Callers,
     pub reception: Reception,
@@ -22,7 +22,7 @@ pub(super) struct ClientSide<'a> {
     pub budget: Budget,
 }
 
-impl<'a> ClientSide<'a> {
+impl<'a> ServingSide<'a> {
     /// Creates one without clients. Logins are for this session.
     pub(super) fn new(
         alloc: Global,
@@ -30,10 +30,10 @@ impl<'a> ClientSide<'a> {
         users: Logins<'a>,
         callers: Callers,
         session: Alpha<10>,
-    ) -> Result<ClientSide<'a>, AllocError> {
+    ) -> Result<ServingSide<'a>, AllocError> {
         let first_token = FIRST_CLIENT.saturating_add(serving.clients);
         let reception = Reception::new(alloc, session, Seq::new(1).unwrap(), first_token)?;
-        Ok(ClientSide {
+        Ok(ServingSide {
             users,
             callers,
             reception,

@@ -4,7 +4,7 @@ use super::days::Tomorrow;
 use crate::opened::OwnFiles;
 use itch_frame::Buffered;
 use itch_records::{Record, Replay, Saver};
-use itch_status::Tally;
+use itch_status::FeedTally;
 use std::fs::File;
 
 /// The files of a session, and its progress.
@@ -16,7 +16,7 @@ pub(super) struct Day {
     pub saver: Option<Saver>,
     /// The latest timestamp of its messages so far.
     pub latest: Option<u64>,
-    pub tally: Tally,
+    pub tally: FeedTally,
     /// The session of the next day, if it was found.
     pub tomorrow: Option<Tomorrow>,
     /// Whether the feed was caught up once, whether it has ended its session, and whether it was asked for its session.
@@ -38,7 +38,7 @@ impl Day {
             replay,
             saver,
             latest: None,
-            tally: Tally::new(next),
+            tally: FeedTally::new(next),
             tomorrow: None,
             has_caught_up: false,
             has_ended: false,

@@ -3,7 +3,7 @@
 use super::beginning::open_day;
 use super::day::Day;
 use super::{SCOUT, Server};
-use crate::opened::{Begun, follower_of};
+use crate::opened::{OpenedDay, follower_of};
 use crate::scout::Scout;
 use itch_book::OrderBook;
 use itch_codec::Alpha;
@@ -97,13 +97,13 @@ where
         self.finish()?;
         self.spare.release();
         let alloc = self.log.runtime().alloc();
-        let begun: Begun<B> = open_day(
+        let begun: OpenedDay<B> = open_day(
             &mut self.log,
             self.serving,
             Some(session),
             &mut self.paths,
         )?;
-        let Begun {
+        let OpenedDay {
             files,
             joiner,
             session: _,

@@ -1,7 +1,7 @@
 //! The figures of a live server for its status port.
 
 use super::Server;
-use super::client_side::ClientSide;
+use super::client_side::ServingSide;
 use itch_book::OrderBook;
 use itch_status::Figures;
 use std::alloc::Global;
@@ -37,7 +37,7 @@ where
 
     fn figures(&self, now_ms: u64) -> Figures {
         let (state, cause) = self.feed.state();
-        let ClientSide {
+        let ServingSide {
             clients,
             reception,
             ..

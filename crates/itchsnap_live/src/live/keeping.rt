@@ -3,7 +3,7 @@
 use super::{READING_MS, Server};
 use itch_book::OrderBook;
 use itch_records::{DayPaths, LiveFault, RecordLoss, RecordPart, next_stop};
-use itch_status::Tally;
+use itch_status::FeedTally;
 use std::alloc::Global;
 use std::fs::File;
 use std::net::Net;
@@ -60,7 +60,7 @@ where
             self.save(mark.count.saturating_add(1), mark.offset, now_ms)?;
         } else {
             self.day.record.cut(&mut self.log, mark)?;
-            self.day.tally = Tally::new(self.desk.follower().next());
+            self.day.tally = FeedTally::new(self.desk.follower().next());
         }
         Ok(is_more)
     }

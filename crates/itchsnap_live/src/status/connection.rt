@@ -1,8 +1,8 @@
 //! A connection to the status port: one request, and its answer.
 ghost use Rattle.std.specs.Prelude.{◌≡◌, ◌-◌, nat_le};
 
-use itch_sessions::Link;
-use itch_status::{Answer, LONGEST, Refusal, answer_to, refused};
+use itch_sessions::SocketLink;
+use itch_status::{LONGEST, RequestRefusal, StatusAnswer, answer_to, refused};
 use mio::event::Event;
 use std::alloc::{AllocError, Global};
 
@@ -11,11 +11,11 @@ const PATIENCE_MS: u64 = 5_000;
 
 // The state of a connection.
 #[derive(Drop)]
-enum Stage {
+enum RequestStage {
     // Its request is not complete.
     Begun,
     // Its request waits for an answer.
-    Asked(Answer),
+    Asked(StatusAnswer),
     // It is answered with these bytes, of which `written` were written.
     Answered { response: Vec<u8>, written: usize },
     // It is to be closed.
@@ -24,25 +24,29 @@ enum Stage {
 
 /// A connection to the status port.
 #[derive(Drop)]
-pub(crate) struct Connection {
-    link: Link,
+pub(crate) struct StatusConnection {
+    link: SocketLink,
     since_ms: u64,
     request: Vec<u8>,
-    stage: Stage,
+    stage: RequestStage,
 }
 
-impl Connection {
+impl StatusConnection {
     /// Creates a connection that was accepted at this time.
     ///
     /// # Errors
     ///
     /// [`AllocError`] if memory is refused.
-    pub(crate) fn new(alloc: Global, link: Link, now_ms: u64) -> Result<Connection, AllocError> {
-        Ok(Connection {
+    pub(crate) fn new(
+        alloc: Global,
+        link: SocketLink,
+        now_ms: u64,
+    ) -> Result<StatusConnection, AllocError> {
+        Ok(StatusConnection {
             link,
             since_ms: now_ms,
             request: Vec::with_capacity(alloc, LONGEST)?,
-            stage: Stage::Begun,
+            stage: RequestStage::Begun,
         })
     }
 
@@ -54,20 +58,22 @@ impl Connection {
     /// Returns whether there may be something to do without waiting for another event.
     pub(crate) fn is_busy(&self) -> bool {
         match &self.stage {
-            Stage::Begun => self.link.is_busy(false),
-            Stage::Asked(_) | Stage::Over => true,
-            Stage::Answered { response, written } => self.link.is_busy(*written < response.len()),
+            RequestStage::Begun => self.link.is_busy(false),
+            RequestStage::Asked(_) | RequestStage::Over => true,
+            RequestStage::Answered { response, written } => {
+                self.link.is_busy(*written < response.len())
+            }
         }
     }
 
     /// Reads bytes, and determines the answer to the request. Bytes after the request are ignored.
     pub(crate) fn hear(&mut self, buffer: &mut [u8], now_ms: u64) {
         match self.stage {
-            Stage::Begun => self.read(buffer, now_ms),
-            Stage::Answered { .. } => {
+            RequestStage::Begun => self.read(buffer, now_ms),
+            RequestStage::Answered { .. } => {
                 self.link.read(buffer);
             }
-            Stage::Asked(_) | Stage::Over => {}
+            RequestStage::Asked(_) | RequestStage::Over => {}
         }
     }
 
@@ -75,11 +81,11 @@ impl Connection {
         let most = LONGEST.saturating_sub(self.request.len()).min(buffer.len());
         let count = self.link.read(&mut buffer[..most]).min(most);
         if self.request.extend_from_slice(&buffer[..count]).is_err() {
-            self.stage = Stage::Over;
+            self.stage = RequestStage::Over;
         } else if count > 0 {
             self.look(now_ms);
         } else if self.link.ending(None, false).is_some() {
-            self.stage = Stage::Over;
+            self.stage = RequestStage::Over;
         } else {
             self.time_out(now_ms);
         }
@@ -88,14 +94,14 @@ impl Connection {
     // Determines the answer to the bytes so far.
     fn look(&mut self, now_ms: u64) {
         match answer_to(self.request.as_slice()) {
-            Answer::More => self.time_out(now_ms),
-            answer => self.stage = Stage::Asked(answer),
+            StatusAnswer::More => self.time_out(now_ms),
+            answer => self.stage = RequestStage::Asked(answer),
         }
     }
 
     fn time_out(&mut self, now_ms: u64) {
         if self.is_late(now_ms) {
-            self.stage = Stage::Asked(refused(Refusal::TimedOut));
+            self.stage = RequestStage::Asked(refused(RequestRefusal::TimedOut));
         }
     }
 
@@ -107,9 +113,9 @@ impl Connection {
     }
 
     /// Returns the answer that is due, if there is one.
-    pub(crate) fn asked(&self) -> Option<Answer> {
+    pub(crate) fn asked(&self) -> Option<StatusAnswer> {
         match self.stage {
-            Stage::Asked(answer) => Some(answer),
+            RequestStage::Asked(answer) => Some(answer),
             _ => None,
         }
     }
@@ -117,19 +123,19 @@ impl Connection {
     /// Answers it, or closes it if there is no response.
     pub(crate) fn tell(&mut self, response: Option<Vec<u8>>) {
         self.stage = match response {
-            Some(response) => Stage::Answered {
+            Some(response) => RequestStage::Answered {
                 response,
                 written: 0,
             },
-            None => Stage::Over,
+            None => RequestStage::Over,
         };
     }
 
     /// Writes as much of the answer as the socket accepts. Returns whether the connection is to be closed, because the peer has closed it or
     /// its time is over.
     pub(crate) fn write(&mut self, now_ms: u64) -> bool {
-        let Stage::Answered { response, written } = &mut self.stage else {
-            return matches!(self.stage, Stage::Over);
+        let RequestStage::Answered { response, written } = &mut self.stage else {
+            return matches!(self.stage, RequestStage::Over);
         };
         let from = (*written).min(response.len());
         *written = from.saturating_add(self.link.write(&response[from..]));

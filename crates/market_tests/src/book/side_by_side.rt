@@ -216,6 +216,25 @@ fn check_new<B: OrderBook, C: OrderBook>(
     check_calls(rt, &mut one, &mut other)
 }
 
+// Makes random calls on both books, settles the other one after so many of them, and checks both.
+pub(super) fn check_turns<B: OrderBook, C: OrderBook>(
+    rt: &impl Host,
+    one: &mut B,
+    other: &mut C,
+    every: u32,
+) -> Result<(), AllocError> {
+    let mut random = Random { state: 1 };
+    for number in 0..10000u32 {
+        call(rt, &mut random, one, other)?;
+        if number.checked_rem(every) == Some(0) {
+            other.settle();
+        }
+        check_books(rt, one, other);
+    }
+    assert!(rt; one.len() > 10);
+    Ok(())
+}
+
 #[test]
 fn both_books_stay_the_same(rt: HostRuntime) -> TestResult {
     Ok(check_new::<ListBook, IndexedBook>(&rt, rt.alloc(), rt.alloc())?)

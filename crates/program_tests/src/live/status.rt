@@ -3,8 +3,8 @@ use crate::equal::{Host, TestResult, holds_in, same, same_in};
 use httpdate::HttpDate;
 use itch_codec::Alpha;
 use itch_status::{
-    Answer, Cause, FeedState, Figures, Page, Recorded, Refusal, Tally, answer_to, body_of,
-    is_ready, page_of, refuse, respond, utc,
+    FeedState, FeedTally, Figures, LossCause, Recorded, RequestRefusal, StatusAnswer, StatusPage,
+    answer_to, body_of, is_ready, page_of, refuse, respond, utc,
 };
 use std::str;
 use std::test::Fail;
@@ -14,12 +14,12 @@ fn chosen() -> Result<Figures, Fail> {
     let Ok(session) = Alpha::from_text("  A\"<B\\") else {
         return Err(Fail::from("no figures"));
     };
-    let mut tally = Tally::new(Some(1));
+    let mut tally = FeedTally::new(Some(1));
     tally.see(Some(601), 59_999);
     tally.see(Some(602), 61_000);
     Ok(Figures {
         state: FeedState::Lost,
-        cause: Some(Cause::NoSession),
+        cause: Some(LossCause::NoSession),
         session: Some(session),
         server: 2,
         losses: 3,
@@ -38,38 +38,44 @@ fn chosen() -> Result<Figures, Fail> {
 }
 
 // Lines of pages, word by word.
-const LINES: [(Page, &str); 12] = [
-    (Page::Metrics, "\nitchsnap_ready 0\n"),
-    (Page::Metrics, "\nitchsnap_feed_state{state=\"lost\"} 1\n"),
+const LINES: [(StatusPage, &str); 12] = [
+    (StatusPage::Metrics, "\nitchsnap_ready 0\n"),
     (
-        Page::Metrics,
+        StatusPage::Metrics,
+        "\nitchsnap_feed_state{state=\"lost\"} 1\n",
+    ),
+    (
+        StatusPage::Metrics,
         "\nitchsnap_feed_session{session=\"A\\\"<B\\\\\"} 1\n",
     ),
     (
-        Page::Metrics,
+        StatusPage::Metrics,
         "\nitchsnap_market_time_seconds 34200.001000009\n",
     ),
-    (Page::Metrics, "\nitchsnap_messages_per_second 10.016\n"),
-    (Page::Lines, "\nmarket_time_seconds 09:30:00.001\n"),
-    (Page::Lines, "\nsilence_seconds 1.500\n"),
-    (Page::Lines, "\nsnapshot_file_message -\n"),
     (
-        Page::Status,
+        StatusPage::Metrics,
+        "\nitchsnap_messages_per_second 10.016\n",
+    ),
+    (StatusPage::Lines, "\nmarket_time_seconds 09:30:00.001\n"),
+    (StatusPage::Lines, "\nsilence_seconds 1.500\n"),
+    (StatusPage::Lines, "\nsnapshot_file_message -\n"),
+    (
+        StatusPage::Status,
         "\"feed_session\":\"A\\\"<B\\\\\",\"feed_server\":2,",
     ),
     (
-        Page::Status,
+        StatusPage::Status,
         "\"record_unsynced_bytes\":7,\"snapshot_file_message\":null,",
     ),
-    (Page::Status, ",600,0,1,0]}\n"),
+    (StatusPage::Status, ",600,0,1,0]}\n"),
     (
-        Page::People,
+        StatusPage::People,
         "<tr><th>Session</th><td>A\"&lt;B\\</td></tr>\n",
     ),
 ];
 
 // A page of the chosen figures has a line, and does not report that the server is ready.
-fn shows(rt: &impl Host, page: Page, line: &str) -> TestResult {
+fn shows(rt: &impl Host, page: StatusPage, line: &str) -> TestResult {
     let figures = chosen()?;
     let response = respond(rt.alloc(), page, true, &figures, "1.2", None)?;
     let Some(body) = body_of(response.as_slice()) else {
@@ -96,7 +102,12 @@ fn a_response_has_its_head(rt: HostRuntime) -> TestResult {
     let Ok(date) = HttpDate::from_unix_secs(0) else {
         return Err(Fail::from("no figures"));
     };
-    let refused = refuse(rt.alloc(), Refusal::MethodNotAllowed, true, Some(date))?;
+    let refused = refuse(
+        rt.alloc(),
+        RequestRefusal::MethodNotAllowed,
+        true,
+        Some(date),
+    )?;
     let wanted =
         b"HTTP/1.1 405 Method Not Allowed\r\nContent-Type: text/plain; charset=utf-8\r\nContent-Length: 23\r\n\
         Date: Thu, 01 Jan 1970 00:00:00 GMT\r\nAllow: GET, HEAD\r\nCache-Control: no-store\r\nX-Content-Type-Options: nosniff\r\n\
@@ -114,50 +125,50 @@ const REQUESTS: [(&[u8], Answer); 11] = [
     (b"GET HTTP://[::1]/metrics HTTP/1.1\r\n\r\n", PAGE),
     (
         b"GET ftp://a/metrics HTTP/1.1\r\n\r\n",
-        Answer::Refused {
-            refusal: Refusal::NotFound,
+        StatusAnswer::Refused {
+            refusal: RequestRefusal::NotFound,
             has_body: true,
         },
     ),
     (
         b"HEAD /metric HTTP/1.1\r\n\r\n",
-        Answer::Refused {
-            refusal: Refusal::NotFound,
+        StatusAnswer::Refused {
+            refusal: RequestRefusal::NotFound,
             has_body: false,
         },
     ),
     (
         b"PUT /metrics HTTP/1.1\r\n\r\n",
-        Answer::Refused {
-            refusal: Refusal::MethodNotAllowed,
+        StatusAnswer::Refused {
+            refusal: RequestRefusal::MethodNotAllowed,
             has_body: true,
         },
     ),
     (
         b"GET /metric HTTP/1.1\r\n\r\n",
-        Answer::Refused {
-            refusal: Refusal::NotFound,
+        StatusAnswer::Refused {
+            refusal: RequestRefusal::NotFound,
             has_body: true,
         },
     ),
     (
         b"GET /metrics HTTP/3.0\r\n\r\n",
-        Answer::Refused {
-            refusal: Refusal::BadRequest,
+        StatusAnswer::Refused {
+            refusal: RequestRefusal::BadRequest,
             has_body: true,
         },
     ),
     (
         &[b'a'; 8_192],
-        Answer::Refused {
-            refusal: Refusal::TooLarge,
+        StatusAnswer::Refused {
+            refusal: RequestRefusal::TooLarge,
             has_body: true,
         },
     ),
 ];
 
-const PAGE: Answer = Answer::Page {
-    page: Page::Metrics,
+const PAGE: StatusAnswer = StatusAnswer::Page {
+    page: StatusPage::Metrics,
     has_body: true,
 };
 
@@ -166,8 +177,12 @@ fn requests_are_answered(rt: HostRuntime) {
     for (place, (request, answer)) in REQUESTS.iter().enumerate() {
         same_in(&rt, place, answer_to(request), *answer);
     }
-    same(&rt, page_of(b"/readyz"), Some(Page::Ready));
-    same(&rt, page_of(b"http://a?b=/metrics"), Some(Page::People));
+    same(&rt, page_of(b"/readyz"), Some(StatusPage::Ready));
+    same(
+        &rt,
+        page_of(b"http://a?b=/metrics"),
+        Some(StatusPage::People),
+    );
 }
 
 #[test]

@@ -3,11 +3,11 @@
 use crate::equal::TestResult;
 use itch_codec::Alpha;
 use itch_sessions::sessions::{Login, default_session};
-use itchsnap_cli::input::Tally;
+use itchsnap_cli::input::BlockCounter;
 
 #[test]
 fn whole_messages_are_counted(rt: HostRuntime) -> TestResult {
-    let mut tally = Tally::new();
+    let mut tally = BlockCounter::new();
     tally.pass(b"\0\x02hi\0\x02");
     tally.pass(b"ho");
     assert_eq!(rt; tally.messages(), 2);

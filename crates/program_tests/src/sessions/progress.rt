@@ -1,7 +1,7 @@
 //! The bytes that pass through a reader with progress reports.
 
 use crate::equal::{TestResult, same, same_in};
-use itchsnap_cli::input::{Amount, Progress, Tally, Watched};
+use itchsnap_cli::input::{Amount, BlockCounter, ProgressLine, Watched};
 use std::io::Read;
 use std::time::Duration;
 
@@ -9,7 +9,7 @@ use std::time::Duration;
 fn messages_are_counted_in_pieces(rt: HostRuntime) -> TestResult {
     let stream = [0, 2, 7, 7, 0, 0, 0, 1, 9, 1, 0];
     for length in 1..stream.len() {
-        let mut tally = Tally::new();
+        let mut tally = BlockCounter::new();
         for piece in stream.chunks(length) {
             tally.pass(piece);
         }
@@ -21,7 +21,7 @@ fn messages_are_counted_in_pieces(rt: HostRuntime) -> TestResult {
 #[test]
 fn a_watched_reader_reads_what_is_inside(rt: HostRuntime) -> TestResult {
     let stream = [0, 1, 9, 0];
-    let progress = Progress::begin(&rt);
+    let progress = ProgressLine::begin(&rt);
     let mut reader = Watched::new(&stream[..], progress.as_ref());
     let mut bytes = [0; 3];
     assert!(rt; matches!(reader.read(&mut bytes), Ok(3)));

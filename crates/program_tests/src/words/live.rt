@@ -6,7 +6,7 @@ use itchsnap_cli::words::{Job, Password, UserWords, read_job};
 use std::test::Fail;
 
 const FEED: &str =
-    "feeds: Feeds { first: Place { words: \"h:1\", host: \"h\", port: 1 }, others: [None, None, None, None, None, None, None] }";
+    "feeds: Feeds { first: ServerAddress { words: \"h:1\", host: \"h\", port: 1 }, others: [None, None, None, None, None, None, None] }";
 
 const LOGIN: &str = "LoginWords { user: \"user\", .. }";
 
@@ -31,7 +31,7 @@ const LIVE: [(&str, &str, &str); 4] = [
     ),
     (
         "--bind ::1 --glimpse [::1]:65535 --snapshots s --every 1000",
-        "glimpse: Some(Place { words: \"[::1]:65535\", host: \"::1\", port: 65535 }), address: [::1]:0",
+        "glimpse: Some(ServerAddress { words: \"[::1]:65535\", host: \"::1\", port: 65535 }), address: [::1]:0",
         "session: None, glimpse_session: None, clients: 64, clients_per_address: None, snapshot_memory: None, record: None, \
              snapshots: Some(SnapshotWords { folder: \"s\", every: 1000, keep: None }), stay: false, ready: First, status: None, log: Plain",
     ),
@@ -53,8 +53,8 @@ fn words_of_a_live_server_are_read(rt: HostRuntime) -> TestResult {
 
 // More options of a live server, and a part of the resulting request.
 const PARTS: [&str; 17] = [
-    "--feed g:2 => others: [Some(Place { words: \"g:2\", host: \"g\", port: 2 }), None, None, None, None, None, None] }",
-    "--feed b:2 --feed c:3 --feed d:4 --feed e:5 --feed f:6 --feed g:7 --feed [::1]:8 => Some(Place { words: \"[::1]:8\", host: \"::1\", port: 8 })] }",
+    "--feed g:2 => others: [Some(ServerAddress { words: \"g:2\", host: \"g\", port: 2 }), None, None, None, None, None, None] }",
+    "--feed b:2 --feed c:3 --feed d:4 --feed e:5 --feed f:6 --feed g:7 --feed [::1]:8 => Some(ServerAddress { words: \"[::1]:8\", host: \"::1\", port: 8 })] }",
     "--records days => record: Some(RecordWords { place: Folder(\"days\"), sync: EverySecond, is_optional: false })",
     "--snapshots s --every 5 --keep 3 => snapshots: Some(SnapshotWords { folder: \"s\", every: 5, keep: Some(3) })",
     "--to s --every 5 --keep 3 => snapshots: Some(SnapshotWords { folder: \"s\", every: 5, keep: Some(3) })",
@@ -65,8 +65,8 @@ const PARTS: [&str; 17] = [
     "--snapshot-memory 512K => snapshot_memory: Some(524288),",
     "--snapshot-memory 256M => snapshot_memory: Some(268435456),",
     "--snapshot-memory 2G => snapshot_memory: Some(2147483648),",
-    "--status 9100 => status: Some(Place { words: \"9100\", host: \"127.0.0.1\", port: 9100 })",
-    "--status [::1]:0 => status: Some(Place { words: \"[::1]:0\", host: \"::1\", port: 0 })",
+    "--status 9100 => status: Some(ServerAddress { words: \"9100\", host: \"127.0.0.1\", port: 9100 })",
+    "--status [::1]:0 => status: Some(ServerAddress { words: \"[::1]:0\", host: \"::1\", port: 0 })",
     "--log text => log: Text",
     "--log json => log: Json",
     "--snapshot-memory 17179869183G => snapshot_memory: Some(18446744072635809792),",
@@ -93,7 +93,7 @@ fn words_of_a_follower_are_read(rt: HostRuntime) -> TestResult {
             "follow --feed h:1 --glimpse g.example:2 --user user --pass secret {more}"
         )?;
         let wanted = format!(in rt.alloc();
-            "Follow(FollowWords {{ {FEED}, glimpse: Place {{ words: \"g.example:2\", host: \"g.example\", port: 2 }}, \
+            "Follow(FollowWords {{ {FEED}, glimpse: ServerAddress {{ words: \"g.example:2\", host: \"g.example\", port: 2 }}, \
              login: {LOGIN}, session: None, glimpse_session: None, form: {form} }})"
         )?;
         ask_for(&rt, line.as_str(), wanted.as_str())?;

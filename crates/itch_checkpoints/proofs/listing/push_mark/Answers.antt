@@ -5,11 +5,8 @@ use Rattle.itch_checkpoints.proofs.listing.push_mark.Goals as goal
 pub returns : goal.returns
 returns g c =
     simp (
-      c.in_ok-extend_from_slice-2.ensures.items,
-      c.in_ok-push_field-3.ensures,
-      c.in_ok-push_or_null.ensures,
       c.in_ok-extend_from_slice.ensures.items,
-      c.in_ok-push_field-2.ensures,
       c.in_ok-push_field.ensures,
+      c.in_ok-push_place.ensures,
       append_assoc,
     ) refl

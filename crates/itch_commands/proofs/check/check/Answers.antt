@@ -1,7 +1,7 @@
 use Rattle.std.proofs.Common.{None, true, subst, inr}
 use Rattle.itch_commands.specs.declared.fault.Source.TheVariants.{Only}
 use Rattle.itch_commands.specs.Forms.{count_line_of}
-use Rattle.itch_commands.specs.declared.form.Form.TheVariants.{Text}
+use Rattle.itch_commands.specs.declared.form.ReportForm.TheVariants.{Text}
 use Rattle.itch_day.specs.Limits.{counted}
 use Rattle.itch_commands.specs.Commands.{Checks}
 use Rattle.itch_commands.specs.Expectations.{Meets, nothing}

@@ -2,7 +2,7 @@ use Rattle.std.proofs.Common.{◌≡◌, None, is_none, subst, inr}
 use Rattle.itch_commands.specs.declared.fault.Source.TheVariants.{First, Second}
 use Rattle.itch_commands.specs.Comparing.{ReadsBoth, PartsAt}
 use Rattle.itch_commands.specs.Forms.{verdict_line}
-use Rattle.itch_commands.specs.declared.form.Form.TheVariants.{Text}
+use Rattle.itch_commands.specs.declared.form.ReportForm.TheVariants.{Text}
 use Rattle.itch_day.specs.Limits.{counted}
 use Rattle.itch_commands.specs.Commands.{Compares}
 use Rattle.itch_commands.specs.Files.{ReadsFile}

@@ -2,7 +2,7 @@ use Rattle.std.proofs.Common.{None, inl, inr, subst}
 use Rattle.itch_day.specs.Limits.{counted}
 use Rattle.itch_commands.specs.Infos.{Informs}
 use Rattle.itch_commands.specs.Readings.{FromBlocks}
-use Rattle.itch_commands.specs.declared.form.Form.TheVariants.{Text}
+use Rattle.itch_commands.specs.declared.form.ReportForm.TheVariants.{Text}
 use Rattle.itch_commands.proofs.InfoTexts.{from_reader}
 use Rattle.itch_commands.proofs.info.info.Goals as goal
 

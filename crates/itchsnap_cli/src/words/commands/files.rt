@@ -178,7 +178,7 @@ bids before asks, the best first.",
                 Argument::Optional {
                     long: "every",
                     value: Value::Text("DURATION"),
-                    help: "Print the books at each multiple of D since midnight, such as 1m or 500ms",
+                    help: "Print the books at each multiple of DURATION since midnight, such as 1m or 500ms",
                 },
                 Argument::Flag {
                     long: "changes",

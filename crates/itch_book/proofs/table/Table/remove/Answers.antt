@@ -21,10 +21,10 @@ pub invariant_of-self-in-None : goal.invariant_of-self-in-None
 invariant_of-self-in-None g c =
     let near = c.self.inside.near in let far = c.self.inside.far.entries in let next = c.remove.new.self in let key = c.args.key in
     let left = c.remove-in-None.new.self.entries in
-    let whole : at (record { near = near; far = far }) key ≡ Some c.unwrap.result =
-    ap (λ o. or_else o (lookup (eqb key) far)) (sym c.remove.ensures.link ∙ c.in-None.is) ∙ sym c.remove-in-None.ensures.value ∙ c.unwrap.ensures in
+    let whole : at (record { near = near; far = far }) key ≡ Some c.unwrap-link.result =
+    ap (λ o. or_else o (lookup (eqb key) far)) (sym c.remove.ensures.link ∙ c.in-None.is) ∙ sym c.remove-in-None.ensures.value ∙ c.unwrap-link.ensures in
     record {
       parted = cut_parted near next far left key c.remove.ensures.updates c.remove-in-None.ensures.updates.0 c.self.invariant.parted;
-      count = count_fewer (at (record { near = near; far = far })) (at (record { near = next; far = left })) key c.unwrap.result c.self.inside.len c.self.invariant.count whole
+      count = count_fewer (at (record { near = near; far = far })) (at (record { near = next; far = left })) key c.unwrap-link.result c.self.inside.len c.self.invariant.count whole
           (far_gone near next far left key c.remove.ensures.updates c.remove-in-None.ensures.updates.0);
     }

@@ -3,7 +3,7 @@ use Rattle.itch_commands.specs.Commands.{ComparesFirst}
 use Rattle.itch_commands.specs.FirstDifferences.{FindsFirst, first_line}
 use Rattle.itch_day.specs.Limits.{counted}
 use Rattle.itch_commands.specs.Readings.{FromBlocks, FromReader}
-use Rattle.itch_commands.specs.declared.form.Form.TheVariants.{Text}
+use Rattle.itch_commands.specs.declared.form.ReportForm.TheVariants.{Text}
 use Rattle.itch_commands.proofs.Outputs.{Outputs-weaker}
 use Rattle.itch_commands.proofs.compare.first.compare_first.Goals as goal
 

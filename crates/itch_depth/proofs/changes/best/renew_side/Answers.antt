@@ -34,8 +34,8 @@ returns-clause-renewed g c =
     let book = g.met.B.OrderBook.is_book c.args.book.now in
     let over : (c.loop-place.count ≡ c.args.depth) ⊎ ((c.loop-place.count ≤ c.args.depth) × (next_price orders c.args.locate c.args.side c.loop-place.last ≡ None)) =
     elim c.loop-place-test.branch [
-      else-loop-place-test w ↦ inl (omega (arith, so_far.at, so_far.most, w.loop-place-test.false))
-    | then-loop-place-test+in_default w ↦ inr (omega (arith, so_far.at, so_far.most), sym w.next_price.ensures ∙ w.in_default.is)
+      | else-loop-place-test w ↦ inl (omega (arith, so_far.at, so_far.most, w.loop-place-test.false))
+      | then-loop-place-test+in_default w ↦ inr (omega (arith, so_far.at, so_far.most), sym w.next_price.ensures ∙ w.in_default.is)
     ] in
     c.truncate.ensures.items
     ∙ now_known orders c.args.locate c.args.side old c.loop-place.count c.loop-place.last c.loop-place.known.items c.loop-place.changed book so_far.looked

@@ -3,12 +3,12 @@ use Rattle.std.proofs.lemmas.Result.{err_from_is_err_and}
 use Rattle.itch_commands.specs.Outputs.{WritesText}
 use Rattle.itch_commands.proofs.JoinedTexts.{text_fails, text_then}
 use Rattle.itch_depth.specs.Changes.{json_level, next_level}
-use Rattle.itch_depth.specs.declared.changes.best.Level.{Level}
+use Rattle.itch_depth.specs.declared.changes.best.DepthLevel.{DepthLevel}
 use Rattle.itch_depth.proofs.JsonArrays.{json_parts}
 use Rattle.itch_depth.proofs.changes.lines.write_array.Goals as goal
 
 -- stands for the price that is not there
-abbrev no_level : Level
+abbrev no_level : DepthLevel
 no_level = record { price = 0; shares = 0; orders = 0 }
 
 pub returns-in_err-write_text : goal.returns-in_err-write_text

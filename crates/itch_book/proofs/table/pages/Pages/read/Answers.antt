@@ -7,4 +7,4 @@ pub link_of-requires : goal.link_of-requires
 link_of-requires g c =
     let n = c.args.key / 128 in
     let there : place_at c.self.inside.directory.items n ≡ Some c.in-Some.place = ap (λ (t : List (Option ℕ)). place_at t n) (sym c.deref.ensures.value) ∙ sym c.place_at.ensures ∙ c.in-Some.is in
-    own_offset _ _ c.self.invariant n c.in-Some.place there c.index.result.now c.index.ensures (c.args.key % 128) (omega arith)
+    own_offset _ _ c.self.invariant n c.in-Some.place there c.index-page.result.now c.index-page.ensures (c.args.key % 128) (omega arith)

@@ -2,7 +2,7 @@ use Rattle.std.proofs.Common.{subst, arith}
 use Rattle.std.proofs.lemmas.List.{take_all}
 use Rattle.itchsnap_cli.specs.Tallies.{CountsOn}
 use Rattle.itchsnap_cli.proofs.Tallying.{on_nothing, on_next}
-use Rattle.itchsnap_cli.proofs.input.messages.Tally.pass.Goals as goal
+use Rattle.itchsnap_cli.proofs.input.messages.BlockCounter.pass.Goals as goal
 
 pub loop-byte-init : goal.loop-byte-init
 loop-byte-init c = on_nothing _
