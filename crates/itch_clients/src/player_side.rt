@@ -200,7 +200,13 @@ fn play_next<S: CountedRead + Drop>(
 }
 
 // Returns whether a message is due, counted from the first message that was read, which is always due.
-fn is_due_from(start: &mut Option<PlayStart>, pace: Pace, number: u64, time: u64, now_ms: u64) -> bool
+fn is_due_from(
+    start: &mut Option<PlayStart>,
+    pace: Pace,
+    number: u64,
+    time: u64,
+    now_ms: u64,
+) -> bool
     ensures start { start.new ≡ Some (start_of start.old number time now_ms) }
     ensures due { result ≡ is_due_from (start_of start.old number time now_ms) pace number time now_ms }
 {
