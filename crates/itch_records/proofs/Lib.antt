@@ -1,3 +1,3 @@
 pub mod First
-pub mod Replayed
+pub mod ReplayedParts
 pub mod Written
