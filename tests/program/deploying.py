@@ -291,7 +291,7 @@ def texts_of(file, function):
 
 def events():
     """Returns the events that a log may contain."""
-    files = [it.relative_to(SOURCES) for it in SOURCES.glob("*/src/**/*.rt") if re.search(r"^impl(?:<.*>)? Event for", it.read_text(), re.M)]
+    files = [it.relative_to(SOURCES) for it in SOURCES.glob("*/src/**/*.rt") if re.search(r"^impl(?:<.*>)? LogEvent for", it.read_text(), re.M)]
     return {event for file in files for event in texts_of(file, "fn name(&self)")}
 
 

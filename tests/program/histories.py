@@ -174,7 +174,9 @@ def an_order_that_never_comes_is_a_fault(program):
     plain = ended(program, "show", "day.itch", "--reference", str(2 ** 63), day=made.day())
     yield from differs("without --history", plain, (0, b"", b""))
     short = history(program, made.day(), 2 ** 63, "--after", str(len(made.payloads) + 1))
-    yield from differs("fewer messages", short, (1, b"", b"itchsnap: only %d messages\n" % len(made.payloads)))
+    count = len(made.payloads)
+    wanted = b"itchsnap: only %d messages\n  day.itch: %d messages are requested\n" % (count, count + 1)
+    yield from differs("fewer messages", short, (1, b"", wanted))
 
 
 def a_long_chain_is_followed_back_from_its_last_number(program):
