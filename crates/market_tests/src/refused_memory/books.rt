@@ -2,7 +2,6 @@
 use crate::book::{add, has_len, live, next_price, order, replace_at, total};
 use crate::equal::{Host, TestResult, same};
 use crate::market::content::push_orders;
-use itch_adaptive::AdaptiveBook;
 use itch_book::{IndexedBook, ListBook, Order, OrderBook, SettledBook};
 use itch_codec::Side;
 use std::alloc::{AllocError, Global};
@@ -197,62 +196,5 @@ fn a_book_is_settled_without_memory(rt: HostRuntime) -> TestResult {
     assert!(rt; !refusing.has_refused());
     assert!(rt; book.is_settled());
     has_orders(&rt, &book, &orders)?;
-    Ok(())
-}
-
-type Adaptive<'a> = AdaptiveBook<
-    SettledBook<&'a Refusing<Global>>,
-    IndexedBook<&'a Refusing<Global>>,
->;
-
-#[test]
-fn an_adaptive_book_stays_as_it_was(rt: HostRuntime) -> TestResult {
-    for (step, every) in WAYS {
-        let refusing = Refusing::new(rt.alloc(), 0);
-        let mut book: Adaptive<'_> = AdaptiveBook::new(&refusing);
-        let (additions, replacements) = grow(&rt, &refusing, &mut book, (step, every))?;
-        assert!(rt; additions > 1);
-        assert!(rt; replacements > 0 || every == 3);
-    }
-    Ok(())
-}
-
-// Looks at a book twice, with one change between, and with this allocation of the second time refused. Returns whether it was refused.
-fn refuse_copy<B: OrderBook>(
-    rt: &impl Host,
-    refusing: &Refusing<Global>,
-    book: &mut B,
-    nth: u64,
-) -> Result<bool, AllocError> {
-    fill_line(rt, book)?;
-    book.settle();
-    add(rt, book, order(1, Side::Buy, 10, 999999))?;
-    let orders = listed(rt, book)?;
-    refusing.arm(nth);
-    book.settle();
-    let is_refused = refusing.has_refused();
-    has_orders(rt, book, &orders)?;
-    refusing.arm(u64::MAX);
-    add(rt, book, order(2, Side::Buy, 10, 999998))?;
-    book.settle();
-    has_len(rt, book, 302);
-    same(rt, next_price(book, Side::Buy, Some(999999)), Some(999998));
-    Ok(is_refused)
-}
-
-// An order that is copied may need memory. If it is refused, the orders stay where they are, and the next look-up after a change copies them.
-#[test]
-fn an_adaptive_book_is_copied_or_stays(rt: HostRuntime) -> TestResult {
-    let mut refused = 0u64;
-    for nth in 0..1000u64 {
-        let refusing = Refusing::new(rt.alloc(), u64::MAX);
-        let mut book: Adaptive<'_> = AdaptiveBook::new(&refusing);
-        if !refuse_copy(&rt, &refusing, &mut book, nth)? {
-            break;
-        }
-        refused = nth + 1;
-    }
-    assert!(rt; refused > 3);
-    assert!(rt; refused < 1000);
     Ok(())
 }
