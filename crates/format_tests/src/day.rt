@@ -1,7 +1,7 @@
 //! Parts of a day, read one after another.
 use crate::equal::{Host, TestResult, same, same_in};
 use itch_codec::{CodecFault, MOST_MESSAGES, Message};
-use itch_day::{Limit, Mark, Marked, Sink, Stop, read_further, read_part};
+use itch_day::{Limit, Mark, Marked, PartStop, Sink, read_further, read_part};
 use itch_frame::{BlockReader, Buffered, FrameFault};
 use std::io::BufReader;
 use test_doubles::PieceReader;
@@ -62,15 +62,15 @@ impl Sink for Picky {
 }
 
 // Returns a word for a stop.
-fn word(stop: &Stop<u64>) -> &'static str {
+fn word(stop: &PartStop<u64>) -> &'static str {
     match stop {
-        Stop::Full => "full",
-        Stop::Late => "late",
-        Stop::End => "end",
-        Stop::Frame(FrameFault::Truncated { .. }) => "truncated",
-        Stop::Frame(_) => "failed",
-        Stop::TooMany => "too many",
-        Stop::Refused(_) => "refused",
+        PartStop::Full => "full",
+        PartStop::Late => "late",
+        PartStop::End => "end",
+        PartStop::Frame(FrameFault::Truncated { .. }) => "truncated",
+        PartStop::Frame(_) => "failed",
+        PartStop::TooMany => "too many",
+        PartStop::Refused(_) => "refused",
     }
 }
 

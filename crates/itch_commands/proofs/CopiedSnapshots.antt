@@ -19,7 +19,7 @@ use Rattle.itch_market.proofs.ReplayProgress.{Going, going_first}
 use Rattle.itch_snapshot.specs.TakenMessages.{Load, begun}
 use Rattle.itch_snapshot.specs.Reads.{ReadsNext, ReadsAll, ReadsEnd, CountsFault}
 use Rattle.itch_snapshot.specs.Snapshot.{snap}
-use Rattle.itch_snapshot.specs.declared.reader.Stage.TheVariants.{Taking}
+use Rattle.itch_snapshot.specs.declared.reader.SnapshotStage.TheVariants.{Taking}
 use Rattle.itch_commands.proofs.SnapshotSteps.{message_read, fault_read, first_fault, later_fault, no_fault}
 use Rattle.itch_snapshot.proofs.KnownFiles.{closes_here, reads_market, reads_fault}
 use Rattle.itch_snapshot.proofs.WrittenFiles.{written_alone}

@@ -14,8 +14,8 @@ use Rattle.itch_day.specs.Parts.{Counts, Leaves, ReadsPart, StopsAt, Takes}
 use Rattle.itch_day.specs.Passing.{left_by}
 use Rattle.itch_day.specs.Sinks.{TakesAll}
 use Rattle.itch_day.specs.declared.limit.Limit.{Limit}
-use Rattle.itch_day.specs.declared.stop.Stop.{Stop as Part}
-use Rattle.itch_day.specs.declared.stop.Stop.TheVariants as part
+use Rattle.itch_day.specs.declared.stop.PartStop.{PartStop as Part}
+use Rattle.itch_day.specs.declared.stop.PartStop.TheVariants as part
 use Rattle.itch_commands.specs.Choices.{Chosen, chosen_after, chosen_past}
 use Rattle.itch_commands.specs.Cuts.{CutsMessage, CutsOff, CutsPart, HoldsBack, is_kept, kept_block, kept_of}
 use Rattle.itch_commands.specs.Outputs.{Wrote}

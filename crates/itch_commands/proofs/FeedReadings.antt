@@ -9,8 +9,8 @@ use Rattle.itch_frame.specs.Reading.{Reading, bytes_left, passed}
 use Rattle.itch_frame.specs.declared.fault.FrameFault.{FrameFault}
 use Rattle.itch_frame.specs.declared.fault.FrameFault.TheVariants.{Read, Truncated, Write, TooLong}
 use Rattle.itch_frame.specs.declared.tally.Failures.{Failures}
-use Rattle.itch_day.specs.declared.stop.Stop.{Stop as Part}
-use Rattle.itch_day.specs.declared.stop.Stop.TheVariants as reading
+use Rattle.itch_day.specs.declared.stop.PartStop.{PartStop as Part}
+use Rattle.itch_day.specs.declared.stop.PartStop.TheVariants as reading
 use Rattle.itch_day.specs.Limits.{IsBefore, IsWithin}
 use Rattle.itch_day.specs.Parts.{Counts as CountsPart, Leaves, StopsAt, Takes, UnlessRefused}
 use Rattle.itch_market.specs.Content.{Content, laid}

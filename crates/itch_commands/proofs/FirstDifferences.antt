@@ -16,8 +16,8 @@ use Rattle.itch_day.specs.Limits.{IsBefore, IsNotLate, IsWithin, most_of}
 use Rattle.itch_day.specs.Parts.{Counts, Leaves, ReadsPart, StopsAt}
 use Rattle.itch_day.specs.Sinks.{TakesAll}
 use Rattle.itch_day.specs.declared.limit.Limit.{Limit}
-use Rattle.itch_day.specs.declared.stop.Stop.{Stop as Part}
-use Rattle.itch_day.specs.declared.stop.Stop.TheVariants as part
+use Rattle.itch_day.specs.declared.stop.PartStop.{PartStop as Part}
+use Rattle.itch_day.specs.declared.stop.PartStop.TheVariants as part
 use Rattle.itch_day.proofs.Joined.{leaves_both}
 use Rattle.itch_day.proofs.Progress.{takes_both}
 use Rattle.itch_market.specs.Content.{Content, empty, laid}

@@ -9,8 +9,8 @@ use Rattle.itch_frame.specs.declared.tally.Failures.{Failures}
 use Rattle.itch_day.specs.Parts.{ReadsPart, StopsAt}
 use Rattle.itch_day.specs.Passing.{left_by}
 use Rattle.itch_day.specs.declared.limit.Limit.{Limit}
-use Rattle.itch_day.specs.declared.stop.Stop.{Stop as Part}
-use Rattle.itch_day.specs.declared.stop.Stop.TheVariants as part
+use Rattle.itch_day.specs.declared.stop.PartStop.{PartStop as Part}
+use Rattle.itch_day.specs.declared.stop.PartStop.TheVariants as part
 use Rattle.itch_commands.specs.Choices.{Chosen, chosen_lines, chosen_past}
 use Rattle.itch_commands.specs.Cuts.{HoldsBack, kept_of}
 use Rattle.itch_commands.specs.Further.{CutsOn, GoesOff, ReadsOnOff, ShowsOn}

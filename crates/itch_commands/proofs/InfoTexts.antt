@@ -4,7 +4,7 @@ use Rattle.std.proofs.KnownBytes.{Appends-nil}
 use Rattle.std.proofs.lemmas.Bool.Decides.{nat_tests}
 use Rattle.itch_day.specs.declared.limit.Limit.{Limit}
 use Rattle.itch_frame.specs.Reading.{Reading}
-use Rattle.itch_frame.specs.declared.reader.Stage.TheVariants.{Going}
+use Rattle.itch_frame.specs.declared.reader.BlockStage.TheVariants.{Going}
 use Rattle.itch_frame.specs.declared.tally.Failures.{Failures}
 use Rattle.itch_commands.specs.Infos.{Informs, event_text, events_text, type_text, types_text}
 use Rattle.itch_commands.specs.Outputs.{WritesText}

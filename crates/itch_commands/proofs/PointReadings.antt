@@ -15,8 +15,8 @@ use Rattle.itch_day.specs.Sinks.{TakesAll}
 use Rattle.itch_day.specs.declared.limit.Limit.{Limit}
 use Rattle.itch_day.specs.declared.mark.Mark.{Mark}
 use Rattle.itch_day.specs.declared.marked.Marked.{Marked}
-use Rattle.itch_day.specs.declared.stop.Stop.{Stop as Part}
-use Rattle.itch_day.specs.declared.stop.Stop.TheVariants as part
+use Rattle.itch_day.specs.declared.stop.PartStop.{PartStop as Part}
+use Rattle.itch_day.specs.declared.stop.PartStop.TheVariants as part
 use Rattle.itch_day.proofs.Marks.{count-mark_after, is_mark, marked_after, unmarked, unmarked_all, unmarked_stop}
 use Rattle.itch_market.specs.Content.{Content, empty, laid}
 use Rattle.itch_market.specs.DayParts.{HaltsPart, IsEnough, LeavesPartOf, PartOf, TakesEarly}

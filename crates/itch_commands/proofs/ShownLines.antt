@@ -11,7 +11,7 @@ use Rattle.itch_codec.specs.declared.message.Message.{Message}
 use Rattle.itch_frame.specs.Blocks.{IsFull}
 use Rattle.itch_frame.specs.Reading.{Reading, bytes_left, passed}
 use Rattle.itch_frame.specs.Counting.{failed}
-use Rattle.itch_frame.specs.declared.reader.Stage.TheVariants.{Cut, Ended}
+use Rattle.itch_frame.specs.declared.reader.BlockStage.TheVariants.{Cut, Ended}
 use Rattle.itch_frame.specs.declared.fault.FrameFault.{FrameFault}
 use Rattle.itch_frame.specs.declared.fault.FrameFault.TheVariants.{Read, Truncated, Write, TooLong}
 use Rattle.itch_frame.specs.declared.tally.Failures.{Failures}
@@ -22,8 +22,8 @@ use Rattle.itch_day.specs.Parts.{Counts as CountsPart, IsNext, Leaves, ReadsPart
 use Rattle.itch_day.specs.Passing.{left_by}
 use Rattle.itch_day.specs.Sinks.{TakesAll}
 use Rattle.itch_day.specs.declared.limit.Limit.{Limit}
-use Rattle.itch_day.specs.declared.stop.Stop.{Stop as Part}
-use Rattle.itch_day.specs.declared.stop.Stop.TheVariants as part
+use Rattle.itch_day.specs.declared.stop.PartStop.{PartStop as Part}
+use Rattle.itch_day.specs.declared.stop.PartStop.TheVariants as part
 use Rattle.itch_market.specs.Content.{empty}
 use Rattle.itch_market.specs.DayParts.{IsEnough}
 use Rattle.itch_market.specs.Replays.{Counts, Halts, LeavesReaderFirst}

@@ -8,7 +8,7 @@ use Rattle.itch_day.specs.Parts.{Counts, Leaves, StopsAt}
 use Rattle.itch_day.specs.Passing.{left_by}
 use Rattle.itch_day.specs.declared.limit.Limit.{Limit}
 use Rattle.itch_day.specs.declared.mark.Mark.{Mark}
-use Rattle.itch_day.specs.declared.stop.Stop.{Stop as Part}
+use Rattle.itch_day.specs.declared.stop.PartStop.{PartStop as Part}
 use Rattle.itch_frame.specs.Blocks.{blocks, IsFull, IsPayload}
 use Rattle.itch_frame.specs.Reading.{Reading, bytes_left}
 use Rattle.itch_frame.specs.declared.tally.Failures.{Failures}

@@ -10,8 +10,8 @@ use Rattle.itch_day.specs.Parts.{GoesOn, ReadsPart}
 use Rattle.itch_day.specs.declared.limit.Limit.{Limit}
 use Rattle.itch_day.specs.declared.mark.Mark.{Mark}
 use Rattle.itch_day.specs.declared.marked.Marked.{Marked}
-use Rattle.itch_day.specs.declared.stop.Stop.{Stop}
-use Rattle.itch_day.specs.declared.stop.Stop.TheVariants.{End, Late}
+use Rattle.itch_day.specs.declared.stop.PartStop.{PartStop}
+use Rattle.itch_day.specs.declared.stop.PartStop.TheVariants.{End, Late}
 use Rattle.itch_market.specs.Content.{Content, empty, laid}
 use Rattle.itch_market.specs.Replays.{Fits}
 use Rattle.itch_market.specs.Runs.{run}
@@ -35,7 +35,7 @@ begun = record { sink = empty; mark = first_mark }
 module _ {R : Type 0} (remaining : R → Option (List ℕ)) (failures : R → Failures) where
   -- The part of a file that a limit ends was read, up to this stop, with this market and mark afterwards. The message that stopped it is
   -- the next one of the reader of blocks.
-  abbrev pub Stands : Limit → Reading R → Reading R → Marked Content → Stop Refused → Type 0
+  abbrev pub Stands : Limit → Reading R → Reading R → Marked Content → PartStop Refused → Type 0
   Stands limit first now marked stop =
       ReadsPart remaining failures (TakesMarked TakesMessage) (RefusesMarked RefusesMessage) limit first now 0 marked.mark.count begun stop marked
 
@@ -52,20 +52,20 @@ module _ {R : Type 0} (remaining : R → Option (List ℕ)) (failures : R → Fa
   abbrev pub ReadsOn : Limit → Reading R → Reading R → Result ℕ ToolFault → Marked Content → Type 0
   ReadsOn limit first now (Ok count) marked =
       (count ≡ marked.mark.count)
-      × ((stop : Stop Refused) × GoesOn stop × Stands limit first now marked stop × IsRead limit first (left_by stop now) marked.sink marked.mark)
+      × ((stop : PartStop Refused) × GoesOn stop × Stands limit first now marked stop × IsRead limit first (left_by stop now) marked.sink marked.mark)
   ReadsOn limit first now (Err fault) marked =
-      (stop : Stop Refused) × Stands limit first now marked stop × ReadsDay remaining failures Only limit first (left_by stop now) (Err fault)
+      (stop : PartStop Refused) × Stands limit first now marked stop × ReadsDay remaining failures Only limit first (left_by stop now) (Err fault)
       × ((at : Source) → (count : ℕ) → fault ≡ tool.Short at count → (count ≡ marked.mark.count) × (stop ≡ End))
 
   -- The outcome of reading that many further messages. They were read (true), or there were fewer, and the whole file was read (false).
   abbrev pub ReadsMore : ℕ → Reading R → Reading R → Result Bool ToolFault → Marked Content → Type 0
   ReadsMore most first now (Ok true) marked =
-      (stop : Stop Refused) × GoesOn stop × Stands (counted (Some most)) first now marked stop
+      (stop : PartStop Refused) × GoesOn stop × Stands (counted (Some most)) first now marked stop
       × IsRead (counted (Some most)) first (left_by stop now) marked.sink marked.mark
   ReadsMore most first now (Ok false) marked =
       (marked.mark.count < most) × Stands (counted None) first now marked End × IsRead (counted None) first (left_by {F = Refused} End now) marked.sink marked.mark
   ReadsMore most first now (Err fault) marked =
-      (stop : Stop Refused) × ReadsDay remaining failures Only (counted (Some most)) first (left_by stop now) (Err fault)
+      (stop : PartStop Refused) × ReadsDay remaining failures Only (counted (Some most)) first (left_by stop now) (Err fault)
 
   -- The outcome of reading on up to a time: that of one reading of that part. A message at this time or later follows (true), or the whole
   -- file was read (false).
@@ -75,4 +75,4 @@ module _ {R : Type 0} (remaining : R → Option (List ℕ)) (failures : R → Fa
   ReadsUntil time first now (Ok false) marked =
       Stands (up_to time) first now marked End × IsRead (up_to time) first (left_by {F = Refused} End now) marked.sink marked.mark
   ReadsUntil time first now (Err fault) marked =
-      (stop : Stop Refused) × ReadsDay remaining failures Only (up_to time) first (left_by stop now) (Err fault)
+      (stop : PartStop Refused) × ReadsDay remaining failures Only (up_to time) first (left_by stop now) (Err fault)

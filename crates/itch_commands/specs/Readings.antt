@@ -1,7 +1,7 @@
 -- Reading the messages of a day file into a new market.
 use Rattle.std.specs.Prelude.{◌≡◌, ◌≢◌, ℕ, ◌+◌, List, [], length, ◌⊎◌, Option, Some, None, IsSome, IfSome, Result, Ok, Err}
 use Rattle.itch_frame.specs.Reading.{Reading, bytes_left}
-use Rattle.itch_frame.specs.declared.reader.Stage.TheVariants.{Going}
+use Rattle.itch_frame.specs.declared.reader.BlockStage.TheVariants.{Going}
 use Rattle.itch_frame.specs.declared.tally.Failures.{Failures}
 use Rattle.itch_market.specs.Content.{Content, empty}
 use Rattle.itch_market.specs.DayMessages.{AreTaken, IsPart, IsShort, LeavesPart}

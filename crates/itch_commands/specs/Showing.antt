@@ -25,8 +25,8 @@ use Rattle.itch_commands.specs.declared.fault.ToolFault.{ToolFault}
 use Rattle.itch_commands.specs.declared.fault.ToolFault.TheVariants as tool
 use Rattle.itch_commands.specs.declared.form.ShowForm.{ShowForm}
 use Rattle.itch_day.specs.declared.limit.Limit.{Limit}
-use Rattle.itch_day.specs.declared.stop.Stop.{Stop as Part}
-use Rattle.itch_day.specs.declared.stop.Stop.TheVariants as part
+use Rattle.itch_day.specs.declared.stop.PartStop.{PartStop as Part}
+use Rattle.itch_day.specs.declared.stop.PartStop.TheVariants as part
 
 -- the lines of the chosen ones of the messages in these payloads
 abbrev pub lines_from : ShowForm → Chosen → List (List ℕ) → List ℕ

@@ -22,7 +22,7 @@ use crate::form::ShowForm;
 pub use after::show_after;
 pub(crate) use found::if_found;
 pub(crate) use headings::write_heading;
-use itch_day::{Limit, Stop as PartStop, pass_stop, read_part};
+use itch_day::{Limit, PartStop, pass_stop, read_part};
 use itch_frame::{BlockReader, CountedRead, CountedWrite};
 use itch_market::Stop;
 pub use orders::orders_blocks;

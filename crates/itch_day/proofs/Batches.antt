@@ -5,7 +5,7 @@ use Rattle.std.specs.Io.KnownBytes.{Consumes}
 use Rattle.itch_frame.specs.Blocks.{block, blocks, IsFull}
 use Rattle.itch_frame.specs.Offers.{Offers}
 use Rattle.itch_frame.specs.Reading.{Reading, bytes_left}
-use Rattle.itch_frame.specs.declared.reader.Stage.TheVariants.{Given}
+use Rattle.itch_frame.specs.declared.reader.BlockStage.TheVariants.{Given}
 use Rattle.itch_frame.specs.declared.tally.Failures.{Failures}
 use Rattle.itch_day.specs.declared.limit.Limit.{Limit}
 use Rattle.itch_day.specs.Batches.{TakesBlocks}

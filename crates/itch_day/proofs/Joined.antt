@@ -8,13 +8,13 @@ use Rattle.itch_codec.specs.Messages.{fault, message_of}
 use Rattle.itch_codec.specs.Headers.{time_of}
 use Rattle.itch_frame.specs.Blocks.{blocks, IsFull}
 use Rattle.itch_frame.specs.Reading.{Reading, bytes_left}
-use Rattle.itch_frame.specs.declared.reader.Stage.{Stage}
-use Rattle.itch_frame.specs.declared.reader.Stage.TheVariants.{Ended, Cut}
+use Rattle.itch_frame.specs.declared.reader.BlockStage.{BlockStage}
+use Rattle.itch_frame.specs.declared.reader.BlockStage.TheVariants.{Ended, Cut}
 use Rattle.itch_frame.specs.declared.tally.Failures.{Failures}
 use Rattle.itch_frame.proofs.BlockLemmas.{blocks-append, each-append}
 use Rattle.itch_day.specs.declared.limit.Limit.{Limit}
-use Rattle.itch_day.specs.declared.stop.Stop.{Stop}
-use Rattle.itch_day.specs.declared.stop.Stop.TheVariants.{Full, Late, End, Frame, TooMany, Refused}
+use Rattle.itch_day.specs.declared.stop.PartStop.{PartStop}
+use Rattle.itch_day.specs.declared.stop.PartStop.TheVariants.{Full, Late, End, Frame, TooMany, Refused}
 use Rattle.itch_day.specs.Limits.{IsBefore, IsNotLate, IsNoEarlier, IsWithin, is_from, is_late}
 use Rattle.itch_day.specs.Sinks.{TakesAll}
 use Rattle.itch_day.proofs.Progress.{takes_both}
@@ -39,9 +39,9 @@ still_early one other [] later early = tt
 still_early one other (p ∷ ps) later early = (λ late. early.0 (late.0, later_late one.until other.until p later late.1), still_early one other ps later early.1)
 
 -- the reader of blocks after two parts: the second part did not stop at once if it requests no more than the first one took
-module _ {R F : Type 0} (old mid new : Reading R) (first : Stop F) (n k : ℕ) (goes_on : GoesOn first) (left : Leaves old n first mid) where
+module _ {R F : Type 0} (old mid new : Reading R) (first : PartStop F) (n k : ℕ) (goes_on : GoesOn first) (left : Leaves old n first mid) where
   -- after the end of the messages, none was taken
-  first_stage : (stage : Stage) → (n ≡ 0 → mid ≡ old) → (0 < n → old.stage ≢ stage) → old.stage ≡ stage → (n ≡ 0) × (mid ≡ old)
+  first_stage : (stage : BlockStage) → (n ≡ 0 → mid ≡ old) → (0 < n → old.stage ≢ stage) → old.stage ≡ stage → (n ≡ 0) × (mid ≡ old)
   first_stage stage unread given is = by_count n refl where
     by_count : (count : ℕ) → count ≡ n → (n ≡ 0) × (mid ≡ old)
     by_count zero same = (sym same, unread (sym same))
@@ -49,7 +49,7 @@ module _ {R F : Type 0} (old mid new : Reading R) (first : Stop F) (n k : ℕ) (
 
   first_left : (old.stage ≡ Ended → (n ≡ 0) × (mid ≡ old)) × (old.stage ≡ Cut → (n ≡ 0) × (mid ≡ old))
   first_left = by_stop first goes_on left where
-    by_stop : (stop : Stop F) → GoesOn stop → Leaves old n stop mid → (old.stage ≡ Ended → (n ≡ 0) × (mid ≡ old)) × (old.stage ≡ Cut → (n ≡ 0) × (mid ≡ old))
+    by_stop : (stop : PartStop F) → GoesOn stop → Leaves old n stop mid → (old.stage ≡ Ended → (n ≡ 0) × (mid ≡ old)) × (old.stage ≡ Cut → (n ≡ 0) × (mid ≡ old))
     by_stop Full on passes = (first_stage Ended passes.unread (λ some. (passes.given some).2), first_stage Cut passes.unread (λ some. (passes.given some).3))
     by_stop Late on stays = stays
     by_stop End on stays = stays
@@ -58,7 +58,7 @@ module _ {R F : Type 0} (old mid new : Reading R) (first : Stop F) (n k : ℕ) (
     by_stop (Refused why) on stays = absurd on
 
   -- so none was taken in the second part either
-  both_stage : (stage : Stage) → (old.stage ≡ stage → (n ≡ 0) × (mid ≡ old)) → (mid.stage ≡ stage → (k ≡ 0) × (new ≡ mid)) → old.stage ≡ stage → (n + k ≡ 0) × (new ≡ old)
+  both_stage : (stage : BlockStage) → (old.stage ≡ stage → (n ≡ 0) × (mid ≡ old)) → (mid.stage ≡ stage → (k ≡ 0) × (new ≡ mid)) → old.stage ≡ stage → (n + k ≡ 0) × (new ≡ old)
   both_stage stage one other is =
       let (none, same) = one is in
       let (no_more, still) = other (ap (λ (r : Reading R). r.stage) same ∙ is) in
@@ -67,7 +67,7 @@ module _ {R F : Type 0} (old mid new : Reading R) (first : Stop F) (n k : ℕ) (
   both_left : (mid.stage ≡ Ended → (k ≡ 0) × (new ≡ mid)) × (mid.stage ≡ Cut → (k ≡ 0) × (new ≡ mid)) → (old.stage ≡ Ended → (n + k ≡ 0) × (new ≡ old)) × (old.stage ≡ Cut → (n + k ≡ 0) × (new ≡ old))
   both_left stays = (both_stage Ended first_left.0 stays.0, both_stage Cut first_left.1 stays.1)
 
-  still_not : (stage : Stage) → (old.stage ≡ stage → (n ≡ 0) × (mid ≡ old)) → mid.stage ≢ stage → old.stage ≢ stage
+  still_not : (stage : BlockStage) → (old.stage ≡ stage → (n ≡ 0) × (mid ≡ old)) → mid.stage ≢ stage → old.stage ≢ stage
   still_not stage one not is = not (ap (λ (r : Reading R). r.stage) (one is).1 ∙ is)
 
   more_passed : 0 < k → Passes mid k new → Passes old (n + k) new
@@ -87,7 +87,7 @@ module _ {R F : Type 0} (old mid new : Reading R) (first : Stop F) (n k : ℕ) (
         subst (λ r. Passes old (n + k) r) (sym unmoved) (subst (λ c. Passes old c mid) none passed)
     by_count (suc count) same = more_passed (omega (arith, same)) passes
 
-  pub leaves_both : (second : Stop F) → (second ≡ Full → (0 < k) ⊎ (first ≡ Full)) → Leaves mid k second new → Leaves old (n + k) second new
+  pub leaves_both : (second : PartStop F) → (second ≡ Full → (0 < k) ⊎ (first ≡ Full)) → Leaves mid k second new → Leaves old (n + k) second new
   leaves_both Full more passes = both_passed (more refl) passes
   leaves_both Late more stays = both_left stays
   leaves_both End more stays = both_left stays
@@ -96,7 +96,7 @@ module _ {R F : Type 0} (old mid new : Reading R) (first : Stop F) (n k : ℕ) (
   leaves_both (Refused why) more stays = both_left stays
 
 -- no read failed in a part that another one may follow
-pub none_failed : {F : Type 0} (stop : Stop F) (old new : Failures) → GoesOn stop → Counts stop old new → new ≡ old
+pub none_failed : {F : Type 0} (stop : PartStop F) (old new : Failures) → GoesOn stop → Counts stop old new → new ≡ old
 none_failed Full old new on same = same
 none_failed Late old new on same = same
 none_failed End old new on same = same
@@ -106,7 +106,7 @@ none_failed (Refused why) old new on same = absurd on
 
 module _ {R T F : Type 0} (remaining : R → Option (List ℕ)) (failures : R → Failures) (takes : T → ℕ → List ℕ → T → Type 0) (refuses : T → ℕ → List ℕ → F → T → Type 0) (one other : Limit) where
   -- the stop of the first part leaves the sink unchanged, if another part may follow
-  last_sink : (count : ℕ) (r : Reading R) (t u : T) (stop : Stop F) → GoesOn stop → StopsAt remaining refuses one count r t stop u → u ≡ t
+  last_sink : (count : ℕ) (r : Reading R) (t u : T) (stop : PartStop F) → GoesOn stop → StopsAt remaining refuses one count r t stop u → u ≡ t
   last_sink count r t u Full on stops = stops.0
   last_sink count r t u Late on stops = stops.0
   last_sink count r t u End on stops = stops.0
@@ -115,7 +115,7 @@ module _ {R T F : Type 0} (remaining : R → Option (List ℕ)) (failures : R �
   last_sink count r t u (Refused why) on stops = absurd on
 
   -- no more messages are requested than were taken, so none more were taken, unless the first part stopped for the same reason
-  more_or_full : (count after : ℕ) (n : ℕ) (r : Reading R) (t u : T) (first second : Stop F) → (first ≡ Full) ⊎ IsBefore other count → after ≡ count + n → StopsAt remaining refuses other after r t second u
+  more_or_full : (count after : ℕ) (n : ℕ) (r : Reading R) (t u : T) (first second : PartStop F) → (first ≡ Full) ⊎ IsBefore other count → after ≡ count + n → StopsAt remaining refuses other after r t second u
       → second ≡ Full → (0 < n) ⊎ (first ≡ Full)
   more_or_full count after n r t u first second (inl full) is stops last = inr full
   more_or_full count after n r t u first second (inr before) is stops last = inl (some (subst (λ s. StopsAt remaining refuses other after r t s u) last stops).1) where
@@ -125,7 +125,7 @@ module _ {R T F : Type 0} (remaining : R → Option (List ℕ)) (failures : R �
         let below : count < most = subst P wanted before in omega (arith, below, within, is)
 
   -- the two parts have the effect of one reading of the second part, from where the first one began
-  pub joined : (old mid new : Reading R) (before mark marked : ℕ) (t u v : T) (first second : Stop F) → GoesOn first → IsNoEarlier one.until other.until → IsWithin other mark
+  pub joined : (old mid new : Reading R) (before mark marked : ℕ) (t u v : T) (first second : PartStop F) → GoesOn first → IsNoEarlier one.until other.until → IsWithin other mark
       → (first ≡ Full) ⊎ IsBefore other mark
       → ReadsPart remaining failures takes refuses one old mid before mark t first u → ReadsPart remaining failures takes refuses other mid new mark marked u second v
       → ReadsPart remaining failures takes refuses other old new before marked t second v
@@ -157,7 +157,7 @@ module _ {R T F : Type 0} (remaining : R → Option (List ℕ)) (failures : R �
         within_both (q ∷ qs) wanted is = wanted (omega arith)
 
   -- the same in the form for callers
-  pub joined_to : (old mid new : Reading R) (before mark marked : ℕ) (t u v : T) (first second : Stop F) → GoesOnTo one first mark other
+  pub joined_to : (old mid new : Reading R) (before mark marked : ℕ) (t u v : T) (first second : PartStop F) → GoesOnTo one first mark other
       → ReadsPart remaining failures takes refuses one old mid before mark t first u → ReadsPart remaining failures takes refuses other mid new mark marked u second v
       → ReadsPart remaining failures takes refuses other old new before marked t second v
   joined_to old mid new before mark marked t u v first second to = joined old mid new before mark marked t u v first second to.goes_on to.later to.within to.more

@@ -11,8 +11,8 @@ use Rattle.itch_frame.specs.declared.fault.FrameFault.TheVariants.{Read, Truncat
 use Rattle.itch_day.specs.declared.limit.Limit.{Limit}
 use Rattle.itch_day.specs.declared.mark.Mark.{Mark}
 use Rattle.itch_day.specs.declared.marked.Marked.{Marked}
-use Rattle.itch_day.specs.declared.stop.Stop.{Stop}
-use Rattle.itch_day.specs.declared.stop.Stop.TheVariants.{Full, Late, End, Frame, TooMany, Refused}
+use Rattle.itch_day.specs.declared.stop.PartStop.{PartStop}
+use Rattle.itch_day.specs.declared.stop.PartStop.TheVariants.{Full, Late, End, Frame, TooMany, Refused}
 use Rattle.itch_day.specs.Limits.{IsEarly, is_from, is_late}
 use Rattle.itch_day.specs.Marks.{IsMark, RefusesMarked, TakesMarked, first_mark, is_before, is_within, later, latest, mark_after, mark_past, time_by}
 use Rattle.itch_day.specs.Parts.{ReadsPart, StopsAt}
@@ -90,7 +90,7 @@ module _ {R S F : Type 0} (remaining : R → Option (List ℕ)) (failures : R �
   mark_same : (s t : Marked S) → t ≡ s → t.mark ≡ s.mark
   mark_same s t same = ap (λ (m : Marked S). m.mark) same
 
-  pub unmarked_stop : (limit : Limit) (count : ℕ) (r : Reading R) (s : Marked S) (stop : Stop F) (t : Marked S) → StopsAt remaining (RefusesMarked refuses) limit count r s stop t
+  pub unmarked_stop : (limit : Limit) (count : ℕ) (r : Reading R) (s : Marked S) (stop : PartStop F) (t : Marked S) → StopsAt remaining (RefusesMarked refuses) limit count r s stop t
       → StopsAt remaining refuses limit count r s.sink stop t.sink × (t.mark ≡ s.mark)
   unmarked_stop limit count r s Full t (same, all) = ((sink_same s t same, all), mark_same s t same)
   unmarked_stop limit count r s Late t (same, before, late) = ((sink_same s t same, before, late), mark_same s t same)
@@ -103,7 +103,7 @@ module _ {R S F : Type 0} (remaining : R → Option (List ℕ)) (failures : R �
   unmarked_stop limit count r s (Refused why) t (before, (p, next, full, room, early, (refused, marked))) = ((before, (p, next, full, room, early, refused)), marked)
 
   -- reading a part into a sink with a mark has the effect on the sink of reading it into the sink alone
-  pub unmarked : (limit : Limit) (old new : Reading R) (before count : ℕ) (s : Marked S) (stop : Stop F) (t : Marked S)
+  pub unmarked : (limit : Limit) (old new : Reading R) (before count : ℕ) (s : Marked S) (stop : PartStop F) (t : Marked S)
       → ReadsPart remaining failures (TakesMarked takes) (RefusesMarked refuses) limit old new before count s stop t
       → ReadsPart remaining failures takes refuses limit old new before count s.sink stop t.sink
   unmarked limit old new before count s stop t reads =
@@ -125,7 +125,7 @@ module _ {R S F : Type 0} (remaining : R → Option (List ℕ)) (failures : R �
       }
 
   -- and the mark advances over the payloads of the part
-  pub marked_after : (limit : Limit) (old new : Reading R) (before count : ℕ) (s : Marked S) (stop : Stop F) (t : Marked S)
+  pub marked_after : (limit : Limit) (old new : Reading R) (before count : ℕ) (s : Marked S) (stop : PartStop F) (t : Marked S)
       → (reads : ReadsPart remaining failures (TakesMarked takes) (RefusesMarked refuses) limit old new before count s stop t) → t.mark ≡ mark_after s.mark reads.payloads
   marked_after limit old new before count s stop t reads =
       (unmarked_stop limit count new reads.last stop t reads.stops).1 ∙ (unmarked_all s before reads.payloads reads.last reads.taken.taken).1

@@ -3,11 +3,11 @@ use Rattle.std.proofs.Common.{◌≡◌, ℕ, List, [], ◌++◌, Option, None, 
 use Rattle.std.specs.Io.KnownBytes.{Consumes, IsAtEnd, prepend_known}
 use Rattle.itch_frame.specs.Blocks.{block}
 use Rattle.itch_frame.specs.Reading.{EndsHere, Reading, bytes_left, passed, passed_in}
-use Rattle.itch_frame.specs.declared.reader.Stage.{Stage}
-use Rattle.itch_frame.specs.declared.reader.Stage.TheVariants.{Going, Given, Ended, Cut}
+use Rattle.itch_frame.specs.declared.reader.BlockStage.{BlockStage}
+use Rattle.itch_frame.specs.declared.reader.BlockStage.TheVariants.{Going, Given, Ended, Cut}
 use Rattle.itch_day.specs.declared.limit.Limit.{Limit}
-use Rattle.itch_day.specs.declared.stop.Stop.{Stop}
-use Rattle.itch_day.specs.declared.stop.Stop.TheVariants as part
+use Rattle.itch_day.specs.declared.stop.PartStop.{PartStop}
+use Rattle.itch_day.specs.declared.stop.PartStop.TheVariants as part
 use Rattle.itch_day.specs.Parts.{IsNext, StopsAt}
 use Rattle.itch_day.specs.Passing.{IsLeft}
 
@@ -20,7 +20,7 @@ module _ {R : Type 0} (r : Reading R) where
 
   pub passed_reader : Reading.reader (passed r) ≡ r.reader
   passed_reader = by_stage r.stage where
-    by_stage : (s : Stage) → Reading.reader (passed_in s r) ≡ r.reader
+    by_stage : (s : BlockStage) → Reading.reader (passed_in s r) ≡ r.reader
     by_stage Going = refl
     by_stage Given = refl
     by_stage Ended = refl
@@ -41,7 +41,7 @@ module _ {R : Type 0} (r : Reading R) where
   ends_here remaining (inr next) = inr (passed_off remaining [] next)
 
 -- after the end of the messages there is no next one
-pub never_next : {R : Type 0} (old new : Reading R) (count : ℕ) (stage : Stage) → (stage ≡ Going → ⊥) → new.stage ≡ Going → (old.stage ≡ stage → (count ≡ 0) × (new ≡ old)) → old.stage ≡ stage → ⊥
+pub never_next : {R : Type 0} (old new : Reading R) (count : ℕ) (stage : BlockStage) → (stage ≡ Going → ⊥) → new.stage ≡ Going → (old.stage ≡ stage → (count ≡ 0) × (new ≡ old)) → old.stage ≡ stage → ⊥
 never_next old new count stage other going stays at = other (sym at ∙ sym (ap (λ (r : Reading _). r.stage) (stays at).1) ∙ going)
 
 pub is_not_going : Ended ≡ Going → ⊥
@@ -54,7 +54,7 @@ pub cut_not_ended : Cut ≡ Ended → ⊥
 cut_not_ended same = cc
 
 -- the block that is loaded when a part stops is the one that was not taken
-pub stop_held : {R T F : Type 0} (remaining : R → Option (List ℕ)) (refuses : T → ℕ → List ℕ → F → T → Type 0) (limit : Limit) (new : Reading R) (count : ℕ) (last u : T) (why : Stop F)
+pub stop_held : {R T F : Type 0} (remaining : R → Option (List ℕ)) (refuses : T → ℕ → List ℕ → F → T → Type 0) (limit : Limit) (new : Reading R) (count : ℕ) (last u : T) (why : PartStop F)
     → StopsAt remaining refuses limit count new last why u → IsLeft why new
 stop_held remaining refuses limit new count last u part.Full stops = tt
 stop_held remaining refuses limit new count last u part.Late (same, before, (p, next, some, few, late)) = λ going. (p, next.0)

@@ -4,13 +4,13 @@ use Rattle.std.proofs.KnownBytes.{Consumes-nil, Consumes-kept, Consumes-trans}
 use Rattle.std.specs.Io.KnownBytes.{Consumes}
 use Rattle.itch_frame.specs.Blocks.{blocks, IsFull}
 use Rattle.itch_frame.specs.Reading.{Reading, bytes_left, StaysAsEnded}
-use Rattle.itch_frame.specs.declared.reader.Stage.{Stage}
-use Rattle.itch_frame.specs.declared.reader.Stage.TheVariants.{Ended, Cut}
+use Rattle.itch_frame.specs.declared.reader.BlockStage.{BlockStage}
+use Rattle.itch_frame.specs.declared.reader.BlockStage.TheVariants.{Ended, Cut}
 use Rattle.itch_frame.specs.declared.tally.Failures.{Failures}
 use Rattle.itch_frame.proofs.BlockLemmas.{blocks-append, consumed_more, each-append, each-push}
 use Rattle.itch_day.specs.declared.limit.Limit.{Limit}
-use Rattle.itch_day.specs.declared.stop.Stop.{Stop}
-use Rattle.itch_day.specs.declared.stop.Stop.TheVariants.{Full, Late, End, Frame, TooMany, Refused}
+use Rattle.itch_day.specs.declared.stop.PartStop.{PartStop}
+use Rattle.itch_day.specs.declared.stop.PartStop.TheVariants.{Full, Late, End, Frame, TooMany, Refused}
 use Rattle.itch_day.specs.Limits.{IsBefore, IsNotLate, IsWithin, most_of}
 use Rattle.itch_day.specs.Sinks.{TakesAll}
 use Rattle.itch_day.specs.Parts.{Counts, Leaves, Passes, ReadsPart, Steps, StopsAt, TakesSome}
@@ -62,12 +62,12 @@ within_both limit mark marked ps (q ∷ qs) first second is some = second (omega
 
 module _ {R : Type 0} (old mid new : Reading R) where
   -- a stage in which no message is returned was not the first one
-  not_first : (stage : Stage) (count : ℕ) → (count ≡ 0 → mid ≡ old) → (0 < count → old.stage ≢ stage) → mid.stage ≢ stage → old.stage ≢ stage
+  not_first : (stage : BlockStage) (count : ℕ) → (count ≡ 0 → mid ≡ old) → (0 < count → old.stage ≢ stage) → mid.stage ≢ stage → old.stage ≢ stage
   not_first stage zero unread given is first = is (ap (λ (r : Reading R). r.stage) (unread refl) ∙ first)
   not_first stage (suc count) unread given is first = given (omega arith) first
 
   -- one more message
-  pub passes_on : (count more : ℕ) → Passes old count mid → (new.held ≡ []) × (new.stage ≡ Stage.Given) × (mid.stage ≢ Ended) × (mid.stage ≢ Cut) → more ≡ count + 1 → Passes old more new
+  pub passes_on : (count more : ℕ) → Passes old count mid → (new.held ≡ []) × (new.stage ≡ BlockStage.Given) × (mid.stage ≢ Ended) × (mid.stage ≢ Cut) → more ≡ count + 1 → Passes old more new
   passes_on count more passes leaves is = record {
     unread = λ none. absurd (omega (arith, none, is));
     given = λ some. (
@@ -95,7 +95,7 @@ module _ {R : Type 0} (old mid new : Reading R) where
   }
 
   -- in a stage in which no message is returned, there was none before
-  still_first : (stage : Stage) (count : ℕ) → (count ≡ 0 → mid ≡ old) → (0 < count → old.stage ≢ stage) → (mid.stage ≡ stage → new ≡ mid) → old.stage ≡ stage → (count ≡ 0) × (new ≡ old)
+  still_first : (stage : BlockStage) (count : ℕ) → (count ≡ 0 → mid ≡ old) → (0 < count → old.stage ≢ stage) → (mid.stage ≡ stage → new ≡ mid) → old.stage ≡ stage → (count ≡ 0) × (new ≡ old)
   still_first stage zero unread given stays is = (refl, stays (ap (λ (r : Reading R). r.stage) (unread refl) ∙ is) ∙ unread refl)
   still_first stage (suc count) unread given stays is = absurd (given (omega arith) is)
 
@@ -106,7 +106,7 @@ module _ {R : Type 0} (old mid new : Reading R) where
   )
 
 -- the reader after a stop other than `Full`
-pub leaves_at : {R T F : Type 0} (remaining : R → Option (List ℕ)) (refuses : T → ℕ → List ℕ → F → T → Type 0) (limit : Limit) (old new : Reading R) (count : ℕ) (k : ℕ) (t u : T) (stop : Stop F)
+pub leaves_at : {R T F : Type 0} (remaining : R → Option (List ℕ)) (refuses : T → ℕ → List ℕ → F → T → Type 0) (limit : Limit) (old new : Reading R) (count : ℕ) (k : ℕ) (t u : T) (stop : PartStop F)
     → IsBefore limit k → StopsAt remaining refuses limit k new t stop u
     → (old.stage ≡ Ended → (count ≡ 0) × (new ≡ old)) × (old.stage ≡ Cut → (count ≡ 0) × (new ≡ old)) → Leaves old count stop new
 leaves_at remaining refuses limit old new count k t u Full before stops stays = absurd (too_many stops.1) where
@@ -121,7 +121,7 @@ leaves_at remaining refuses limit old new count k t u TooMany before stops stays
 leaves_at remaining refuses limit old new count k t u (Refused why) before stops stays = stays
 
 -- a counted failure after a reading without failures
-pub counts_on : {F : Type 0} (stop : Stop F) (old mid new : Failures) → mid ≡ old → Counts stop mid new → Counts stop old new
+pub counts_on : {F : Type 0} (stop : PartStop F) (old mid new : Failures) → mid ≡ old → Counts stop mid new → Counts stop old new
 counts_on stop old mid new same counts = subst (λ f. Counts stop f new) same counts
 
 module _ {R T F : Type 0} (remaining : R → Option (List ℕ)) (failures : R → Failures) (takes : T → ℕ → List ℕ → T → Type 0) (refuses : T → ℕ → List ℕ → F → T → Type 0) (limit : Limit) where
@@ -176,7 +176,7 @@ module _ {R T F : Type 0} (remaining : R → Option (List ℕ)) (failures : R �
       }
 
   -- and there the part stops
-  pub going_stops : (old mid new : Reading R) (before mark marked : ℕ) (t u v : T) (stop : Stop F) → TakesSome remaining failures takes limit old mid before mark t u → IsBefore limit mark
+  pub going_stops : (old mid new : Reading R) (before mark marked : ℕ) (t u v : T) (stop : PartStop F) → TakesSome remaining failures takes limit old mid before mark t u → IsBefore limit mark
       → Steps remaining failures takes refuses limit mid new mark marked u (Err stop) v → ReadsPart remaining failures takes refuses limit old new before marked t stop v
   going_stops old mid new before mark marked t u v stop going few (same, keeps, stops, stays, counts) =
       let so_far = going.taken in

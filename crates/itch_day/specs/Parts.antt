@@ -5,14 +5,14 @@ use Rattle.std.specs.Io.KnownBytes.{Keeps, Consumes, IsAtEnd}
 use Rattle.itch_frame.specs.Blocks.{block, blocks, IsBlockOf, IsFull, Open}
 use Rattle.itch_frame.specs.Counting.{failed}
 use Rattle.itch_frame.specs.Reading.{Reading, bytes_left, StaysAsEnded}
-use Rattle.itch_frame.specs.declared.reader.Stage.TheVariants.{Going, Given, Ended, Cut}
+use Rattle.itch_frame.specs.declared.reader.BlockStage.TheVariants.{Going, Given, Ended, Cut}
 use Rattle.itch_frame.specs.declared.tally.Failures.{Failures}
 use Rattle.itch_frame.specs.declared.fault.FrameFault.TheVariants.{Read, Truncated, Write, TooLong}
 use Rattle.itch_day.specs.declared.limit.Limit.{Limit}
 use Rattle.itch_day.specs.declared.not_taken.NotTaken.{NotTaken}
 use Rattle.itch_day.specs.declared.not_taken.NotTaken.TheVariants as untaken
-use Rattle.itch_day.specs.declared.stop.Stop.{Stop}
-use Rattle.itch_day.specs.declared.stop.Stop.TheVariants.{Full, Late, End, Frame, TooMany, Refused}
+use Rattle.itch_day.specs.declared.stop.PartStop.{PartStop}
+use Rattle.itch_day.specs.declared.stop.PartStop.TheVariants.{Full, Late, End, Frame, TooMany, Refused}
 use Rattle.itch_day.specs.Limits.{IsBefore, IsLate, IsNoEarlier, IsNotLate, IsWithin}
 use Rattle.itch_day.specs.Sinks.{TakesAll}
 
@@ -21,7 +21,7 @@ abbrev pub IsNext : {R : Type 0} → Reading R → List ℕ → Type 0
 IsNext r payload = IsBlockOf payload r.held × (r.stage ≡ Going)
 
 -- a failed read is counted with its error, and nothing else is counted
-abbrev pub Counts : {F : Type 0} → Stop F → Failures → Failures → Type 0
+abbrev pub Counts : {F : Type 0} → PartStop F → Failures → Failures → Type 0
 Counts (Frame (Read error)) old new = new ≡ failed error old
 Counts stop old new = new ≡ old
 
@@ -31,12 +31,12 @@ pub record Passes {R : Type 0} (old : Reading R) (count : ℕ) (new : Reading R)
   pub given : 0 < count → (new.held ≡ []) × (new.stage ≡ Given) × (old.stage ≢ Ended) × (old.stage ≢ Cut)
 
 -- the reader of blocks when the reading stops after this number of messages
-abbrev pub Leaves : {R F : Type 0} → Reading R → ℕ → Stop F → Reading R → Type 0
+abbrev pub Leaves : {R F : Type 0} → Reading R → ℕ → PartStop F → Reading R → Type 0
 Leaves old count Full new = Passes old count new
 Leaves old count stop new = (old.stage ≡ Ended → (count ≡ 0) × (new ≡ old)) × (old.stage ≡ Cut → (count ≡ 0) × (new ≡ old))
 
 -- another part may follow after a part that stopped like this
-abbrev pub GoesOn : {F : Type 0} → Stop F → Type 0
+abbrev pub GoesOn : {F : Type 0} → PartStop F → Type 0
 GoesOn Full = ⊤
 GoesOn Late = ⊤
 GoesOn End = ⊤
@@ -46,20 +46,20 @@ GoesOn (Refused why) = ⊥
 
 -- After a part that stopped like this, after this number of messages, another part with this limit may follow: it ends no smaller part, and
 -- if the message after those taken was examined, it requests more messages than were taken.
-pub record GoesOnTo {F : Type 0} (before : Limit) (stop : Stop F) (count : ℕ) (limit : Limit) : Type 0 where
+pub record GoesOnTo {F : Type 0} (before : Limit) (stop : PartStop F) (count : ℕ) (limit : Limit) : Type 0 where
   pub goes_on : GoesOn stop
   pub later : IsNoEarlier before.until limit.until
   pub within : IsWithin limit count
   pub more : (stop ≡ Full) ⊎ IsBefore limit count
 
 -- this holds unless a message was refused
-abbrev pub UnlessRefused : {F : Type 0} → Stop F → Type 0 → Type 0
+abbrev pub UnlessRefused : {F : Type 0} → PartStop F → Type 0 → Type 0
 UnlessRefused (Refused why) p = ⊤
 UnlessRefused stop p = p
 
 module _ {R T F : Type 0} (remaining : R → Option (List ℕ)) (refuses : T → ℕ → List ℕ → F → T → Type 0) (limit : Limit) where
   -- the reason why the message after `count` others is not taken from this reader, and the sink afterwards
-  abbrev pub StopsAt : ℕ → Reading R → T → Stop F → T → Type 0
+  abbrev pub StopsAt : ℕ → Reading R → T → PartStop F → T → Type 0
   StopsAt count r old Full new = (new ≡ old) × ((most : ℕ) × (limit.after ≡ Some most) × (most ≤ count))
   StopsAt count r old Late new = (new ≡ old) × IsBefore limit count × ((payload : List ℕ) × IsNext r payload × IsFull payload × (count < 10 ^ 19 - 1) × IsLate limit payload)
   StopsAt count r old End new =
@@ -75,7 +75,7 @@ module _ {R T F : Type 0} (remaining : R → Option (List ℕ)) (refuses : T →
       × ((payload : List ℕ) × IsNext r payload × IsFull payload × (count < 10 ^ 19 - 1) × IsNotLate limit payload × refuses old (count + 1) payload why new)
 
 -- the stop of a part for a reason why a message is not taken
-abbrev pub stop_of : {F : Type 0} → NotTaken F → Stop F
+abbrev pub stop_of : {F : Type 0} → NotTaken F → PartStop F
 stop_of untaken.Ended = End
 stop_of untaken.Late = Late
 stop_of untaken.TooMany = TooMany
@@ -121,7 +121,7 @@ module _ {R T : Type 0} (remaining : R → Option (List ℕ)) (failures : R → 
 
 module _ {R T F : Type 0} (remaining : R → Option (List ℕ)) (failures : R → Failures) (takes : T → ℕ → List ℕ → T → Type 0) (refuses : T → ℕ → List ℕ → F → T → Type 0) (limit : Limit) where
   -- the effect of one block: its payload is taken, or the part stops there
-  abbrev pub Steps : Reading R → Reading R → ℕ → ℕ → T → Result (Unit {0}) (Stop F) → T → Type 0
+  abbrev pub Steps : Reading R → Reading R → ℕ → ℕ → T → Result (Unit {0}) (PartStop F) → T → Type 0
   Steps old new before count t (Ok done) u =
       (payload : List ℕ) × Consumes (bytes_left remaining old) (bytes_left remaining new) (block payload) × IsFull payload
       × TakesPayload {F = F} takes refuses limit payload before count t (Ok done) u
@@ -131,7 +131,7 @@ module _ {R T F : Type 0} (remaining : R → Option (List ℕ)) (failures : R �
       × StaysAsEnded old new × Counts stop (failures old.reader) (failures new.reader)
 
   -- As many of the messages as possible are taken, and then the reading stops for this reason: the next message, if there is one, is left.
-  pub record ReadsPart (old new : Reading R) (before count : ℕ) (t : T) (stop : Stop F) (u : T) : Type 0 where
+  pub record ReadsPart (old new : Reading R) (before count : ℕ) (t : T) (stop : PartStop F) (u : T) : Type 0 where
     pub payloads : List (List ℕ)
     pub last : T
     pub taken : Takes remaining takes limit old new before count t last payloads

@@ -2,12 +2,12 @@
 use Rattle.std.specs.Prelude.{◌≡◌}
 use Rattle.itch_frame.specs.Blocks.{IsBlock}
 use Rattle.itch_frame.specs.Reading.{Reading, passed}
-use Rattle.itch_frame.specs.declared.reader.Stage.TheVariants.{Going}
-use Rattle.itch_day.specs.declared.stop.Stop.{Stop}
-use Rattle.itch_day.specs.declared.stop.Stop.TheVariants.{Full, Late, End, Frame, TooMany, Refused}
+use Rattle.itch_frame.specs.declared.reader.BlockStage.TheVariants.{Going}
+use Rattle.itch_day.specs.declared.stop.PartStop.{PartStop}
+use Rattle.itch_day.specs.declared.stop.PartStop.TheVariants.{Full, Late, End, Frame, TooMany, Refused}
 
 -- the reader of blocks after the block that was not taken
-abbrev pub left_by : {R F : Type 0} → Stop F → Reading R → Reading R
+abbrev pub left_by : {R F : Type 0} → PartStop F → Reading R → Reading R
 left_by Full r = r
 left_by (Frame fault) r = r
 left_by Late r = passed r
@@ -16,7 +16,7 @@ left_by TooMany r = passed r
 left_by (Refused why) r = passed r
 
 -- the loaded block is the one that was not taken
-abbrev pub IsLeft : {R F : Type 0} → Stop F → Reading R → Type 0
+abbrev pub IsLeft : {R F : Type 0} → PartStop F → Reading R → Type 0
 IsLeft Full r = Unit {0}
 IsLeft (Frame fault) r = Unit {0}
 IsLeft Late r = r.stage ≡ Going → IsBlock r.held

@@ -1,6 +1,6 @@
 //! The reading of a day: the only place that iterates over the messages of a day file.
 //!
-//! [`read_part`] passes the messages to a [`Sink`], up to the first one that is not taken, and returns the reason ([`Stop`]); that message is
+//! [`read_part`] passes the messages to a [`Sink`], up to the first one that is not taken, and returns the reason ([`PartStop`]); that message is
 //! left for the next call. A [`Mark`] records how far the day was read. A [`Limit`] ends the requested part, so several points of a day need
 //! one pass, with one call for each point.
 #![tactic(auto)]

@@ -2,9 +2,9 @@
 ghost use Rattle.std.specs.Prelude.{◌≡◌};
 ghost use Rattle.itch_day.specs.Parts.{stop_of};
 
-use crate::stop::Stop;
+use crate::stop::PartStop;
 
-/// The reason why the message of a loaded block is not taken. It is small, unlike a [`Stop`], which has room for the fault of a read.
+/// The reason why the message of a loaded block is not taken. It is small, unlike a [`PartStop`], which has room for the fault of a read.
 pub(crate) enum NotTaken<F> {
     Ended,
     Late,
@@ -14,13 +14,13 @@ pub(crate) enum NotTaken<F> {
 
 // Converts the reason into the stop of a part.
 #[inline(always)]
-pub(crate) fn stop_of<F>(why: NotTaken<F>) -> Stop<F>
+pub(crate) fn stop_of<F>(why: NotTaken<F>) -> PartStop<F>
     ensures { result ≡ stop_of why }
 {
     match why {
-        NotTaken::Ended => Stop::End,
-        NotTaken::Late => Stop::Late,
-        NotTaken::TooMany => Stop::TooMany,
-        NotTaken::Refused(why) => Stop::Refused(why),
+        NotTaken::Ended => PartStop::End,
+        NotTaken::Late => PartStop::Late,
+        NotTaken::TooMany => PartStop::TooMany,
+        NotTaken::Refused(why) => PartStop::Refused(why),
     }
 }

@@ -7,13 +7,13 @@ ghost use Rattle.itch_day.specs.Batches.{StepsAtHand};
 ghost use Rattle.itch_day.specs.Parts.{GoesOnTo, ReadsPart, Steps, TakesHeld, TakesPayload, TakesSome, UnlessRefused};
 ghost use Rattle.itch_day.specs.Sinks.{Decodes};
 ghost use Rattle.itch_day.specs.declared.limit.Limit.{Limit as AnyLimit};
-ghost use Rattle.itch_day.specs.declared.stop.Stop.{Stop as AnyStop};
+ghost use Rattle.itch_day.specs.declared.stop.PartStop.{PartStop as AnyStop};
 
 use crate::batch::{Batch, first_look, look_ahead};
 use crate::limit::Limit;
 use crate::not_taken::{NotTaken, stop_of};
 use crate::sink::Sink;
-use crate::stop::Stop;
+use crate::stop::PartStop;
 use itch_codec::{CodecFault, MOST_MESSAGES, Message, decode};
 use itch_frame::{BlockReader, CountedRead};
 use std::alloc::Allocator;
@@ -29,7 +29,7 @@ pub fn read_part<R: CountedRead, A: Allocator, T: Sink>(
     count: &mut u64,
     sink: &mut T,
     limit: Limit,
-) -> Stop<T::Fault>
+) -> PartStop<T::Fault>
     requires ready { T.is_ready sink.old (count.old + 1) }
     requires few { count.old ≤ 10 ^ 19 - 1 }
     ensures reads { ReadsPart R.remaining R.failures T.takes T.refuses limit reader.old reader.new count.old count.new sink.old result sink.new }
@@ -50,7 +50,7 @@ pub fn read_part<R: CountedRead, A: Allocator, T: Sink>(
             }
         }
     }
-    Stop::Full
+    PartStop::Full
 }
 
 /// Continues after an earlier part, up to the end of a part that is no smaller.
@@ -62,7 +62,7 @@ pub fn read_further<R: CountedRead, A: Allocator, T: Sink>(
     count: &mut u64,
     sink: &mut T,
     limit: Limit,
-) -> Stop<T::Fault>
+) -> PartStop<T::Fault>
     requires ready { T.is_ready sink.old (count.old + 1) }
     requires few { count.old ≤ 10 ^ 19 - 1 }
     ensures part { ReadsPart R.remaining R.failures T.takes T.refuses limit reader.old reader.new count.old count.new sink.old result sink.new }
@@ -142,7 +142,7 @@ fn take_from_input<R: CountedRead, A: Allocator, T: Sink>(
     count: &mut u64,
     sink: &mut T,
     limit: Limit,
-) -> Result<(), Stop<T::Fault>>
+) -> Result<(), PartStop<T::Fault>>
     requires ready { T.is_ready sink.old (count.old + 1) }
     requires few { count.old ≤ 10 ^ 19 - 1 }
     requires before { IsBefore limit count.old }
@@ -151,8 +151,8 @@ fn take_from_input<R: CountedRead, A: Allocator, T: Sink>(
 {
     match reader.load() {
         Ok(true) => {}
-        Ok(false) => return Err(Stop::End),
-        Err(fault) => return Err(Stop::Frame(fault)),
+        Ok(false) => return Err(PartStop::End),
+        Err(fault) => return Err(PartStop::Frame(fault)),
     }
     match take_held(reader, count, sink, limit) {
         Ok(()) => Ok(()),

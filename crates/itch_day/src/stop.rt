@@ -4,7 +4,7 @@ use itch_frame::FrameFault;
 
 /// The reason why the next message of a day is not taken. That message is left in the reader.
 #[derive(Drop)]
-pub enum Stop<F> {
+pub enum PartStop<F> {
     /// The requested number of messages was taken. Nothing after them was read.
     Full,
     /// The next message is at the time where the part ends, or later.

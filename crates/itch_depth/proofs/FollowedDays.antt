@@ -7,7 +7,7 @@ use Rattle.itch_codec.specs.Messages.{message_of}
 use Rattle.itch_frame.specs.Blocks.{blocks, IsFull}
 use Rattle.itch_frame.specs.Reading.{Reading, bytes_left, passed}
 use Rattle.itch_frame.specs.Counting.{failed}
-use Rattle.itch_frame.specs.declared.reader.Stage.TheVariants.{Cut, Ended}
+use Rattle.itch_frame.specs.declared.reader.BlockStage.TheVariants.{Cut, Ended}
 use Rattle.itch_frame.specs.declared.fault.FrameFault.{FrameFault}
 use Rattle.itch_frame.specs.declared.fault.FrameFault.TheVariants.{Read, Truncated, Write, TooLong}
 use Rattle.itch_frame.specs.declared.tally.Failures.{Failures}
@@ -18,8 +18,8 @@ use Rattle.itch_day.specs.Parts.{Counts as CountsPart, IsNext, Leaves, ReadsPart
 use Rattle.itch_day.specs.Passing.{left_by}
 use Rattle.itch_day.specs.Sinks.{TakesAll}
 use Rattle.itch_day.specs.declared.limit.Limit.{Limit}
-use Rattle.itch_day.specs.declared.stop.Stop.{Stop as Part}
-use Rattle.itch_day.specs.declared.stop.Stop.TheVariants as part
+use Rattle.itch_day.specs.declared.stop.PartStop.{PartStop as Part}
+use Rattle.itch_day.specs.declared.stop.PartStop.TheVariants as part
 use Rattle.itch_day.proofs.PassedBlocks.{cut_not_going, is_not_going, never_next, passed_going, passed_off, passed_reader}
 use Rattle.itch_day.proofs.Progress.{takes_both}
 use Rattle.itch_book.specs.declared.order.Order.{Order}

@@ -9,8 +9,8 @@ use Rattle.itch_day.specs.Passing.{left_by}
 use Rattle.itch_day.specs.declared.limit.Limit.{Limit}
 use Rattle.itch_day.specs.declared.mark.Mark.{Mark}
 use Rattle.itch_day.specs.declared.marked.Marked.{Marked}
-use Rattle.itch_day.specs.declared.stop.Stop.{Stop}
-use Rattle.itch_day.specs.declared.stop.Stop.TheVariants.{Full, Late}
+use Rattle.itch_day.specs.declared.stop.PartStop.{PartStop}
+use Rattle.itch_day.specs.declared.stop.PartStop.TheVariants.{Full, Late}
 use Rattle.itch_market.specs.Content.{Content}
 use Rattle.itch_market.specs.Wanted.{Wanted}
 use Rattle.itch_market.specs.declared.refused.Refused.{Refused}
@@ -60,7 +60,7 @@ module _ {R W : Type 0} (remaining : R → Option (List ℕ)) (failed_reads : R 
   pub record InMultiples (multiple left : ℕ) (old new : W) (now : Reading R) (marked : Marked Content) : Type 0 where
     pub rest : (end : W) (result : Result Bool ToolFault) → AtNext remaining failed_reads contents failed_writes request set first step multiple left new result end
         → AtMultiples remaining failed_reads contents failed_writes request set first step old result end
-    pub stands : (before : Limit) × (stop : Stop Refused) × Stands remaining failed_reads before first now marked stop
+    pub stands : (before : Limit) × (stop : PartStop Refused) × Stands remaining failed_reads before first now marked stop
         × ((time : ℕ) → multiple * step ≤ time → GoesOnTo before stop marked.mark.count (up_to time)) × GoesOnTo before stop marked.mark.count (counted None)
 
   pub multiples_begun : (old : W) (start : Reading R) (marked : Marked Content) → Stands remaining failed_reads (record { after = Some 0; until = Some 0 }) first start marked Full

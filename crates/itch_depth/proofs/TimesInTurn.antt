@@ -8,8 +8,8 @@ use Rattle.itch_day.specs.Parts.{GoesOnTo}
 use Rattle.itch_day.specs.Passing.{left_by}
 use Rattle.itch_day.specs.declared.limit.Limit.{Limit}
 use Rattle.itch_day.specs.declared.marked.Marked.{Marked}
-use Rattle.itch_day.specs.declared.stop.Stop.{Stop}
-use Rattle.itch_day.specs.declared.stop.Stop.TheVariants.{End, Full, Late}
+use Rattle.itch_day.specs.declared.stop.PartStop.{PartStop}
+use Rattle.itch_day.specs.declared.stop.PartStop.TheVariants.{End, Full, Late}
 use Rattle.itch_market.specs.Content.{Content}
 use Rattle.itch_market.specs.Wanted.{Wanted}
 use Rattle.itch_market.specs.declared.refused.Refused.{Refused}
@@ -63,7 +63,7 @@ all_dropped (time ∷ times) zero long = absurd (omega (arith, long))
 all_dropped (time ∷ times) (suc i) long = all_dropped times i (omega (arith, long))
 
 -- the reading goes on from one time to a later one
-pub goes_later : (time next count : ℕ) (stop : Stop Refused) → time ≤ next → (stop ≡ Late) ⊎ (stop ≡ End) → GoesOnTo (up_to time) stop count (up_to next)
+pub goes_later : (time next count : ℕ) (stop : PartStop Refused) → time ≤ next → (stop ≡ Late) ⊎ (stop ≡ End) → GoesOnTo (up_to time) stop count (up_to next)
 goes_later time next count stop later (inl is) = subst (λ s. GoesOnTo (up_to time) s count (up_to next)) (sym is) (record { goes_on = tt; later = later; within = tt; more = inr tt })
 goes_later time next count stop later (inr is) = subst (λ s. GoesOnTo (up_to time) s count (up_to next)) (sym is) (record { goes_on = tt; later = later; within = tt; more = inr tt })
 
@@ -89,13 +89,13 @@ module _ {R W : Type 0} (remaining : R → Option (List ℕ)) (failed_reads : R 
       → ListsOn remaining failed_reads contents failed_writes request set first time now marked old (Err fault) old
   refused_on old fault (stop, day) = (
     (left_by stop now, inl (fault, refl, refused_part set (ReadsFile remaining failed_reads Only (Day (up_to time)) first (left_by stop now)) request.selection fault day, refl)),
-    subst (λ b. MatchBool b ((stop : Stop Refused) × ((stop ≡ Late) ⊎ (stop ≡ End)) × Stands remaining failed_reads (up_to time) first now marked stop) ⊤)
+    subst (λ b. MatchBool b ((stop : PartStop Refused) × ((stop ≡ Late) ⊎ (stop ≡ End)) × Stands remaining failed_reads (up_to time) first now marked stop) ⊤)
         (refused_stops (up_to time) (left_by stop now) fault day) tt,
   )
 
   -- or else the books of the market are those of the part
   module _ (old new : W) (result : Result Bool ToolFault) where
-    at_stop : (stop : Stop Refused) → (stop ≡ Late) ⊎ (stop ≡ End) → Stands remaining failed_reads (up_to time) first now marked stop
+    at_stop : (stop : PartStop Refused) → (stop ≡ Late) ⊎ (stop ≡ End) → Stands remaining failed_reads (up_to time) first now marked stop
         → IsRead remaining failed_reads (up_to time) first (left_by stop now) marked.sink marked.mark → ListsMarket contents failed_writes request set marked.sink time old result new
         → ListsOn remaining failed_reads contents failed_writes request set first time now marked old result new
     at_stop stop which stands read wrote = (
@@ -106,8 +106,8 @@ module _ {R W : Type 0} (remaining : R → Option (List ℕ)) (failed_reads : R 
       ),
       later_if (continues result) (stop, which, stands),
     ) where
-      later_if : (b : Bool) → ((stop : Stop Refused) × ((stop ≡ Late) ⊎ (stop ≡ End)) × Stands remaining failed_reads (up_to time) first now marked stop)
-          → MatchBool b ((stop : Stop Refused) × ((stop ≡ Late) ⊎ (stop ≡ End)) × Stands remaining failed_reads (up_to time) first now marked stop) ⊤
+      later_if : (b : Bool) → ((stop : PartStop Refused) × ((stop ≡ Late) ⊎ (stop ≡ End)) × Stands remaining failed_reads (up_to time) first now marked stop)
+          → MatchBool b ((stop : PartStop Refused) × ((stop ≡ Late) ⊎ (stop ≡ End)) × Stands remaining failed_reads (up_to time) first now marked stop) ⊤
       later_if true h = h
       later_if false h = tt
 
@@ -120,7 +120,7 @@ module _ {R W : Type 0} (remaining : R → Option (List ℕ)) (failed_reads : R 
 pub record InTurn {R W : Type 0} (remaining : R → Option (List ℕ)) (failed_reads : R → Failures) (point : ℕ → W → Result Bool ToolFault → W → Type 0) (first : Reading R) (times left : List ℕ)
     (answer : Result Bool ToolFault) (old new : W) (now : Reading R) (marked : Marked Content) : Type 0 where
   pub rest : (end : W) (result : Result Bool ToolFault) → AtRest point answer left new result end → AtEach point times old result end
-  pub stands : (before : Limit) × (stop : Stop Refused) × Stands remaining failed_reads before first now marked stop × ((next : ℕ) → IsFirst next left → GoesOnTo before stop marked.mark.count (up_to next))
+  pub stands : (before : Limit) × (stop : PartStop Refused) × Stands remaining failed_reads before first now marked stop × ((next : ℕ) → IsFirst next left → GoesOnTo before stop marked.mark.count (up_to next))
   pub ascend : Ascend left
 
 -- the next time is not earlier
@@ -150,8 +150,8 @@ module _ {R W : Type 0} (remaining : R → Option (List ℕ)) (failed_reads : R 
       (listed : ListsOn remaining failed_reads contents failed_writes request set first time now marked mid answer new) where
     pub turn_on : true ≡ continues answer → InTurn remaining failed_reads point first times left answer old new now marked
     turn_on on =
-        let there : (stop : Stop Refused) × ((stop ≡ Late) ⊎ (stop ≡ End)) × Stands remaining failed_reads (up_to time) first now marked stop =
-        subst (λ b. MatchBool b ((stop : Stop Refused) × ((stop ≡ Late) ⊎ (stop ≡ End)) × Stands remaining failed_reads (up_to time) first now marked stop) ⊤) (sym on) listed.1 in
+        let there : (stop : PartStop Refused) × ((stop ≡ Late) ⊎ (stop ≡ End)) × Stands remaining failed_reads (up_to time) first now marked stop =
+        subst (λ b. MatchBool b ((stop : PartStop Refused) × ((stop ≡ Late) ⊎ (stop ≡ End)) × Stands remaining failed_reads (up_to time) first now marked stop) ⊤) (sym on) listed.1 in
         record {
           rest = λ end result rest. turn.rest end result (rest_on point time left mid new end answer result listed.0 on rest);
           stands = (up_to time, there.0, there.2, λ next is. goes_later time next marked.mark.count there.0 (first_later time next left turn.ascend is) there.1);
@@ -169,7 +169,7 @@ module _ {R W : Type 0} (remaining : R → Option (List ℕ)) (failed_reads : R 
   -- how the next time is read
   pub turn_next : (time : ℕ) (left : List ℕ) (answer : Result Bool ToolFault) (old new : W) (now : Reading R) (marked : Marked Content)
       → InTurn remaining failed_reads point first times (time ∷ left) answer old new now marked
-      → (before : Limit) × (stop : Stop Refused) × Stands remaining failed_reads before first now marked stop × GoesOnTo before stop marked.mark.count (up_to time)
+      → (before : Limit) × (stop : PartStop Refused) × Stands remaining failed_reads before first now marked stop × GoesOnTo before stop marked.mark.count (up_to time)
   turn_next time left answer old new now marked turn = (turn.stands.0, turn.stands.1, turn.stands.2, turn.stands.3 time refl)
 
 -- the same for any beginning of the reading

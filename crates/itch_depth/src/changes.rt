@@ -13,7 +13,7 @@ mod sink;
 use book::{Followed, Unfollowed};
 use itch_book::OrderBook;
 use itch_commands::{Limit, Source, ToolFault};
-use itch_day::{Stop as PartStop, pass_stop, read_part};
+use itch_day::{PartStop, pass_stop, read_part};
 use itch_frame::{BlockReader, CountedRead, CountedWrite};
 use itch_market::{Refused, ReplayEnd, Stop};
 use lines::write_head;

@@ -5,8 +5,8 @@ use Rattle.std.specs.Io.KnownBytes.{prepend_known, Keeps, Consumes, IsAtEnd}
 use Rattle.itch_frame.specs.Blocks.{IsPayload, IsBlock, block, Open}
 use Rattle.itch_frame.specs.Counting.{failed}
 use Rattle.itch_frame.specs.declared.tally.Failures.{Failures}
-use Rattle.itch_frame.specs.declared.reader.Stage.{Stage}
-use Rattle.itch_frame.specs.declared.reader.Stage.TheVariants.{Going, Given, Ended, Cut}
+use Rattle.itch_frame.specs.declared.reader.BlockStage.{BlockStage}
+use Rattle.itch_frame.specs.declared.reader.BlockStage.TheVariants.{Going, Given, Ended, Cut}
 use Rattle.itch_frame.specs.declared.fault.FrameFault.{FrameFault}
 use Rattle.itch_frame.specs.declared.fault.FrameFault.TheVariants.{Read, Truncated, Write, TooLong}
 
@@ -14,10 +14,10 @@ use Rattle.itch_frame.specs.declared.fault.FrameFault.TheVariants.{Read, Truncat
 pub record Reading (R : Type 0) : Type 0 where
   pub reader : R
   pub held : List ℕ
-  pub stage : Stage
+  pub stage : BlockStage
 
 -- the bytes held of an unfinished block: a returned block is no longer held
-abbrev pub held_of : Stage → List ℕ → List ℕ
+abbrev pub held_of : BlockStage → List ℕ → List ℕ
 held_of Going bytes = bytes
 held_of Given bytes = []
 held_of Ended bytes = bytes
@@ -81,7 +81,7 @@ module _ {R : Type 0} (remaining : R → Option (List ℕ)) (failures : R → Fa
   NextAtHand old None new = new ≡ old
 
 -- the reader of blocks in this stage, after the loaded block if there is one
-abbrev pub passed_in : {R : Type 0} → Stage → Reading R → Reading R
+abbrev pub passed_in : {R : Type 0} → BlockStage → Reading R → Reading R
 passed_in Going r = record { reader = r.reader; held = []; stage = Given }
 passed_in Given r = r
 passed_in Ended r = r

@@ -15,7 +15,7 @@ use std::marker::Model;
 
 // The stage of a reader of blocks.
 #[derive(Clone, Copy)]
-pub(crate) enum Stage {
+pub(crate) enum BlockStage {
     // The next block has not been read, or only a part of it.
     Going,
     // A block was returned. The next call drops it.
@@ -33,7 +33,7 @@ pub struct BlockReader<R: CountedRead, A: Allocator = Global> {
     // Has the length of the longest block. The first `len` bytes belong to the current block.
     buffer: Vec<u8, A>,
     len: usize,
-    stage: Stage,
+    stage: BlockStage,
 }
 
 impl<R: CountedRead, A: Allocator> Model for BlockReader<R, A> {
@@ -41,7 +41,7 @@ impl<R: CountedRead, A: Allocator> Model for BlockReader<R, A> {
     ghost use Rattle.std.specs.Io.KnownBytes.{IsAtEnd};
     ghost use Rattle.itch_frame.specs.Needs.{need};
     ghost use Rattle.itch_frame.specs.Reading.{Reading, held_of};
-    ghost use Rattle.itch_frame.specs.declared.reader.Stage.TheVariants.{Ended, Cut};
+    ghost use Rattle.itch_frame.specs.declared.reader.BlockStage.TheVariants.{Ended, Cut};
 
     ghost Value = { Reading R };
 
@@ -63,13 +63,13 @@ impl<R: CountedRead, A: Allocator> BlockReader<R, A> {
     pub fn new(alloc: A, reader: R) -> Result<BlockReader<R, A>, AllocError>
     where
         R: Drop,
-        ensures { IfOk result (λ r. (r.reader ≡ reader) × (r.held ≡ []) × (r.stage ≡ Stage.Going)) }
+        ensures { IfOk result (λ r. (r.reader ≡ reader) × (r.held ≡ []) × (r.stage ≡ BlockStage.Going)) }
     {
         Ok(BlockReader {
             reader,
             buffer: zeros(alloc, LONGEST)?,
             len: 0,
-            stage: Stage::Going,
+            stage: BlockStage::Going,
         })
     }
 
@@ -85,7 +85,7 @@ impl<R: CountedRead, A: Allocator> BlockReader<R, A> {
         if !self.load()? {
             return Ok(None);
         }
-        self.stage = Stage::Given;
+        self.stage = BlockStage::Given;
         Ok(Some(&self.buffer[2..self.len]))
     }
 
@@ -101,7 +101,7 @@ impl<R: CountedRead, A: Allocator> BlockReader<R, A> {
         if !self.load_at_hand() {
             return None;
         }
-        self.stage = Stage::Given;
+        self.stage = BlockStage::Given;
         Some(&self.buffer[2..self.len])
     }
 
@@ -138,21 +138,21 @@ impl<R: CountedRead, A: Allocator> BlockReader<R, A> {
         ensures again { StaysAsEnded self.old self.new }
     {
         match self.stage {
-            Stage::Ended => return Ok(false),
-            Stage::Cut => return Err(FrameFault::Truncated { held: self.len }),
-            Stage::Given => self.len = 0,
-            Stage::Going => {}
+            BlockStage::Ended => return Ok(false),
+            BlockStage::Cut => return Err(FrameFault::Truncated { held: self.len }),
+            BlockStage::Given => self.len = 0,
+            BlockStage::Going => {}
         }
-        self.stage = Stage::Going;
+        self.stage = BlockStage::Going;
         match fill_block(&mut self.reader, &mut self.buffer, &mut self.len) {
             Err(error) => Err(FrameFault::Read(error)),
             Ok(true) => Ok(true),
             Ok(false) => {
                 if self.len == 0 {
-                    self.stage = Stage::Ended;
+                    self.stage = BlockStage::Ended;
                     return Ok(false);
                 }
-                self.stage = Stage::Cut;
+                self.stage = BlockStage::Cut;
                 Err(FrameFault::Truncated { held: self.len })
             }
         }
@@ -165,14 +165,14 @@ impl<R: CountedRead, A: Allocator> BlockReader<R, A> {
         ensures { LoadsAtHand R.remaining R.failures self.old result self.new }
     {
         match self.stage {
-            Stage::Ended | Stage::Cut => return false,
-            Stage::Given => self.len = 0,
-            Stage::Going => {}
+            BlockStage::Ended | BlockStage::Cut => return false,
+            BlockStage::Given => self.len = 0,
+            BlockStage::Going => {}
         }
         if !take_block(&mut self.reader, &mut self.buffer, &mut self.len) {
             return false;
         }
-        self.stage = Stage::Going;
+        self.stage = BlockStage::Going;
         true
     }
 
@@ -189,18 +189,18 @@ impl<R: CountedRead, A: Allocator> BlockReader<R, A> {
     #[inline(always)]
     pub fn pass(&mut self)
         requires { IsBlock self.old.held }
-        ensures { self.new ≡ record { reader = self.old.reader; held = []; stage = Stage.Given } }
+        ensures { self.new ≡ record { reader = self.old.reader; held = []; stage = BlockStage.Given } }
     {
-        self.stage = Stage::Given;
+        self.stage = BlockStage::Given;
     }
 
     /// Passes the loaded block if there is one; otherwise it changes nothing.
     pub fn pass_held(&mut self)
-        requires { self.old.stage ≡ Stage.Going → IsBlock self.old.held }
+        requires { self.old.stage ≡ BlockStage.Going → IsBlock self.old.held }
         ensures { self.new ≡ passed self.old }
     {
-        if let Stage::Going = self.stage {
-            self.stage = Stage::Given;
+        if let BlockStage::Going = self.stage {
+            self.stage = BlockStage::Given;
         }
     }
 
@@ -213,12 +213,12 @@ impl<R: CountedRead, A: Allocator> BlockReader<R, A> {
     pub fn offer<C: Consumer>(&mut self, consumer: &mut C) -> usize
         requires { C.is_ready consumer.old }
         ensures offers { Offers (bytes_left R.remaining) C.uses self.old result self.new consumer.old consumer.new }
-        ensures between { 0 < result → (self.old.stage ≡ Stage.Given) × (self.new.stage ≡ Stage.Given) × (self.new.held ≡ []) }
+        ensures between { 0 < result → (self.old.stage ≡ BlockStage.Given) × (self.new.stage ≡ BlockStage.Given) × (self.new.held ≡ []) }
         ensures count { R.failures self.new.reader ≡ R.failures self.old.reader }
     {
         match self.stage {
-            Stage::Given => self.reader.offer(consumer),
-            Stage::Going | Stage::Ended | Stage::Cut => 0,
+            BlockStage::Given => self.reader.offer(consumer),
+            BlockStage::Going | BlockStage::Ended | BlockStage::Cut => 0,
         }
     }
 

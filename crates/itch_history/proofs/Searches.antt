@@ -9,8 +9,8 @@ use Rattle.itch_day.specs.Limits.{IsWithin}
 use Rattle.itch_day.specs.Parts.{ReadsPart, StopsAt, Takes}
 use Rattle.itch_day.specs.Sinks.{TakesAll}
 use Rattle.itch_day.specs.declared.limit.Limit.{Limit}
-use Rattle.itch_day.specs.declared.stop.Stop.{Stop}
-use Rattle.itch_day.specs.declared.stop.Stop.TheVariants as stop
+use Rattle.itch_day.specs.declared.stop.PartStop.{PartStop}
+use Rattle.itch_day.specs.declared.stop.PartStop.TheVariants as stop
 use Rattle.itch_history.specs.Histories.{first_by, first_number, listed, replacement_of, replacements_of}
 use Rattle.itch_history.specs.Searches.{Finds, IsClean, IsOfOthers, LeavesMessage, Passes, PassesMessage, Searches, answer_of}
 use Rattle.itch_history.specs.declared.chain.Replacement.{Replacement}
@@ -71,10 +71,10 @@ module _ {T : Type 0} (number : T → ℕ) (list : T → List Replacement) where
       few = omega (arith, counted, few);
     }
 
-    abbrev Stops : Stop NotPassed → Type 0
+    abbrev Stops : PartStop NotPassed → Type 0
     Stops why = StopsAt remaining Left limit count new last why t
 
-    abbrev StopsSo : ℕ → ℕ → Stop NotPassed → Type 0
+    abbrev StopsSo : ℕ → ℕ → PartStop NotPassed → Type 0
     StopsSo n k why = StopsAt remaining (λ (before : ℕ) k payload why (after : ℕ). LeavesMessage n payload why) limit k new n why n
 
     leaves_so : (p : List ℕ) (why : NotPassed) → Finds (number last) p (list last) why (list t) → LeavesMessage (number last) p why
@@ -82,7 +82,7 @@ module _ {T : Type 0} (number : T → ℕ) (list : T → List Replacement) where
     leaves_so p (not_passed.Codec f) leaves = leaves
     leaves_so p not_passed.OutOfMemory leaves = leaves
 
-    stops_last : (why : Stop NotPassed) → Stops why → StopsSo (number last) count why
+    stops_last : (why : PartStop NotPassed) → Stops why → StopsSo (number last) count why
     stops_last stop.Full (same, most) = (refl, most)
     stops_last stop.Late (same, before, next) = (refl, before, next)
     stops_last stop.End (same, before, next) = (refl, before, next)
@@ -93,18 +93,18 @@ module _ {T : Type 0} (number : T → ℕ) (list : T → List Replacement) where
     stops_last stop.TooMany (same, before, next) = (refl, before, next)
     stops_last (stop.Refused why) (before, (p, next, full, few_before, early, leaves)) = (before, (p, next, full, few_before, early, leaves_so p why leaves))
 
-    stops_so : (why : Stop NotPassed) → Stops why → StopsSo (number s) (length ps) why
+    stops_so : (why : PartStop NotPassed) → Stops why → StopsSo (number s) (length ps) why
     stops_so why stops = subst (λ k. StopsSo (number s) k why) counted (subst (λ n. StopsSo n count why) done.numbered (stops_last why stops))
 
     -- the answer by the list is that by the messages
-    abbrev answer : (ℕ → ℕ) → ℕ → Stop NotPassed → Result (Option ℕ) SearchFault
+    abbrev answer : (ℕ → ℕ) → ℕ → PartStop NotPassed → Result (Option ℕ) SearchFault
     answer first k why = answer_of first limit.after k why
 
     found_so : (p : List ℕ) (before : ℕ) → Finds (number last) p (list last) (not_passed.Found before) (list t) → first_by (list t) before ≡ first_number (map message_of ps) before
     found_so p before (leaves, same) =
         ap (λ rs. first_by rs before) (same ∙ done.collected ∙ ap (λ rs. rs ++ replacements_of (map message_of ps)) begun) ∙ first_same (map message_of ps) before
 
-    answers_last : (why : Stop NotPassed) → Stops why → answer (first_by (list t)) count why ≡ answer (first_number (map message_of ps)) count why
+    answers_last : (why : PartStop NotPassed) → Stops why → answer (first_by (list t)) count why ≡ answer (first_number (map message_of ps)) count why
     answers_last stop.Full stops = refl
     answers_last stop.Late stops = refl
     answers_last stop.End stops = refl
@@ -114,11 +114,11 @@ module _ {T : Type 0} (number : T → ℕ) (list : T → List Replacement) where
     answers_last (stop.Refused (not_passed.Codec f)) stops = refl
     answers_last (stop.Refused not_passed.OutOfMemory) stops = refl
 
-    answers_so : (why : Stop NotPassed) → Stops why → answer (first_by (list t)) count why ≡ answer (first_number (map message_of ps)) (length ps) why
+    answers_so : (why : PartStop NotPassed) → Stops why → answer (first_by (list t)) count why ≡ answer (first_number (map message_of ps)) (length ps) why
     answers_so why stops = answers_last why stops ∙ ap (λ k. answer (first_number (map message_of ps)) k why) counted
 
   -- the outcome of a search, by its list and its stop
-  pub searches : {R : Type 0} (remaining : R → Option (List ℕ)) (failures : R → Failures) (limit : Limit) (old new : Reading R) (count : ℕ) (s t : T) (why : Stop NotPassed)
+  pub searches : {R : Type 0} (remaining : R → Option (List ℕ)) (failures : R → Failures) (limit : Limit) (old new : Reading R) (count : ℕ) (s t : T) (why : PartStop NotPassed)
       → list s ≡ [] → ReadsPart remaining failures Passed Left limit old new 0 count s why t → count ≤ 10 ^ 19 - 1
       → Searches remaining failures (number s) limit old new (answer_of (first_by (list t)) limit.after count why)
   searches remaining failures limit old new count s t why begun reads few = (

@@ -10,8 +10,8 @@ use Rattle.itch_frame.specs.declared.tally.Failures.{Failures}
 use Rattle.itch_day.specs.Limits.{IsNotLate, IsWithin}
 use Rattle.itch_day.specs.Parts.{Counts, Leaves, StopsAt}
 use Rattle.itch_day.specs.declared.limit.Limit.{Limit}
-use Rattle.itch_day.specs.declared.stop.Stop.{Stop}
-use Rattle.itch_day.specs.declared.stop.Stop.TheVariants as stop
+use Rattle.itch_day.specs.declared.stop.PartStop.{PartStop}
+use Rattle.itch_day.specs.declared.stop.PartStop.TheVariants as stop
 use Rattle.itch_history.specs.Histories.{first_number, listed, names, number_before, replacement_of}
 use Rattle.itch_history.specs.declared.chain.Replacement.{Replacement}
 use Rattle.itch_history.specs.declared.fault.SearchFault.{SearchFault}
@@ -58,7 +58,7 @@ ended_search None count = Ok None
 ended_search (Some most) count = Err (Short count)
 
 -- the result of a search that stops after that many messages; `first` goes back from the order's number there to its first one
-abbrev pub answer_of : (ℕ → ℕ) → Option ℕ → ℕ → Stop NotPassed → Result (Option ℕ) SearchFault
+abbrev pub answer_of : (ℕ → ℕ) → Option ℕ → ℕ → PartStop NotPassed → Result (Option ℕ) SearchFault
 answer_of first wanted count stop.Full = Ok None
 answer_of first wanted count stop.Late = Ok None
 answer_of first wanted count stop.End = ended_search wanted count
@@ -83,7 +83,7 @@ module _ {R : Type 0} (remaining : R → Option (List ℕ)) (failures : R → Fa
   -- part, or a fault. If one names the order, the result is the first number of its history, by the messages before.
   abbrev pub Searches : ℕ → Limit → Reading R → Reading R → Result (Option ℕ) SearchFault → Type 0
   Searches number limit old new result =
-      (payloads : List (List ℕ)) × (why : Stop NotPassed) × Passes remaining number limit old new payloads
+      (payloads : List (List ℕ)) × (why : PartStop NotPassed) × Passes remaining number limit old new payloads
       × StopsAt remaining (λ (old : ℕ) count payload why (new : ℕ). LeavesMessage number payload why) limit (length payloads) new number why number
       × Counts why (failures old.reader) (failures new.reader) × Leaves old (length payloads) why new
       × (result ≡ answer_of (first_number (map message_of payloads)) limit.after (length payloads) why)

@@ -6,7 +6,7 @@ ghost use Rattle.itch_history.specs.Searches.{Searches, answer_of};
 use crate::chain::{Replacement, first_number};
 use crate::fault::SearchFault;
 use crate::finder::{Finder, NotPassed};
-use itch_day::{Limit, Stop, read_part};
+use itch_day::{Limit, PartStop, read_part};
 use itch_frame::{BlockReader, CountedRead};
 use std::alloc::Allocator;
 
@@ -31,7 +31,7 @@ pub fn first_reference<R: CountedRead, A: Allocator, B: Allocator>(
 
 // Returns the result of a search that stops after this many messages. The end of the file is not a fault, unless more were requested.
 fn answer(
-    stop: Stop<NotPassed>,
+    stop: PartStop<NotPassed>,
     wanted: Option<u64>,
     count: u64,
     replacements: &[Replacement],
@@ -39,15 +39,15 @@ fn answer(
     ensures { result ≡ answer_of (first_by replacements.now) wanted count stop }
 {
     match stop {
-        Stop::Full | Stop::Late => Ok(None),
-        Stop::End => match wanted {
+        PartStop::Full | PartStop::Late => Ok(None),
+        PartStop::End => match wanted {
             None => Ok(None),
             Some(_) => Err(SearchFault::Short { count }),
         },
-        Stop::Frame(fault) => Err(SearchFault::Frame { count, fault }),
-        Stop::TooMany => Err(SearchFault::TooMany { count }),
-        Stop::Refused(NotPassed::Found(number)) => Ok(Some(first_number(replacements, number))),
-        Stop::Refused(NotPassed::Codec(fault)) => Err(SearchFault::Codec { count, fault }),
-        Stop::Refused(NotPassed::OutOfMemory) => Err(SearchFault::OutOfMemory),
+        PartStop::Frame(fault) => Err(SearchFault::Frame { count, fault }),
+        PartStop::TooMany => Err(SearchFault::TooMany { count }),
+        PartStop::Refused(NotPassed::Found(number)) => Ok(Some(first_number(replacements, number))),
+        PartStop::Refused(NotPassed::Codec(fault)) => Err(SearchFault::Codec { count, fault }),
+        PartStop::Refused(NotPassed::OutOfMemory) => Err(SearchFault::OutOfMemory),
     }
 }

@@ -13,8 +13,8 @@ use Rattle.itch_market.proofs.RuleReasons.{reason_is_rule}
 use Rattle.itch_snapshot.proofs.FileLemmas.{unrefused_number}
 use Rattle.itch_snapshot.specs.declared.fault.SnapFault.{SnapFault}
 use Rattle.itch_snapshot.specs.declared.fault.SnapFault.TheVariants.{NoEnd, Frame, Codec, Rule, AfterEnd, TooManyMessages}
-use Rattle.itch_snapshot.specs.declared.reader.Stage.{Stage}
-use Rattle.itch_snapshot.specs.declared.reader.Stage.TheVariants as stage
+use Rattle.itch_snapshot.specs.declared.reader.SnapshotStage.{SnapshotStage}
+use Rattle.itch_snapshot.specs.declared.reader.SnapshotStage.TheVariants as stage
 use Rattle.itch_book.proofs.Lists.{by_test}
 use Rattle.itch_snapshot.specs.TakenMessages.{Load, LoadsOnly, TakesAtOnly, TakesNextOnly, AppliesUnless, closing_number, number_by, is_full, is_skipped}
 use Rattle.itch_snapshot.specs.TakenMessages as loads
@@ -46,7 +46,7 @@ reading l k m n one two = λ i. Reading (one i) (two i)
 half_there : (s : State) (h k : HalfRead) → h ≡ k → ◌≡◌ {A = State} (record s { half = h }) (record s { half = k })
 half_there s h k e = ap (λ (x : HalfRead). let t : State = record s { half = x } in t) e
 
-at_stage : (old new : Load) (st : Stage) → new.stage ≡ st → half_of new ≡ half_at st new
+at_stage : (old new : Load) (st : SnapshotStage) → new.stage ≡ st → half_of new ≡ half_at st new
 at_stage old new st is = ap (λ t. half_at t new) is
 
 -- the reason of a rule is returned, and breaks the snapshot
@@ -98,7 +98,7 @@ module _ (wanted : ℕ → Bool) where
   at_case s p l answer now kind h = subst (λ k. SnapshotBy R s p k answer now) (sym kind) h
 
   -- a message that was taken
-  took_at : (st : Stage) (s : State) (old new : Load) (p : List ℕ) → s.halt ≡ None → is_some s.joined ≡ false → s.half ≡ half_at st old → laid old.market ≡ old.market → TakesAtOnly wanted st old p (Ok None) new
+  took_at : (st : SnapshotStage) (s : State) (old new : Load) (p : List ℕ) → s.halt ≡ None → is_some s.joined ≡ false → s.half ≡ half_at st old → laid old.market ≡ old.market → TakesAtOnly wanted st old p (Ok None) new
       → SnapshotBy R s p (snapshot_case R s p) (Ok snap.More) (record s { half = half_of new })
   took_at stage.Taking s old new p none apart half in_order ((free, acts), counted, goes) =
       by_test (is_skipped wanted p)
@@ -189,7 +189,7 @@ module _ (wanted : ℕ → Bool) where
   failed_broken (Frame f) s p h breaks none apart half same = absurd breaks
   failed_broken AfterEnd s p h breaks none apart half same = absurd breaks
 
-  failed_at : (st : Stage) (f : SnapFault) (s : State) (old new : Load) (p : List ℕ) → old.stage ≡ st → IsOpenAt st → s.halt ≡ None → is_some s.joined ≡ false → s.half ≡ half_at st old → TakesAtOnly wanted st old p (Err f) new
+  failed_at : (st : SnapshotStage) (f : SnapFault) (s : State) (old new : Load) (p : List ℕ) → old.stage ≡ st → IsOpenAt st → s.halt ≡ None → is_some s.joined ≡ false → s.half ≡ half_at st old → TakesAtOnly wanted st old p (Err f) new
       → SnapshotBy R s p (snapshot_case R s p) (Err (join_fault_of f)) (record s { half = half_of new })
   failed_at stage.Taking f s old new p is opened none apart half (next, counted, goes) = failed_taking f s old new p none apart half next counted goes
   failed_at (stage.Broken broke) f s old new p is opened none apart half (answer, same) =

@@ -4,8 +4,8 @@ use Rattle.itch_market.specs.Content.{Content}
 use Rattle.itch_market.specs.declared.refusal.Refusal.TheVariants as why
 use Rattle.itch_snapshot.specs.declared.fault.SnapFault.{SnapFault}
 use Rattle.itch_snapshot.specs.declared.fault.SnapFault.TheVariants.{NoEnd, Frame, Codec, Rule, AfterEnd, TooManyMessages}
-use Rattle.itch_snapshot.specs.declared.reader.Stage.{Stage}
-use Rattle.itch_snapshot.specs.declared.reader.Stage.TheVariants as stage
+use Rattle.itch_snapshot.specs.declared.reader.SnapshotStage.{SnapshotStage}
+use Rattle.itch_snapshot.specs.declared.reader.SnapshotStage.TheVariants as stage
 use Rattle.itch_snapshot.specs.TakenMessages.{Load}
 use Rattle.itch_join.specs.declared.fault.Cause.TheVariants as cause
 use Rattle.itch_join.specs.declared.fault.JoinFault.{JoinFault}
@@ -49,7 +49,7 @@ join_fault_of NoEnd = fault.Joined
 join_fault_of (Frame f) = fault.Joined
 join_fault_of AfterEnd = fault.Joined
 
-abbrev pub half_at : Stage → Load → HalfRead
+abbrev pub half_at : SnapshotStage → Load → HalfRead
 half_at stage.Taking load = Reading load.taken load.market
 half_at (stage.Broken fault) load = broken_by fault
 half_at (stage.Closed next) load = unread
@@ -58,7 +58,7 @@ half_at (stage.Closed next) load = unread
 abbrev pub half_of : Load → HalfRead
 half_of load = half_at load.stage load
 
-abbrev pub IsOpenAt : Stage → Type 0
+abbrev pub IsOpenAt : SnapshotStage → Type 0
 IsOpenAt stage.Taking = Unit {0}
 IsOpenAt (stage.Broken fault) = Breaks fault
 IsOpenAt (stage.Closed next) = ⊥

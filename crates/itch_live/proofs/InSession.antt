@@ -8,8 +8,8 @@ use Rattle.itch_join.specs.States.{Joining}
 use Rattle.itch_soup.specs.declared.packet.LoginAccepted.{LoginAccepted}
 use Rattle.itch_soup.specs.declared.packet.Packet.{Packet}
 use Rattle.itch_soup.specs.declared.packet.Packet.TheVariants as is
-use Rattle.itch_soup.specs.declared.connection.Stage.{Stage}
-use Rattle.itch_soup.specs.declared.connection.Stage.TheVariants as stage
+use Rattle.itch_soup.specs.declared.connection.SessionStage.{SessionStage}
+use Rattle.itch_soup.specs.declared.connection.SessionStage.TheVariants as stage
 use Rattle.itch_soup.specs.declared.connection.Connection.{Connection}
 use Rattle.itch_soup.specs.declared.connection.Tick.{Tick}
 use Rattle.itch_soup.specs.declared.connection.Tick.TheVariants as tick
@@ -32,7 +32,7 @@ use Rattle.itch_live.specs.Identity.{StaysConnected, Led, IsInSession}
 use Rattle.itch_live.proofs.Shutting.{none_known}
 
 -- an accepted session was accepted before, or this packet accepts its login
-turned : (next : ℕ) (at : Stage) (packet : Packet) → (client_turn next at packet).1 ≡ stage.Accepted
+turned : (next : ℕ) (at : SessionStage) (packet : Packet) → (client_turn next at packet).1 ≡ stage.Accepted
     → ((at ≡ stage.Accepted) × (accepted_as (client_turn next at packet).0 (named_in packet) ≡ None))
     ⊎ ((login : LoginAccepted) × (packet ≡ is.LoginAccepted login) × (accepted_as (client_turn next at packet).0 (named_in packet) ≡ Some login.session))
 turned next stage.Closed packet h = absurd (cc)
@@ -50,7 +50,7 @@ turned next stage.Accepted (is.Debug text) h = inl (refl, refl)
 turned next stage.Accepted (is.LoginAccepted login) h = absurd (cc)
 turned next stage.Accepted (is.LoginRejected code) h = absurd (cc)
 turned next stage.Accepted (is.SequencedData payload) h = inl (refl, by_test (nat_lt next (10 ^ 19))) where
-  by_test : (b : Bool) → accepted_as (if◌then◌else◌ {A = ClientAct × Stage × ℕ} b (act.Data next payload, stage.Accepted, next + 1) (act.Fault fault.TooManyMessages, stage.Closed, next)).0 None ≡ None
+  by_test : (b : Bool) → accepted_as (if◌then◌else◌ {A = ClientAct × SessionStage × ℕ} b (act.Data next payload, stage.Accepted, next + 1) (act.Fault fault.TooManyMessages, stage.Closed, next)).0 None ≡ None
   by_test true = refl
   by_test false = refl
 turned next stage.Accepted is.ServerHeartbeat h = inl (refl, refl)
@@ -61,7 +61,7 @@ turned next stage.Accepted is.ClientHeartbeat h = absurd (cc)
 turned next stage.Accepted is.LogoutRequest h = absurd (cc)
 
 -- only in an accepted session can a packet be a message
-told_data : (next : ℕ) (at : Stage) (packet : Packet) (number : ℕ) (payload : List ℕ) → (client_turn next at packet).0 ≡ act.Data number payload → at ≡ stage.Accepted
+told_data : (next : ℕ) (at : SessionStage) (packet : Packet) (number : ℕ) (payload : List ℕ) → (client_turn next at packet).0 ≡ act.Data number payload → at ≡ stage.Accepted
 told_data next stage.Accepted packet number payload h = refl
 told_data next stage.Closed packet number payload h = absurd (cc)
 told_data next stage.Before (is.Debug text) number payload h = absurd (cc)
@@ -76,7 +76,7 @@ told_data next stage.Before is.ClientHeartbeat number payload h = absurd (cc)
 told_data next stage.Before is.LogoutRequest number payload h = absurd (cc)
 
 -- an end closes a session
-ended : (next : ℕ) (at : Stage) → (client_turn next at is.EndOfSession).1 ≡ stage.Accepted → ⊥
+ended : (next : ℕ) (at : SessionStage) → (client_turn next at is.EndOfSession).1 ≡ stage.Accepted → ⊥
 ended next stage.Closed h = cc
 ended next stage.Before h = cc
 ended next stage.Accepted h = cc

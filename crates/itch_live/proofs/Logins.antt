@@ -7,8 +7,8 @@ use Rattle.itch_soup.specs.declared.login.ServerConfig.{ServerConfig}
 use Rattle.itch_soup.specs.declared.packet.LoginRequest.{LoginRequest}
 use Rattle.itch_soup.specs.declared.packet.Packet.{Packet}
 use Rattle.itch_soup.specs.declared.packet.Packet.TheVariants as is
-use Rattle.itch_soup.specs.declared.connection.Stage.{Stage}
-use Rattle.itch_soup.specs.declared.connection.Stage.TheVariants as stage
+use Rattle.itch_soup.specs.declared.connection.SessionStage.{SessionStage}
+use Rattle.itch_soup.specs.declared.connection.SessionStage.TheVariants as stage
 use Rattle.itch_soup.specs.declared.server.ServerAct.{ServerAct}
 use Rattle.itch_soup.specs.declared.server.ServerAct.TheVariants as act
 use Rattle.itch_soup.specs.Names.{asks_for_session}
@@ -17,7 +17,7 @@ use Rattle.itch_soup.specs.Servers.{judged, server_turn, is_user, first_asked}
 use Rattle.itch_soup.specs.Sending.{served, messages, packets_for}
 use Rattle.itch_live.specs.Guests.{welcome, session_bytes, login_in}
 
-abbrev pub IsBefore : Stage → Type 0
+abbrev pub IsBefore : SessionStage → Type 0
 IsBefore stage.Before = Unit {0}
 IsBefore other = ⊥
 
@@ -63,14 +63,14 @@ IsDecision (act.Reject code) = Unit {0}
 IsDecision other = ⊥
 
 -- a login is judged that was awaited before, and none is awaited afterwards
-pub record Decides (config : ServerConfig) (total : ℕ) (at : Stage) (packet : Packet) : Type 0 where
+pub record Decides (config : ServerConfig) (total : ℕ) (at : SessionStage) (packet : Packet) : Type 0 where
   pub was_before : IsBefore at
   pub login : LoginRequest
   pub is_login : login_in packet ≡ Some login
   pub verdict : (server_turn config total at packet).0 ≡ (judged config total login).0
   pub ends : IsBefore (server_turn config total at packet).1 → ⊥
 
-pub decides : (config : ServerConfig) (total : ℕ) (at : Stage) (packet : Packet) → IsDecision (server_turn config total at packet).0 → Decides config total at packet
+pub decides : (config : ServerConfig) (total : ℕ) (at : SessionStage) (packet : Packet) → IsDecision (server_turn config total at packet).0 → Decides config total at packet
 decides config total stage.Closed packet h = absurd h
 decides config total stage.Before (is.Debug text) h = absurd h
 decides config total stage.Before (is.LoginAccepted login) h = absurd h
@@ -95,7 +95,7 @@ decides config total stage.Accepted is.ClientHeartbeat h = absurd h
 decides config total stage.Accepted is.LogoutRequest h = absurd h
 
 -- no packet leads back to the wait for a login
-pub stays_past : (config : ServerConfig) (total : ℕ) (at : Stage) (packet : Packet) → IsBefore (server_turn config total at packet).1 → IsBefore at
+pub stays_past : (config : ServerConfig) (total : ℕ) (at : SessionStage) (packet : Packet) → IsBefore (server_turn config total at packet).1 → IsBefore at
 stays_past config total stage.Closed packet h = absurd h
 stays_past config total stage.Before packet h = tt
 stays_past config total stage.Accepted (is.Debug text) h = absurd h

@@ -21,7 +21,7 @@ ghost use Rattle.itch_live.specs.Stories.{Happening, Becomes, Story, IsSentRight
 ghost use Rattle.itch_live.specs.Follows.{Following, HearsFeed};
 ghost use Rattle.itch_live.specs.Identity.{Led, IsInSession};
 ghost use Rattle.itch_live.specs.declared.news.News.{News};
-ghost use Rattle.itch_soup.specs.declared.connection.Stage.TheVariants as stage;
+ghost use Rattle.itch_soup.specs.declared.connection.SessionStage.TheVariants as stage;
 ghost use Rattle.itch_live.specs.Feeds.{Did, IsJoining, Followed, StandsJoined};
 ghost use Rattle.itch_live.specs.Records.{IsOneRecord, IsRecord};
 ghost use Rattle.itch_live.specs.Desks.{Desk, Answers, Event, History, sent_at};

@@ -2,13 +2,13 @@
 use Rattle.std.proofs.Common.{◌≡◌, ℕ, ◌+◌, List, [], length, Option, None, Some, ◌⊎◌, inl, inr, refl, sym, ap, subst, ◌∙◌, arith}
 use Rattle.std.specs.Io.KnownBytes.{IsAtEnd}
 use Rattle.itch_frame.specs.Reading.{Reading, bytes_left, passed}
-use Rattle.itch_frame.specs.declared.reader.Stage.TheVariants.{Cut, Ended, Given}
+use Rattle.itch_frame.specs.declared.reader.BlockStage.TheVariants.{Cut, Ended, Given}
 use Rattle.itch_frame.specs.declared.tally.Failures.{Failures}
 use Rattle.itch_frame.specs.declared.fault.FrameFault.{FrameFault}
 use Rattle.itch_frame.specs.declared.fault.FrameFault.TheVariants.{Read, Truncated, Write, TooLong}
 use Rattle.itch_day.specs.declared.limit.Limit.{Limit}
-use Rattle.itch_day.specs.declared.stop.Stop.{Stop as Part}
-use Rattle.itch_day.specs.declared.stop.Stop.TheVariants as part
+use Rattle.itch_day.specs.declared.stop.PartStop.{PartStop as Part}
+use Rattle.itch_day.specs.declared.stop.PartStop.TheVariants as part
 use Rattle.itch_day.specs.Passing.{left_by}
 use Rattle.itch_day.specs.Parts.{Counts as CountsPart, IsNext, Leaves, StopsAt}
 use Rattle.itch_market.specs.Replays.{CountsFirst, LeavesReaderFirst}

@@ -1,8 +1,8 @@
 -- The reader of blocks after a replay.
 use Rattle.std.proofs.Common.{◌≡◌, ◌≢◌, ℕ, ◌+◌, ◌<◌, [], length, None, Some, zero, suc, refl, ap, ◌∙◌, arith}
 use Rattle.itch_frame.specs.Reading.{Reading}
-use Rattle.itch_frame.specs.declared.reader.Stage.{Stage}
-use Rattle.itch_frame.specs.declared.reader.Stage.TheVariants.{Given, Ended, Cut}
+use Rattle.itch_frame.specs.declared.reader.BlockStage.{BlockStage}
+use Rattle.itch_frame.specs.declared.reader.BlockStage.TheVariants.{Given, Ended, Cut}
 use Rattle.itch_frame.specs.declared.fault.FrameFault.TheVariants.{Truncated}
 use Rattle.itch_market.specs.declared.stop.Stop.{Stop}
 use Rattle.itch_market.specs.declared.stop.Stop.TheVariants.{End, Frame}
@@ -18,7 +18,7 @@ standing_first r = record { unread = λ _. refl; given = λ some. absurd (omega 
 
 module _ {R : Type 0} (old mid new : Reading R) where
   -- a stage in which no message is returned was not the first one
-  not_first : (stage : Stage) (count : ℕ) → (count ≡ 0 → mid ≡ old) → (0 < count → old.stage ≢ stage) → mid.stage ≢ stage → old.stage ≢ stage
+  not_first : (stage : BlockStage) (count : ℕ) → (count ≡ 0 → mid ≡ old) → (0 < count → old.stage ≢ stage) → mid.stage ≢ stage → old.stage ≢ stage
   not_first stage zero unread given is first = is (ap (λ (r : Reading R). r.stage) (unread refl) ∙ first)
   not_first stage (suc count) unread given is first = given (omega arith) first
 
@@ -37,7 +37,7 @@ module _ {R : Type 0} (old mid new : Reading R) where
       }
 
   -- in a stage in which no message is returned, there was none before
-  still_first : (stage : Stage) (count : ℕ) → (count ≡ 0 → mid ≡ old) → (0 < count → old.stage ≢ stage) → old.stage ≡ stage → (count ≡ 0) × (mid ≡ old)
+  still_first : (stage : BlockStage) (count : ℕ) → (count ≡ 0 → mid ≡ old) → (0 < count → old.stage ≢ stage) → old.stage ≡ stage → (count ≡ 0) × (mid ≡ old)
   still_first stage zero unread given is = (refl, unread refl)
   still_first stage (suc count) unread given is = absurd (given (omega arith) is)
 

@@ -7,7 +7,7 @@ use Rattle.itch_codec.specs.Widths.{IsMessage}
 use Rattle.itch_frame.specs.Blocks.{block, blocks, IsFull}
 use Rattle.itch_frame.specs.Counting.{failed}
 use Rattle.itch_frame.specs.Reading.{Reading, EndsHere, FailsHere}
-use Rattle.itch_frame.specs.declared.reader.Stage.TheVariants.{Going, Given, Ended, Cut}
+use Rattle.itch_frame.specs.declared.reader.BlockStage.TheVariants.{Going, Given, Ended, Cut}
 use Rattle.itch_frame.specs.declared.tally.Failures.{Failures}
 use Rattle.itch_frame.specs.declared.fault.FrameFault.TheVariants.{Read, Truncated, Write, TooLong}
 use Rattle.itch_market.specs.declared.refusal.Refusal.{Refusal}

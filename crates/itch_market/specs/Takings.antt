@@ -1,8 +1,8 @@
 -- The effect of a message of a day on the market that takes it.
 use Rattle.std.specs.Prelude.{◌≡◌, ℕ, List, Option, None, Some, Ok}
 use Rattle.itch_codec.specs.Messages.{fault}
-use Rattle.itch_day.specs.declared.stop.Stop.{Stop as Part}
-use Rattle.itch_day.specs.declared.stop.Stop.TheVariants as part
+use Rattle.itch_day.specs.declared.stop.PartStop.{PartStop as Part}
+use Rattle.itch_day.specs.declared.stop.PartStop.TheVariants as part
 use Rattle.itch_market.specs.Content.{Content}
 use Rattle.itch_market.specs.Replays.{TakesOne, Refuses}
 use Rattle.itch_market.specs.declared.refused.Refused.{Refused}

@@ -9,13 +9,13 @@ ghost use Rattle.itch_market.specs.Stops.{Stops};
 ghost use Rattle.itch_market.specs.Replays.{Counts, CountsFirst, LeavesReader, LeavesReaderFirst, StopsAgain, Replays, ReplaysFirst, IsDecided};
 ghost use Rattle.itch_market.specs.DayParts.{LeavesPartOf, PartOf};
 ghost use Rattle.itch_market.specs.Takings.{reason_of};
-ghost use Rattle.itch_day.specs.declared.stop.Stop.TheVariants as part;
+ghost use Rattle.itch_day.specs.declared.stop.PartStop.TheVariants as part;
 
 use crate::market::Market;
 use crate::refused::Refused;
 use crate::stop::{ReplayEnd, Stop};
 use itch_book::OrderBook;
-use itch_day::{Limit, Stop as PartStop, pass_stop, read_part};
+use itch_day::{Limit, PartStop, pass_stop, read_part};
 use itch_frame::{BlockReader, CountedRead};
 use std::alloc::Allocator;
 

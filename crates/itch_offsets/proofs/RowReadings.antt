@@ -10,8 +10,8 @@ use Rattle.itch_day.specs.Parts.{ReadsPart, StopsAt}
 use Rattle.itch_day.specs.declared.limit.Limit.{Limit}
 use Rattle.itch_day.specs.declared.mark.Mark.{Mark}
 use Rattle.itch_day.specs.declared.marked.Marked.{Marked}
-use Rattle.itch_day.specs.declared.stop.Stop.{Stop as Part}
-use Rattle.itch_day.specs.declared.stop.Stop.TheVariants as part
+use Rattle.itch_day.specs.declared.stop.PartStop.{PartStop as Part}
+use Rattle.itch_day.specs.declared.stop.PartStop.TheVariants as part
 use Rattle.itch_day.proofs.Marks.{count-mark_after, marked_after, unmarked_all}
 use Rattle.itch_commands.specs.declared.fault.ToolFault.{ToolFault}
 use Rattle.itch_offsets.specs.Passes.{ReadsRow, RefusesEntry, TakesEntry, cleared, entries, row_answer, row_part}

@@ -12,8 +12,8 @@ use Rattle.itch_day.specs.Parts.{ReadsPart}
 use Rattle.itch_day.specs.declared.limit.Limit.{Limit}
 use Rattle.itch_day.specs.declared.mark.Mark.{Mark}
 use Rattle.itch_day.specs.declared.marked.Marked.{Marked}
-use Rattle.itch_day.specs.declared.stop.Stop.{Stop as Part}
-use Rattle.itch_day.specs.declared.stop.Stop.TheVariants as part
+use Rattle.itch_day.specs.declared.stop.PartStop.{PartStop as Part}
+use Rattle.itch_day.specs.declared.stop.PartStop.TheVariants as part
 use Rattle.itch_commands.specs.Showing.{IsClean, IsFaultOf, answer_of}
 use Rattle.itch_commands.specs.Sought.{listed}
 use Rattle.itch_commands.specs.declared.fault.Source.TheVariants.{Only}

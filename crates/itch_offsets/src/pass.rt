@@ -4,7 +4,7 @@ ghost use Rattle.itch_offsets.specs.Passes.{row_answer, row_part};
 
 use crate::directory::{DirectoryBlocks, stopped};
 use itch_commands::{Limit, Source, ToolFault};
-use itch_day::{Mark, Marked, Stop as PartStop, read_part};
+use itch_day::{Mark, Marked, PartStop, read_part};
 use itch_frame::{BlockReader, CountedRead};
 use itch_market::Stop;
 use std::alloc::Allocator;

@@ -6,7 +6,7 @@ use crate::fault::{LiveFault, RecordFault};
 use crate::step::stop_of;
 use itch_book::OrderBook;
 use itch_codec::{CodecFault, MOST_MESSAGES, Message};
-use itch_day::{Limit, Mark, Sink, Stop as DayStop, read_part};
+use itch_day::{Limit, Mark, PartStop, Sink, read_part};
 use itch_frame::{BlockReader, Buffered, FrameFault};
 use itch_join::{JoinFault, Live};
 use itch_live::Follower;
@@ -160,13 +160,13 @@ impl Replay {
         let stop = read_part(&mut self.blocks, &mut count, &mut recorded, limit);
         self.mark = recorded.mark;
         match stop {
-            DayStop::Full => Ok(true),
-            DayStop::Late | DayStop::End | DayStop::Frame(FrameFault::Truncated { .. }) => {
+            PartStop::Full => Ok(true),
+            PartStop::Late | PartStop::End | PartStop::Frame(FrameFault::Truncated { .. }) => {
                 Ok(false)
             }
-            DayStop::Frame(fault) => Err(refused(count, Stop::Frame(fault))),
-            DayStop::TooMany => Err(refused(count, Stop::TooManyMessages)),
-            DayStop::Refused(stop) => Err(refused(count, stop)),
+            PartStop::Frame(fault) => Err(refused(count, Stop::Frame(fault))),
+            PartStop::TooMany => Err(refused(count, Stop::TooManyMessages)),
+            PartStop::Refused(stop) => Err(refused(count, stop)),
         }
     }
 }

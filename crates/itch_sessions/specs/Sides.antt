@@ -1,7 +1,7 @@
 -- The two sides of a connection, for reading and for writing, in contracts.
 use Rattle.std.specs.Prelude.{ℕ, List, [], Option, None}
 use Rattle.itch_frame.specs.Reading.{Reading}
-use Rattle.itch_frame.specs.declared.reader.Stage.TheVariants.{Going}
+use Rattle.itch_frame.specs.declared.reader.BlockStage.TheVariants.{Going}
 use Rattle.itch_frame.specs.declared.tally.Failures.{Failures}
 
 -- the bytes of a side, if they are known, and its failures

@@ -10,13 +10,13 @@ use Rattle.itch_book.proofs.OrderLemmas.{lay_fit}
 use Rattle.itch_codec.specs.Messages.{message_of, spelling}
 use Rattle.itch_frame.specs.Blocks.{IsBlockOf}
 use Rattle.itch_frame.specs.Reading.{Reading, bytes_left, passed}
-use Rattle.itch_frame.specs.declared.reader.Stage.TheVariants.{Given}
+use Rattle.itch_frame.specs.declared.reader.BlockStage.TheVariants.{Given}
 use Rattle.itch_frame.specs.declared.tally.Failures.{Failures}
 use Rattle.itch_frame.specs.declared.fault.FrameFault.{FrameFault}
 use Rattle.itch_frame.specs.declared.fault.FrameFault.TheVariants.{Read, Truncated, Write, TooLong}
 use Rattle.itch_day.specs.declared.limit.Limit.{Limit}
-use Rattle.itch_day.specs.declared.stop.Stop.{Stop as Part}
-use Rattle.itch_day.specs.declared.stop.Stop.TheVariants as part
+use Rattle.itch_day.specs.declared.stop.PartStop.{PartStop as Part}
+use Rattle.itch_day.specs.declared.stop.PartStop.TheVariants as part
 use Rattle.itch_day.specs.Limits.{counted as wanted, is_late}
 use Rattle.itch_day.specs.Parts.{Counts, ReadsPart, StopsAt}
 use Rattle.itch_day.specs.Passing.{left_by}

@@ -1,8 +1,8 @@
 -- The effect of a message of a snapshot file on the market that is built from it, and the end of the reading.
 use Rattle.std.specs.Prelude.{ℕ, ◌-◌, List, Option, Some, None, Result, Ok, Err}
 use denote.Ref.{Bor}
-use Rattle.itch_day.specs.declared.stop.Stop.{Stop}
-use Rattle.itch_day.specs.declared.stop.Stop.TheVariants as part
+use Rattle.itch_day.specs.declared.stop.PartStop.{PartStop}
+use Rattle.itch_day.specs.declared.stop.PartStop.TheVariants as part
 use Rattle.itch_market.specs.Content.{Content}
 use Rattle.itch_market.specs.Wanted.{Wanted}
 use Rattle.itch_snapshot.specs.declared.fault.SnapFault.{SnapFault}
@@ -30,7 +30,7 @@ abbrev pub EndsSnapshot : Option (Bor Wanted) → Content → ℕ → List ℕ �
 EndsSnapshot set m number payload why n = TakesFor set (number - 1) m payload (answer_of why) n
 
 -- the result of a snapshot file when the reading stops: the number in End of Snapshot, or the reason why there is none
-abbrev pub end_of : Stop SnapshotEnd → Result ℕ SnapFault
+abbrev pub end_of : PartStop SnapshotEnd → Result ℕ SnapFault
 end_of part.Full = Err NoEnd
 end_of part.Late = Err NoEnd
 end_of part.End = Err NoEnd

@@ -13,8 +13,8 @@ use Rattle.itch_market.specs.Wanted.{Wanted, has}
 use denote.Ref.{Bor}
 use Rattle.itch_snapshot.specs.declared.fault.SnapFault.{SnapFault}
 use Rattle.itch_snapshot.specs.declared.fault.SnapFault.TheVariants.{NoEnd, Frame, Codec, Rule, AfterEnd, TooManyMessages}
-use Rattle.itch_snapshot.specs.declared.reader.Stage.{Stage}
-use Rattle.itch_snapshot.specs.declared.reader.Stage.TheVariants.{Taking, Broken, Closed}
+use Rattle.itch_snapshot.specs.declared.reader.SnapshotStage.{SnapshotStage}
+use Rattle.itch_snapshot.specs.declared.reader.SnapshotStage.TheVariants.{Taking, Broken, Closed}
 
 -- the number in an End of Snapshot
 abbrev pub number_in : Message → Option ℕ
@@ -78,7 +78,7 @@ TakesFor (Some set) = TakesNextOnly (has set.now)
 pub record Load : Type 0 where
   pub taken : ℕ
   pub market : Content
-  pub stage : Stage
+  pub stage : SnapshotStage
 
 -- before the first message
 abbrev pub begun : Load
@@ -91,29 +91,29 @@ taken_after taken (Ok (Some next)) = taken
 taken_after taken (Err fault) = taken
 
 -- a fault remains, unless memory ran out
-abbrev pub broken_by : SnapFault → Stage
+abbrev pub broken_by : SnapFault → SnapshotStage
 broken_by (Rule place OutOfMemory) = Taking
 broken_by fault = Broken fault
 
 -- the stage after a message
-abbrev pub stage_after : Result (Option ℕ) SnapFault → Stage
+abbrev pub stage_after : Result (Option ℕ) SnapFault → SnapshotStage
 stage_after (Ok None) = Taking
 stage_after (Ok (Some next)) = Closed next
 stage_after (Err fault) = broken_by fault
 
 -- the effect of the next message at each stage, from its effect on the market
-abbrev pub TakesBy : (ℕ → Content → List ℕ → Result (Option ℕ) SnapFault → Content → Type 0) → Stage → Load → List ℕ → Result (Option ℕ) SnapFault → Load → Type 0
+abbrev pub TakesBy : (ℕ → Content → List ℕ → Result (Option ℕ) SnapFault → Content → Type 0) → SnapshotStage → Load → List ℕ → Result (Option ℕ) SnapFault → Load → Type 0
 TakesBy Takes Taking old payload answer new =
     Takes old.taken old.market payload answer new.market × (new.taken ≡ taken_after old.taken answer) × (new.stage ≡ stage_after answer)
 TakesBy Takes (Broken fault) old payload answer new = (answer ≡ Err fault) × (new ≡ old)
 TakesBy Takes (Closed next) old payload answer new = (answer ≡ Err AfterEnd) × (new ≡ old)
 
 -- the same if no message is skipped
-abbrev pub TakesAt : Stage → Load → List ℕ → Result (Option ℕ) SnapFault → Load → Type 0
+abbrev pub TakesAt : SnapshotStage → Load → List ℕ → Result (Option ℕ) SnapFault → Load → Type 0
 TakesAt = TakesBy TakesNext
 
 -- the same if messages of some locates are skipped
-abbrev pub TakesAtOnly : (ℕ → Bool) → Stage → Load → List ℕ → Result (Option ℕ) SnapFault → Load → Type 0
+abbrev pub TakesAtOnly : (ℕ → Bool) → SnapshotStage → Load → List ℕ → Result (Option ℕ) SnapFault → Load → Type 0
 TakesAtOnly wanted = TakesBy (TakesNextOnly wanted)
 
 -- the result and the effect of taking a message

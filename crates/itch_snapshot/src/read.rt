@@ -4,7 +4,7 @@ ghost use Rattle.std.specs.Option.{option_copied};
 ghost use Rattle.itch_codec.specs.declared.message.Message.{Message};
 ghost use Rattle.itch_frame.specs.Blocks.{IsBlock, IsBlockOf};
 ghost use Rattle.itch_frame.specs.Reading.{bytes_left};
-ghost use Rattle.itch_frame.specs.declared.reader.Stage.TheVariants.{Given};
+ghost use Rattle.itch_frame.specs.declared.reader.BlockStage.TheVariants.{Given};
 ghost use Rattle.itch_market.specs.Content.{empty, laid};
 ghost use Rattle.itch_market.specs.Runs.{run};
 ghost use Rattle.itch_snapshot.specs.Files.{IsSnapshotFile, IsMarketOf, IsFaultOf};
@@ -17,7 +17,7 @@ use crate::fault::SnapFault;
 use crate::sink::{SnapshotEnd, SnapshotSink};
 use itch_book::OrderBook;
 use itch_codec::{MOST_MESSAGES, Seq, decode};
-use itch_day::{Limit, Stop, pass_stop, read_part};
+use itch_day::{Limit, PartStop, pass_stop, read_part};
 use itch_frame::{BlockReader, CountedRead};
 use itch_market::{LocateSet, Market};
 use std::alloc::Allocator;
@@ -81,7 +81,7 @@ fn read_all<R: CountedRead, A: Allocator, B: OrderBook>(
 {
     let mut count = 0;
     let stop = read_part(reader, &mut count, sink, Limit::whole());
-    if let Stop::TooMany = stop {
+    if let PartStop::TooMany = stop {
         return read_last(reader, sink);
     }
     pass_stop(reader, &stop);
@@ -106,15 +106,15 @@ fn read_last<R: CountedRead, A: Allocator, B: OrderBook>(
 }
 
 // Returns the result when the reading of the file stops.
-fn end_of(stop: &Stop<SnapshotEnd>) -> Result<Seq, SnapFault>
+fn end_of(stop: &PartStop<SnapshotEnd>) -> Result<Seq, SnapFault>
     ensures { result ≡ end_of stop.now }
 {
     match stop {
-        Stop::Full | Stop::Late | Stop::End => Err(SnapFault::NoEnd),
-        Stop::Frame(fault) => Err(SnapFault::Frame(*fault)),
-        Stop::TooMany => Err(SnapFault::TooManyMessages),
-        Stop::Refused(SnapshotEnd::Closed(next)) => Ok(*next),
-        Stop::Refused(SnapshotEnd::Broken(fault)) => Err(*fault),
+        PartStop::Full | PartStop::Late | PartStop::End => Err(SnapFault::NoEnd),
+        PartStop::Frame(fault) => Err(SnapFault::Frame(*fault)),
+        PartStop::TooMany => Err(SnapFault::TooManyMessages),
+        PartStop::Refused(SnapshotEnd::Closed(next)) => Ok(*next),
+        PartStop::Refused(SnapshotEnd::Broken(fault)) => Err(*fault),
     }
 }
 

@@ -14,7 +14,7 @@ use std::marker::Model;
 
 // The stage of reading a snapshot.
 #[derive(Clone, Copy)]
-pub(crate) enum Stage {
+pub(crate) enum SnapshotStage {
     // Further messages are taken.
     Taking,
     // A message was not taken. Every further one has the same fault.
@@ -23,15 +23,15 @@ pub(crate) enum Stage {
     Closed(Seq),
 }
 
-impl Stage {
+impl SnapshotStage {
     // Returns `Ok` if a further message can be taken, and otherwise its fault.
     pub(crate) fn open(&self) -> Result<(), SnapFault>
         ensures { result ≡ opened self.now }
     {
         match self {
-            Stage::Taking => Ok(()),
-            Stage::Broken(fault) => Err(*fault),
-            Stage::Closed(_) => Err(SnapFault::AfterEnd),
+            SnapshotStage::Taking => Ok(()),
+            SnapshotStage::Broken(fault) => Err(*fault),
+            SnapshotStage::Closed(_) => Err(SnapFault::AfterEnd),
         }
     }
 }
@@ -41,7 +41,7 @@ impl Stage {
 pub struct SnapshotReader<B: OrderBook> {
     market: Market<B>,
     taken: u64,
-    stage: Stage,
+    stage: SnapshotStage,
 }
 
 impl<B: OrderBook> Model for SnapshotReader<B> {
@@ -60,7 +60,7 @@ impl<B: OrderBook> Model for SnapshotReader<B> {
 }
 
 impl<B: OrderBook> SnapshotReader<B> {
-    ghost use Rattle.itch_snapshot.specs.declared.reader.Stage.TheVariants.{Taking};
+    ghost use Rattle.itch_snapshot.specs.declared.reader.SnapshotStage.TheVariants.{Taking};
     ghost use Rattle.itch_snapshot.specs.TakenMessages.{begun, taken_after, stage_after, Loads, LoadsOnly, Finishes};
 
     /// Creates a reader that has taken no messages yet. It allocates no memory.
@@ -70,7 +70,7 @@ impl<B: OrderBook> SnapshotReader<B> {
         SnapshotReader {
             market: Market::new(alloc),
             taken: 0,
-            stage: Stage::Taking,
+            stage: SnapshotStage::Taking,
         }
     }
 
@@ -112,14 +112,14 @@ impl<B: OrderBook> SnapshotReader<B> {
     {
         match taken {
             Ok(None) => self.taken += 1,
-            Ok(Some(next)) => self.stage = Stage::Closed(next),
+            Ok(Some(next)) => self.stage = SnapshotStage::Closed(next),
             Err(
                 SnapFault::Rule {
                     place: _,
                     reason: Refusal::OutOfMemory,
                 },
             ) => {}
-            Err(fault) => self.stage = Stage::Broken(fault),
+            Err(fault) => self.stage = SnapshotStage::Broken(fault),
         }
         taken
     }
@@ -151,7 +151,7 @@ impl<B: OrderBook> SnapshotReader<B> {
     pub fn finish(self) -> Result<(Market<B>, Seq), SnapshotReader<B>>
         ensures { Finishes self result }
     {
-        if let Stage::Closed(next) = &self.stage {
+        if let SnapshotStage::Closed(next) = &self.stage {
             let next = *next;
             return Ok((self.market, next));
         }

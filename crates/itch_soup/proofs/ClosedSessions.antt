@@ -5,8 +5,8 @@ use Rattle.itch_soup.specs.declared.login.ServerConfig.{ServerConfig}
 use Rattle.itch_soup.specs.declared.packet.LoginRequest.{LoginRequest}
 use Rattle.itch_soup.specs.declared.packet.Packet.{Packet}
 use Rattle.itch_soup.specs.declared.packet.Packet.TheVariants as is
-use Rattle.itch_soup.specs.declared.connection.Stage.{Stage}
-use Rattle.itch_soup.specs.declared.connection.Stage.TheVariants as stage
+use Rattle.itch_soup.specs.declared.connection.SessionStage.{SessionStage}
+use Rattle.itch_soup.specs.declared.connection.SessionStage.TheVariants as stage
 use Rattle.itch_soup.specs.declared.connection.Tick.{Tick}
 use Rattle.itch_soup.specs.declared.connection.Tick.TheVariants as tick
 use Rattle.itch_soup.specs.declared.connection.Connection.{Connection}
@@ -54,7 +54,7 @@ judged_closes config total login true false above u s a h = rw (u, s) refl
 judged_closes config total login true true true u s a h = rw (u, s, a) refl
 judged_closes config total login true true false u s a h = absurd (rw (u, s, a) at h)
 
-server_closes : (config : ServerConfig) (total : ℕ) (at : Stage) (packet : Packet) → ServerCloses (ToPacket (server_turn config total at packet).0)
+server_closes : (config : ServerConfig) (total : ℕ) (at : SessionStage) (packet : Packet) → ServerCloses (ToPacket (server_turn config total at packet).0)
     → (server_turn config total at packet).1 ≡ stage.Closed
 server_closes config total stage.Closed packet h = refl
 server_closes config total stage.Before (is.Debug text) h = absurd h
@@ -73,7 +73,7 @@ data_closes : (next : ℕ) (payload : List ℕ) (b : Bool) → nat_lt next (10 ^
 data_closes next payload true e h = absurd (rw e at h)
 data_closes next payload false e h = rw e refl
 
-client_closes : (next : ℕ) (at : Stage) (packet : Packet) → ClientCloses (ToPacket (client_turn next at packet).0) → (client_turn next at packet).1 ≡ stage.Closed
+client_closes : (next : ℕ) (at : SessionStage) (packet : Packet) → ClientCloses (ToPacket (client_turn next at packet).0) → (client_turn next at packet).1 ≡ stage.Closed
 client_closes next stage.Closed packet h = refl
 client_closes next stage.Before (is.Debug text) h = absurd h
 client_closes next stage.Before (is.UnsequencedData payload) h = absurd h

@@ -16,11 +16,11 @@ use Rattle.itch_market.specs.Runs.{after, run}
 use Rattle.itch_market.specs.Replays.{NoCause, Fits}
 use Rattle.itch_market.proofs.Causes.{none_clean, none_more, none_follows, after_more}
 use Rattle.itch_market.proofs.ReplayProgress.{taken_on, not_full}
-use Rattle.itch_snapshot.specs.declared.reader.Stage.TheVariants.{Taking, Closed}
+use Rattle.itch_snapshot.specs.declared.reader.SnapshotStage.TheVariants.{Taking, Closed}
 use Rattle.itch_snapshot.specs.TakenMessages.{Load, begun, Loads, TakesAt, TakesNext, Finishes, closing_number}
 use Rattle.itch_snapshot.proofs.KnownFiles.{clean_spelled}
 use Rattle.itch_snapshot.proofs.FileLemmas.{Spells-number}
-use Rattle.itch_soup.specs.declared.connection.Stage.TheVariants as stage
+use Rattle.itch_soup.specs.declared.connection.SessionStage.TheVariants as stage
 use Rattle.itch_soup.specs.declared.client.ClientAct.{ClientAct}
 use Rattle.itch_soup.specs.declared.client.ClientAct.TheVariants as act
 use Rattle.itch_soup.specs.declared.fault.SoupFault.{SoupFault}

@@ -10,8 +10,8 @@ use Rattle.itch_soup.specs.declared.packet.Packet.{Packet}
 use Rattle.itch_soup.specs.declared.packet.Packet.TheVariants as is
 use Rattle.std.specs.Prelude.{nat_lt, not, if◌then◌else◌}
 use Rattle.itch_soup.specs.declared.login.ServerConfig.{ServerConfig}
-use Rattle.itch_soup.specs.declared.connection.Stage.{Stage}
-use Rattle.itch_soup.specs.declared.connection.Stage.TheVariants as stage
+use Rattle.itch_soup.specs.declared.connection.SessionStage.{SessionStage}
+use Rattle.itch_soup.specs.declared.connection.SessionStage.TheVariants as stage
 use Rattle.itch_soup.specs.declared.packet.LoginRequest.{LoginRequest}
 use Rattle.itch_soup.specs.declared.server.ServerAct.{ServerAct}
 use Rattle.itch_soup.specs.declared.server.ServerAct.TheVariants as server
@@ -62,7 +62,7 @@ idle_turn config total is.ClientHeartbeat idle = refl
 idle_turn config total packet idle = absurd idle
 
 -- a login is answered
-abbrev judged_by : Bool → Bool → Bool → ℕ → ServerAct × Stage
+abbrev judged_by : Bool → Bool → Bool → ℕ → ServerAct × SessionStage
 judged_by user session late first =
     if not user then (server.Reject not_authorised, stage.Closed) else (
     if not session then (server.Reject not_available, stage.Closed) else (

@@ -9,7 +9,7 @@ use Rattle.itch_codec.specs.Messages.{Spells}
 use Rattle.itch_frame.specs.Blocks.{IsPayload, block, blocks}
 use Rattle.itch_frame.proofs.BlockLemmas.{blocks-push, each-push}
 use Rattle.itch_snapshot.specs.TakenMessages.{number_in}
-use Rattle.itch_soup.specs.declared.connection.Stage.TheVariants as stage
+use Rattle.itch_soup.specs.declared.connection.SessionStage.TheVariants as stage
 use Rattle.itch_soup.specs.declared.client.ClientAct.{ClientAct}
 use Rattle.itch_soup.specs.declared.client.ClientAct.TheVariants as act
 use Rattle.itch_soup.specs.declared.fault.SoupFault.{SoupFault}

@@ -21,7 +21,7 @@ use Rattle.itch_market.specs.Runs.{AreMessages}
 use Rattle.itch_snapshot.specs.Snapshot.{snap, event_part, action_part, sho_part, halt_part, position_part, states_part, add_of, attributed, order_part, locate_messages, locate_part}
 use Rattle.itch_snapshot.proofs.SpelledMessages.{snap_messages}
 use Rattle.itch_soup.specs.declared.login.ServerConfig.{ServerConfig}
-use Rattle.itch_soup.specs.declared.connection.Stage.{Stage}
+use Rattle.itch_soup.specs.declared.connection.SessionStage.{SessionStage}
 use Rattle.itch_soup.specs.declared.packet.LoginRequest.{LoginRequest}
 use Rattle.itch_soup.specs.declared.server.ServerAct.{ServerAct}
 use Rattle.itch_soup.specs.declared.server.ServerAct.TheVariants as act
@@ -199,12 +199,12 @@ module _ {W : Type 0} (contents : W → Option (List ℕ)) (failures : W → Fai
         subst (λ ps. Sends contents failures old ps result new) (sym parts) (sent_then contents failures old mid new body end y result first second)
 
 -- a login is rejected, but the packet of the rejection was not written completely
-pub rejected : {W : Type 0} (contents : W → Option (List ℕ)) (failures : W → Failures) (m : Content) (next : ℕ) (config : ServerConfig) (login : LoginRequest) (total code : ℕ) (answer : ServerAct × Stage)
+pub rejected : {W : Type 0} (contents : W → Option (List ℕ)) (failures : W → Failures) (m : Content) (next : ℕ) (config : ServerConfig) (login : LoginRequest) (total code : ℕ) (answer : ServerAct × SessionStage)
     (fault : FrameFault) (old new : W) → total ≡ length (snap m) → answer ≡ judged config (total + 1) login → answer.0 ≡ act.Reject code
     → WriteBlock contents failures old (74 ∷ code ∷ []) (Err fault) new → WriteBlocks contents failures old (map packet_spelling (served_packets m next config login)) (Err fault) new
 rejected contents failures m next config login total code answer fault old new all judged_is is wrote =
     let size : total + 1 ≡ length (messages m next) = omega (arith, all, length-append (snap m) (message.End next ∷ [])) in
-    let decided : verdict m next config login ≡ act.Reject code = ap (λ n. (judged config n login).0) (sym size) ∙ ap (λ (a : ServerAct × Stage). a.0) (sym judged_is) ∙ is in
+    let decided : verdict m next config login ≡ act.Reject code = ap (λ n. (judged config n login).0) (sym size) ∙ ap (λ (a : ServerAct × SessionStage). a.0) (sym judged_is) ∙ is in
     subst (λ a. WriteBlocks contents failures old (map packet_spelling (packets_for m next config a)) (Err fault) new) (sym decided)
     (one_failed contents failures (Unit {0}) old old new [] (74 ∷ code ∷ []) [] ((74 ∷ code ∷ []) ∷ []) fault refl (omega arith) (none_sent contents failures old) wrote)
 

@@ -22,8 +22,8 @@ use Rattle.itch_snapshot.proofs.OneSnapshot.{snap_follows, run-snap}
 use Rattle.itch_snapshot.proofs.SpelledMessages.{snap_messages}
 use Rattle.itch_soup.specs.declared.client.ClientAct.{ClientAct}
 use Rattle.itch_soup.specs.declared.client.ClientAct.TheVariants as act
-use Rattle.itch_soup.specs.declared.connection.Stage.{Stage}
-use Rattle.itch_soup.specs.declared.connection.Stage.TheVariants as stage
+use Rattle.itch_soup.specs.declared.connection.SessionStage.{SessionStage}
+use Rattle.itch_soup.specs.declared.connection.SessionStage.TheVariants as stage
 use Rattle.itch_soup.specs.declared.login.Credentials.{Credentials}
 use Rattle.itch_soup.specs.declared.login.ServerConfig.{ServerConfig}
 use Rattle.itch_soup.specs.declared.origin.Origin.TheVariants.{Server}
@@ -53,7 +53,7 @@ data_packets [] fit = tt
 data_packets (x ∷ xs) fit = ((fit.0, data-spelled x), data_packets xs fit.1)
 
 -- after the acceptance, a session gives each message the next number
-data_turn : (at : Stage) (next : ℕ) (payload : List ℕ) → at ≡ stage.Accepted → nat_lt next (10 ^ 19) ≡ true
+data_turn : (at : SessionStage) (next : ℕ) (payload : List ℕ) → at ≡ stage.Accepted → nat_lt next (10 ^ 19) ≡ true
     → client_turn next at (is.SequencedData payload) ≡ (act.Data next payload, stage.Accepted, next + 1)
 data_turn at next payload e k = rw e (rw k refl)
 
@@ -63,9 +63,9 @@ data_news c n (x ∷ xs) at next few =
     let room : nat_lt c.next (10 ^ 19) ≡ true = grind (arith, nat_tests) in
     let turn = data_turn c.connection.stage c.next (spelling x) at room in
     let later = client_after_packet c (data_packet x) 0 in
-    ap (λ (t : ClientAct × Stage × ℕ). noted t.0 (news later (map data_packet xs))) turn
+    ap (λ (t : ClientAct × SessionStage × ℕ). noted t.0 (news later (map data_packet xs))) turn
     ∙ ap (λ k. act.Data k (spelling x) ∷ news later (map data_packet xs)) next
-    ∙ ap (λ rest. act.Data n (spelling x) ∷ rest) (data_news later (n + 1) xs (ap (λ (t : ClientAct × Stage × ℕ). t.1) turn) (ap (λ (t : ClientAct × Stage × ℕ). t.2) turn ∙ ap (λ k. k + 1) next) (omega arith))
+    ∙ ap (λ rest. act.Data n (spelling x) ∷ rest) (data_news later (n + 1) xs (ap (λ (t : ClientAct × SessionStage × ℕ). t.1) turn) (ap (λ (t : ClientAct × SessionStage × ℕ). t.2) turn ∙ ap (λ k. k + 1) next) (omega arith))
 
 -- the served packets are those that the client receives, and then the end of the session
 pub whole_answer : (first : Packet) (xs : List Message) (more : List ℕ)

@@ -6,8 +6,8 @@ use Rattle.std.specs.Io.KnownBytes.{Consumes}
 use Rattle.std.proofs.KnownBytes.{Consumes-nil}
 use Rattle.itch_frame.specs.Blocks.{IsPayload, block, blocks}
 use Rattle.itch_frame.proofs.BlockLemmas.{consumed_more, each-push}
-use Rattle.itch_soup.specs.declared.connection.Stage.{Stage}
-use Rattle.itch_soup.specs.declared.connection.Stage.TheVariants as stage
+use Rattle.itch_soup.specs.declared.connection.SessionStage.{SessionStage}
+use Rattle.itch_soup.specs.declared.connection.SessionStage.TheVariants as stage
 use Rattle.itch_soup.specs.declared.client.ClientAct.{ClientAct}
 use Rattle.itch_soup.specs.declared.client.ClientAct.TheVariants as act
 use Rattle.itch_soup.specs.declared.origin.Origin.TheVariants.{Server}
@@ -20,7 +20,7 @@ use Rattle.itch_soup.specs.Fetching.{ArePackets, noted, news, after_packets, num
 use Rattle.itch_soup.proofs.LoginWaits.{one_more}
 
 -- the effect of a turn of a session on its stage and number
-abbrev pub Shows : Packet → Stage → ℕ → ClientAct → Stage → ℕ → Type 0
+abbrev pub Shows : Packet → SessionStage → ℕ → ClientAct → SessionStage → ℕ → Type 0
 Shows packet at next act.Nothing later number = (later ≡ at) × (number ≡ next)
 Shows packet at next (act.Accepted first) later number = (at ≡ stage.Before) × (later ≡ stage.Accepted) × (number ≡ first)
 Shows packet at next (act.Data n payload) later number =
@@ -29,14 +29,14 @@ Shows packet at next (act.Rejected code) later number = Unit {0}
 Shows packet at next act.Ended later number = Unit {0}
 Shows packet at next (act.Fault f) later number = Unit {0}
 
-abbrev pub TurnShows : Stage → ℕ → Packet → Type 0
+abbrev pub TurnShows : SessionStage → ℕ → Packet → Type 0
 TurnShows at next packet = let turn = client_turn next at packet in Shows packet at next turn.0 turn.1 turn.2
 
 data_shows : (next : ℕ) (payload : List ℕ) (b : Bool) → nat_lt next (10 ^ 19) ≡ b → TurnShows stage.Accepted next (is.SequencedData payload)
 data_shows next payload true e = rw e (refl, refl, refl, refl, refl)
 data_shows next payload false e = rw e tt
 
-pub turn_shows : (at : Stage) (next : ℕ) (packet : Packet) → TurnShows at next packet
+pub turn_shows : (at : SessionStage) (next : ℕ) (packet : Packet) → TurnShows at next packet
 turn_shows stage.Before next (is.Debug text) = (refl, refl)
 turn_shows stage.Before next (is.LoginAccepted login) = (refl, refl, refl)
 turn_shows stage.Before next is.ServerHeartbeat = (refl, refl)
@@ -76,12 +76,12 @@ packets-push (p ∷ ps) [] packet payload spelled fits last = absurd spelled
 packets-push (p ∷ ps) (q ∷ qs) packet payload spelled fits last = (spelled.0, packets-push ps qs packet payload spelled.1 fits last)
 
 -- the stage of a session that requested the messages from number n on, from the packets that it has received
-abbrev Phase : ℕ → Stage → ℕ → List ClientAct → List (List ℕ) → Type 0
+abbrev Phase : ℕ → SessionStage → ℕ → List ClientAct → List (List ℕ) → Type 0
 Phase n stage.Before next acts payloads = (acts ≡ []) × (payloads ≡ [])
 Phase n stage.Accepted next acts payloads = (acts ≡ act.Accepted n ∷ numbered n payloads) × (next ≡ n + length payloads)
 Phase n stage.Closed next acts payloads = ⊥
 
-pub hears : (n : ℕ) (at : Stage) (next : ℕ) (acts : List ClientAct) (payloads : List (List ℕ)) → Phase n at next acts payloads → HearsFrom n acts payloads
+pub hears : (n : ℕ) (at : SessionStage) (next : ℕ) (acts : List ClientAct) (payloads : List (List ℕ)) → Phase n at next acts payloads → HearsFrom n acts payloads
 hears n stage.Before next acts payloads (nothing, none) = subst (λ answers. HearsFrom n answers payloads) (sym nothing) none
 hears n stage.Accepted next acts payloads (all, number) = subst (λ answers. HearsFrom n answers payloads) (sym all) refl
 hears n stage.Closed next acts payloads h = absurd h
@@ -122,12 +122,12 @@ heard_of n start old new count c payloads came = record {
   heard = hears n _ _ _ _ came.phase;
 }
 
-phase_same : (n : ℕ) (at later : Stage) (next number : ℕ) (acts all : List ClientAct) (payloads : List (List ℕ)) → later ≡ at → number ≡ next → all ≡ acts
+phase_same : (n : ℕ) (at later : SessionStage) (next number : ℕ) (acts all : List ClientAct) (payloads : List (List ℕ)) → later ≡ at → number ≡ next → all ≡ acts
     → Phase n at next acts payloads → Phase n later number all payloads
 phase_same n at later next number acts all payloads e f g phase =
     subst (λ s. Phase n s number all payloads) (sym e) (subst (λ k. Phase n at k all payloads) (sym f) (subst (λ t. Phase n at next t payloads) (sym g) phase))
 
-phase_accepted : (n : ℕ) (at later : Stage) (next number first : ℕ) (acts all : List ClientAct) (payloads : List (List ℕ)) → at ≡ stage.Before → later ≡ stage.Accepted → number ≡ first → first ≡ n
+phase_accepted : (n : ℕ) (at later : SessionStage) (next number first : ℕ) (acts all : List ClientAct) (payloads : List (List ℕ)) → at ≡ stage.Before → later ≡ stage.Accepted → number ≡ first → first ≡ n
     → all ≡ acts ++ act.Accepted first ∷ [] → Phase n at next acts payloads → Phase n later number all payloads
 phase_accepted n at later next number first acts all payloads e f g one more phase =
     let (nothing, none) : (acts ≡ []) × (payloads ≡ []) = subst (λ s. Phase n s next acts payloads) e phase in
@@ -136,7 +136,7 @@ phase_accepted n at later next number first acts all payloads e f g one more pha
       let len : length payloads ≡ 0 = ap length none in omega arith,
     )
 
-phase_data : (n : ℕ) (at later : Stage) (next number place : ℕ) (payload : List ℕ) (acts all : List ClientAct) (payloads : List (List ℕ)) → at ≡ stage.Accepted → later ≡ stage.Accepted → place ≡ next → number ≡ next + 1
+phase_data : (n : ℕ) (at later : SessionStage) (next number place : ℕ) (payload : List ℕ) (acts all : List ClientAct) (payloads : List (List ℕ)) → at ≡ stage.Accepted → later ≡ stage.Accepted → place ≡ next → number ≡ next + 1
     → all ≡ acts ++ act.Data place payload ∷ [] → Phase n at next acts payloads → Phase n later number all (payloads ++ payload ∷ [])
 phase_data n at later next number place payload acts all payloads e f same up more phase =
     let before : (acts ≡ act.Accepted n ∷ numbered n payloads) × (next ≡ n + length payloads) = subst (λ s. Phase n s next acts payloads) e phase in

@@ -22,14 +22,14 @@ use Rattle.itch_market.specs.Stops.{cause_by, cause}
 use Rattle.itch_market.proofs.GoodMarkets.{empty_good}
 use Rattle.itch_snapshot.specs.declared.fault.SnapFault.{SnapFault}
 use Rattle.itch_snapshot.specs.declared.fault.SnapFault.TheVariants as snap
-use Rattle.itch_snapshot.specs.declared.reader.Stage.TheVariants as at
+use Rattle.itch_snapshot.specs.declared.reader.SnapshotStage.TheVariants as at
 use Rattle.itch_snapshot.specs.TakenMessages.{Load, Loads, TakesAt, begun, closing_number, is_full, stage_after, Finishes}
 use Rattle.itch_snapshot.specs.Reads.{IsDecidedFault}
 use Rattle.itch_frame.proofs.Fronts.{Front, front}
 use Rattle.itch_soup.specs.declared.client.ClientAct.{ClientAct}
 use Rattle.itch_soup.specs.declared.client.ClientAct.TheVariants as act
-use Rattle.itch_soup.specs.declared.connection.Stage.{Stage}
-use Rattle.itch_soup.specs.declared.connection.Stage.TheVariants as stage
+use Rattle.itch_soup.specs.declared.connection.SessionStage.{SessionStage}
+use Rattle.itch_soup.specs.declared.connection.SessionStage.TheVariants as stage
 use Rattle.itch_soup.specs.declared.fault.SoupFault.{SoupFault}
 use Rattle.itch_soup.specs.declared.fault.SoupFault.TheVariants as broke
 use Rattle.itch_soup.specs.declared.origin.Origin.TheVariants.{Server}
@@ -50,11 +50,11 @@ DecidedTurn (act.Fault f) = IsDecidedFetch (Err f)
 DecidedTurn answer = Unit {0}
 
 data_decided : (b : Bool) (next : ℕ) (payload : List ℕ)
-    → DecidedTurn ((λ (turn : ClientAct × Stage × ℕ). turn.0) (if b then (act.Data next payload, stage.Accepted, next + 1) else (act.Fault broke.TooManyMessages, stage.Closed, next)))
+    → DecidedTurn ((λ (turn : ClientAct × SessionStage × ℕ). turn.0) (if b then (act.Data next payload, stage.Accepted, next + 1) else (act.Fault broke.TooManyMessages, stage.Closed, next)))
 data_decided true next payload = tt
 data_decided false next payload = tt
 
-turn_decided : (at : Stage) (next : ℕ) (packet : Packet) → DecidedTurn (client_turn next at packet).0
+turn_decided : (at : SessionStage) (next : ℕ) (packet : Packet) → DecidedTurn (client_turn next at packet).0
 turn_decided stage.Before next (is.Debug text) = tt
 turn_decided stage.Accepted next (is.SequencedData payload) = data_decided _ next payload
 turn_decided at next packet = tt

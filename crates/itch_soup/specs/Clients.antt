@@ -5,8 +5,8 @@ use Rattle.itch_soup.specs.declared.packet.LoginRequest.{LoginRequest}
 use Rattle.itch_soup.specs.declared.packet.Packet.{Packet}
 use Rattle.itch_soup.specs.declared.packet.Packet.TheVariants as is
 use Rattle.itch_soup.specs.declared.fault.SoupFault.TheVariants as fault
-use Rattle.itch_soup.specs.declared.connection.Stage.{Stage}
-use Rattle.itch_soup.specs.declared.connection.Stage.TheVariants as stage
+use Rattle.itch_soup.specs.declared.connection.SessionStage.{SessionStage}
+use Rattle.itch_soup.specs.declared.connection.SessionStage.TheVariants as stage
 use Rattle.itch_soup.specs.declared.connection.Connection.{Connection}
 use Rattle.itch_soup.specs.declared.client.ClientAct.{ClientAct}
 use Rattle.itch_soup.specs.declared.client.ClientAct.TheVariants as act
@@ -36,7 +36,7 @@ abbrev pub login_of : Client → LoginRequest
 login_of c = login_with c.credentials c.from
 
 -- the answer to a packet, the next stage, and the number of the next message
-abbrev pub client_turn : ℕ → Stage → Packet → ClientAct × Stage × ℕ
+abbrev pub client_turn : ℕ → SessionStage → Packet → ClientAct × SessionStage × ℕ
 client_turn next stage.Closed packet = (act.Fault fault.Closed, stage.Closed, next)
 client_turn next at (is.Debug text) = (act.Nothing, at, next)
 client_turn next at (is.UnsequencedData payload) = (act.Nothing, at, next)

@@ -1,7 +1,7 @@
 -- The actions that are due in a session as time passes (SoupBinTCP 3.00, "Heartbeats"). Times are in milliseconds.
 use Rattle.std.specs.Prelude.{ℕ, ◌-◌, nat_le, nat_lt, Bool, true, false}
-use Rattle.itch_soup.specs.declared.connection.Stage.{Stage}
-use Rattle.itch_soup.specs.declared.connection.Stage.TheVariants as stage
+use Rattle.itch_soup.specs.declared.connection.SessionStage.{SessionStage}
+use Rattle.itch_soup.specs.declared.connection.SessionStage.TheVariants as stage
 use Rattle.itch_soup.specs.declared.connection.Tick.{Tick}
 use Rattle.itch_soup.specs.declared.connection.Tick.TheVariants as tick
 use Rattle.itch_soup.specs.declared.connection.Connection.{Connection}
@@ -19,7 +19,7 @@ abbrev pub is_idle : Connection → ℕ → Bool
 is_idle c now = nat_lt 1000 (now - c.sent)
 
 -- the due action, depending on the stage, on whether the other side is silent and on whether this side is idle
-abbrev pub tick_by : Stage → Bool → Bool → Tick
+abbrev pub tick_by : SessionStage → Bool → Bool → Tick
 tick_by stage.Closed silent idle = tick.Nothing
 tick_by stage true idle = tick.Lost
 tick_by stage.Accepted false true = tick.Heartbeat
@@ -40,7 +40,7 @@ abbrev pub after_tick : Connection → ℕ → Connection
 after_tick c now = connection_after (tick_answer c now) c now
 
 -- the connection after a packet received at this time, after which the session is at this stage
-abbrev pub after_packet : Connection → Stage → ℕ → Connection
+abbrev pub after_packet : Connection → SessionStage → ℕ → Connection
 after_packet c stage now = record c { stage = stage; heard = now }
 
 -- the connection after something is sent at this time

@@ -17,7 +17,7 @@ use Rattle.itch_market.specs.Runs.{after, run, Follows}
 use Rattle.itch_market.specs.Replays.{NoCause, Fits, IsDecided}
 use Rattle.itch_market.specs.declared.stop.Stop.TheVariants as stop
 use Rattle.itch_snapshot.specs.declared.fault.SnapFault.{SnapFault}
-use Rattle.itch_snapshot.specs.declared.reader.Stage.TheVariants.{Taking}
+use Rattle.itch_snapshot.specs.declared.reader.SnapshotStage.TheVariants.{Taking}
 use Rattle.itch_snapshot.specs.Files.{AreSpelled}
 use Rattle.itch_snapshot.specs.TakenMessages.{Load, Loads}
 use Rattle.itch_snapshot.specs.Reads.{IsDecidedFault}

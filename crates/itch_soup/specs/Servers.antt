@@ -6,8 +6,8 @@ use Rattle.itch_soup.specs.declared.packet.LoginAccepted.{LoginAccepted}
 use Rattle.itch_soup.specs.declared.packet.Packet.{Packet}
 use Rattle.itch_soup.specs.declared.packet.Packet.TheVariants as is
 use Rattle.itch_soup.specs.declared.fault.SoupFault.TheVariants as fault
-use Rattle.itch_soup.specs.declared.connection.Stage.{Stage}
-use Rattle.itch_soup.specs.declared.connection.Stage.TheVariants as stage
+use Rattle.itch_soup.specs.declared.connection.SessionStage.{SessionStage}
+use Rattle.itch_soup.specs.declared.connection.SessionStage.TheVariants as stage
 use Rattle.itch_soup.specs.declared.connection.Connection.{Connection}
 use Rattle.itch_soup.specs.declared.server.ServerAct.{ServerAct}
 use Rattle.itch_soup.specs.declared.server.ServerAct.TheVariants as act
@@ -39,7 +39,7 @@ abbrev pub not_available : ℕ
 not_available = 83
 
 -- a login is judged by user name and password, session, and number, which is at most the one after the last message
-abbrev pub judged : ServerConfig → ℕ → LoginRequest → ServerAct × Stage
+abbrev pub judged : ServerConfig → ℕ → LoginRequest → ServerAct × SessionStage
 judged config total login =
     if not (is_user config login) then (act.Reject not_authorised, stage.Closed) else (
     if not (asks_for_session config.session login.session) then (act.Reject not_available, stage.Closed) else (
@@ -47,7 +47,7 @@ judged config total login =
     (act.Accept (first_asked login), stage.Accepted))))
 
 -- the answer to a login with this judgement, and the next stage
-abbrev pub turn_of : Judgement → ServerAct × Stage
+abbrev pub turn_of : Judgement → ServerAct × SessionStage
 turn_of (Accepted next) = (act.Accept next, stage.Accepted)
 turn_of (Rejected code) = (act.Reject code, stage.Closed)
 
@@ -56,7 +56,7 @@ abbrev pub acceptance : ServerConfig → ℕ → LoginAccepted
 acceptance config next = record { session = server_session config.session; next = next }
 
 -- the answer to a packet, and the next stage
-abbrev pub server_turn : ServerConfig → ℕ → Stage → Packet → ServerAct × Stage
+abbrev pub server_turn : ServerConfig → ℕ → SessionStage → Packet → ServerAct × SessionStage
 server_turn config total stage.Closed packet = (act.Fault fault.Closed, stage.Closed)
 server_turn config total at (is.Debug text) = (act.Nothing, at)
 server_turn config total at (is.UnsequencedData payload) = (act.Nothing, at)

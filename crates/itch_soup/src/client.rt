@@ -2,7 +2,7 @@
 ghost use Rattle.std.specs.Prelude.{◌≡◌, ◌≤◌, ◌^◌};
 ghost use Rattle.itch_soup.specs.Clients.{client_turn};
 
-use crate::connection::{Connection, Stage, Tick};
+use crate::connection::{Connection, SessionStage, Tick};
 use crate::fault::SoupFault;
 use crate::login::Credentials;
 use crate::origin::Origin;
@@ -132,42 +132,50 @@ impl ClientSession {
 }
 
 // Returns the meaning of a packet, the next stage, and the number of the next message.
-fn turn<'a>(next: u64, stage: Stage, packet: &Packet<'a>) -> (ClientAct<'a>, Stage, u64)
+fn turn<'a>(
+    next: u64,
+    stage: SessionStage,
+    packet: &Packet<'a>,
+) -> (ClientAct<'a>, SessionStage, u64)
     ensures { result ≡ client_turn next stage packet.now }
 {
     match (stage, packet) {
-        (Stage::Closed, _) => closing(SoupFault::Closed, next),
+        (SessionStage::Closed, _) => closing(SoupFault::Closed, next),
         (_, Packet::Debug(_) | Packet::UnsequencedData(_) | Packet::ServerHeartbeat) => {
             (ClientAct::Nothing, stage, next)
         }
-        (_, Packet::EndOfSession) => (ClientAct::Ended, Stage::Closed, next),
-        (Stage::Before, Packet::LoginAccepted(login)) => {
+        (_, Packet::EndOfSession) => (ClientAct::Ended, SessionStage::Closed, next),
+        (SessionStage::Before, Packet::LoginAccepted(login)) => {
             let next = login.next;
-            (ClientAct::Accepted { next }, Stage::Accepted, next.value())
+            (
+                ClientAct::Accepted { next },
+                SessionStage::Accepted,
+                next.value(),
+            )
         }
-        (Stage::Before, Packet::LoginRejected { code }) => {
-            (ClientAct::Rejected(*code), Stage::Closed, next)
+        (SessionStage::Before, Packet::LoginRejected { code }) => {
+            (ClientAct::Rejected(*code), SessionStage::Closed, next)
         }
-        (Stage::Before, Packet::SequencedData(_)) => {
+        (SessionStage::Before, Packet::SequencedData(_)) => {
             closing(SoupFault::Early(packet.kind()), next)
         }
-        (Stage::Accepted, Packet::SequencedData(payload)) => data(next, payload),
-        (Stage::Accepted, Packet::LoginAccepted(_) | Packet::LoginRejected { .. }) => {
+        (SessionStage::Accepted, Packet::SequencedData(payload)) => data(next, payload),
+        (SessionStage::Accepted, Packet::LoginAccepted(_) | Packet::LoginRejected { .. }) => {
             closing(SoupFault::SecondLogin, next)
         }
         _ => closing(SoupFault::WrongSide(packet.kind()), next),
     }
 }
 
-fn closing<'a>(fault: SoupFault, next: u64) -> (ClientAct<'a>, Stage, u64)
-    ensures { result ≡ (ClientAct.Fault fault, Stage.Closed, next) }
+fn closing<'a>(fault: SoupFault, next: u64) -> (ClientAct<'a>, SessionStage, u64)
+    ensures { result ≡ (ClientAct.Fault fault, SessionStage.Closed, next) }
 {
-    (ClientAct::Fault(fault), Stage::Closed, next)
+    (ClientAct::Fault(fault), SessionStage::Closed, next)
 }
 
 // Returns the same for a message after the login was accepted.
-fn data<'a>(number: u64, payload: &Payload<'a>) -> (ClientAct<'a>, Stage, u64)
-    ensures { result ≡ client_turn number Stage.Accepted (Packet.SequencedData payload.now) }
+fn data<'a>(number: u64, payload: &Payload<'a>) -> (ClientAct<'a>, SessionStage, u64)
+    ensures { result ≡ client_turn number SessionStage.Accepted (Packet.SequencedData payload.now) }
 {
     if number > MOST_MESSAGES {
         return closing(SoupFault::TooManyMessages, number);
@@ -175,7 +183,7 @@ fn data<'a>(number: u64, payload: &Payload<'a>) -> (ClientAct<'a>, Stage, u64)
     let payload = Payload::new(payload.bytes());
     (
         ClientAct::Data { number, payload },
-        Stage::Accepted,
+        SessionStage::Accepted,
         number + 1,
     )
 }

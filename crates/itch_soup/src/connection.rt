@@ -3,7 +3,7 @@ ghost use Rattle.std.specs.Prelude.{◌≡◌};
 
 /// The stage of a session.
 #[derive(Clone, Copy, Debug)]
-pub(crate) enum Stage {
+pub(crate) enum SessionStage {
     /// No login has been accepted yet.
     Before,
     /// A login was accepted.
@@ -29,7 +29,7 @@ const IDLE_MS: u64 = 1_000;
 /// The stage of a session, and the times of the last receipt and of the last sending, in milliseconds.
 #[derive(Clone, Copy, Debug)]
 pub(crate) struct Connection {
-    pub(crate) stage: Stage,
+    pub(crate) stage: SessionStage,
     pub(crate) heard: u64,
     pub(crate) sent: u64,
 }
@@ -42,7 +42,7 @@ impl Connection {
         ensures { result ≡ opened now_ms }
     {
         Connection {
-            stage: Stage::Before,
+            stage: SessionStage::Before,
             heard: now_ms,
             sent: now_ms,
         }
@@ -57,7 +57,7 @@ impl Connection {
         match tick {
             Tick::Nothing => {}
             Tick::Heartbeat => self.sent = now_ms,
-            Tick::Lost => self.stage = Stage::Closed,
+            Tick::Lost => self.stage = SessionStage::Closed,
         }
         tick
     }
@@ -68,9 +68,9 @@ impl Connection {
         let silent = now_ms.saturating_sub(self.heard) >= SILENCE_MS;
         let idle = now_ms.saturating_sub(self.sent) > IDLE_MS;
         match self.stage {
-            Stage::Closed => Tick::Nothing,
+            SessionStage::Closed => Tick::Nothing,
             _ if silent => Tick::Lost,
-            Stage::Accepted if idle => Tick::Heartbeat,
+            SessionStage::Accepted if idle => Tick::Heartbeat,
             _ => Tick::Nothing,
         }
     }

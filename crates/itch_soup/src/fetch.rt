@@ -7,7 +7,7 @@ ghost use Rattle.itch_soup.specs.Fetching.{TakesPacket, Receives, Fetches};
 mod rest;
 
 use crate::client::{ClientAct, ClientSession};
-use crate::connection::Stage;
+use crate::connection::SessionStage;
 use crate::fault::SoupFault;
 use crate::login::Credentials;
 use crate::origin::Origin;
@@ -47,7 +47,7 @@ fn receive<R: CountedRead, A: Allocator, B: OrderBook>(
     reader: &mut BlockReader<R, A>,
     mut session: ClientSession,
 ) -> Result<(Market<B>, Seq), SoupFault>
-    requires { session.connection.stage ≡ Stage.Before }
+    requires { session.connection.stage ≡ SessionStage.Before }
     ensures received { Receives session (bytes_left R.remaining reader.old) (bytes_left R.remaining reader.new) result }
     ensures held { OnOk result (reader.new.held ≡ []) }
     ensures failures { CountsWait result (R.failures reader.old.reader) (R.failures reader.new.reader) }

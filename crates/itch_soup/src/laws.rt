@@ -21,7 +21,7 @@ ghost use Rattle.itch_soup.specs.declared.origin.Origin.{Origin};
 ghost use Rattle.itch_soup.specs.declared.packet.Packet.{Packet};
 ghost use Rattle.itch_soup.specs.Packets.{PacketSpells, packet_fault};
 ghost use Rattle.itch_soup.specs.Servers.{Server, server_turn, judged};
-ghost use Rattle.itch_soup.specs.declared.connection.Stage.{Stage};
+ghost use Rattle.itch_soup.specs.declared.connection.SessionStage.{SessionStage};
 ghost use Rattle.itch_soup.specs.declared.packet.LoginRequest.{LoginRequest};
 ghost use Rattle.itch_soup.specs.declared.packet.Packet.TheVariants as is;
 ghost use Rattle.itch_soup.specs.Clients.{Client, login_of};
@@ -103,8 +103,8 @@ pub fn some_fetch()
 /// While a server waits for a login, its table answers `Nothing` to exactly the packets that are ignored, judges a login, and closes at a
 /// logout.
 pub fn waits_by_the_table()
-    ensures over { (config : ServerConfig) → (total : ℕ) → (packet : Packet) → IsIdle packet → server_turn config total Stage.Before packet ≡ (ServerAct.Nothing, Stage.Before) }
-    ensures only { (config : ServerConfig) → (total : ℕ) → (packet : Packet) → (server_turn config total Stage.Before packet).0 ≡ ServerAct.Nothing → IsIdle packet }
-    ensures login { (config : ServerConfig) → (total : ℕ) → (login : LoginRequest) → server_turn config total Stage.Before (is.LoginRequest login) ≡ judged config total login }
-    ensures logout { (config : ServerConfig) → (total : ℕ) → server_turn config total Stage.Before is.LogoutRequest ≡ (ServerAct.Close, Stage.Closed) }
+    ensures over { (config : ServerConfig) → (total : ℕ) → (packet : Packet) → IsIdle packet → server_turn config total SessionStage.Before packet ≡ (ServerAct.Nothing, SessionStage.Before) }
+    ensures only { (config : ServerConfig) → (total : ℕ) → (packet : Packet) → (server_turn config total SessionStage.Before packet).0 ≡ ServerAct.Nothing → IsIdle packet }
+    ensures login { (config : ServerConfig) → (total : ℕ) → (login : LoginRequest) → server_turn config total SessionStage.Before (is.LoginRequest login) ≡ judged config total login }
+    ensures logout { (config : ServerConfig) → (total : ℕ) → server_turn config total SessionStage.Before is.LogoutRequest ≡ (ServerAct.Close, SessionStage.Closed) }
 {}

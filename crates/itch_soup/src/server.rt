@@ -2,7 +2,7 @@
 ghost use Rattle.std.specs.Prelude.{◌≡◌, ◌<◌, ◌^◌};
 ghost use Rattle.itch_soup.specs.Servers.{server_turn, turn_of, is_user, judged};
 
-use crate::connection::{Connection, Stage, Tick};
+use crate::connection::{Connection, SessionStage, Tick};
 use crate::fault::SoupFault;
 use crate::login::{ServerConfig, asks_for_session, is_same_name};
 use crate::origin::Origin;
@@ -146,29 +146,34 @@ impl ServerSession {
 }
 
 // Returns the answer to a packet, and the next stage.
-fn turn(config: &ServerConfig, total: u64, stage: Stage, packet: &Packet<'_>) -> (ServerAct, Stage)
+fn turn(
+    config: &ServerConfig,
+    total: u64,
+    stage: SessionStage,
+    packet: &Packet<'_>,
+) -> (ServerAct, SessionStage)
     requires { total < 10 ^ 19 }
     ensures { result ≡ server_turn config.now total stage packet.now }
 {
     match (stage, packet) {
-        (Stage::Closed, _) => closing(SoupFault::Closed),
+        (SessionStage::Closed, _) => closing(SoupFault::Closed),
         (_, Packet::Debug(_) | Packet::UnsequencedData(_) | Packet::ClientHeartbeat) => {
             (ServerAct::Nothing, stage)
         }
-        (_, Packet::LogoutRequest) => (ServerAct::Close, Stage::Closed),
-        (Stage::Before, Packet::LoginRequest(login)) => match judge(config, total, login) {
-            Judgement::Accepted { next } => (ServerAct::Accept { next }, Stage::Accepted),
-            Judgement::Rejected(code) => (ServerAct::Reject(code), Stage::Closed),
+        (_, Packet::LogoutRequest) => (ServerAct::Close, SessionStage::Closed),
+        (SessionStage::Before, Packet::LoginRequest(login)) => match judge(config, total, login) {
+            Judgement::Accepted { next } => (ServerAct::Accept { next }, SessionStage::Accepted),
+            Judgement::Rejected(code) => (ServerAct::Reject(code), SessionStage::Closed),
         },
-        (Stage::Accepted, Packet::LoginRequest(_)) => closing(SoupFault::SecondLogin),
+        (SessionStage::Accepted, Packet::LoginRequest(_)) => closing(SoupFault::SecondLogin),
         _ => closing(SoupFault::WrongSide(packet.kind())),
     }
 }
 
-fn closing(fault: SoupFault) -> (ServerAct, Stage)
-    ensures { result ≡ (ServerAct.Fault fault, Stage.Closed) }
+fn closing(fault: SoupFault) -> (ServerAct, SessionStage)
+    ensures { result ≡ (ServerAct.Fault fault, SessionStage.Closed) }
 {
-    (ServerAct::Fault(fault), Stage::Closed)
+    (ServerAct::Fault(fault), SessionStage::Closed)
 }
 
 /// Returns the judgement on a login to a session of `total` messages.

@@ -13,8 +13,8 @@ use Rattle.itch_day.specs.Parts.{Counts, ReadsPart, StopsAt}
 use Rattle.itch_day.specs.declared.limit.Limit.{Limit}
 use Rattle.itch_day.specs.declared.mark.Mark.{Mark}
 use Rattle.itch_day.specs.declared.marked.Marked.{Marked}
-use Rattle.itch_day.specs.declared.stop.Stop.{Stop}
-use Rattle.itch_day.specs.declared.stop.Stop.TheVariants.{Full, Late, End, Frame, TooMany, Refused}
+use Rattle.itch_day.specs.declared.stop.PartStop.{PartStop}
+use Rattle.itch_day.specs.declared.stop.PartStop.TheVariants.{Full, Late, End, Frame, TooMany, Refused}
 use Rattle.itch_day.proofs.Marks.{marked_after}
 use Rattle.itchsnap_c.specs.Times.{Finds, IsPassed, before}
 
@@ -60,7 +60,7 @@ Nothing s number payload why t = ⊥
 -- All messages are passed up to the first late one, if no read of the bytes fails.
 module _ {R S F : Type 0} (remaining : R → Option (List ℕ)) (failures : R → Failures) (takes : S → ℕ → List ℕ → S → Type 0) (none : Failures) (error_free : none.last ≡ None)
     (never_fails : (r : R) → failures r ≡ none) (bytes : List ℕ) (short : length bytes ≤ 2 ^ 64 - 1) (time : ℕ) (old new : Reading R) (known : bytes_left remaining old ≡ Some bytes) (count : ℕ)
-    (s t : Marked S) (first : s.mark ≡ first_mark) (stop : Stop F)
+    (s t : Marked S) (first : s.mark ≡ first_mark) (stop : PartStop F)
     (reads : ReadsPart remaining failures (TakesMarked takes) (RefusesMarked Nothing) (before time) old new 0 count s stop t) where
   record Left : Type 0 where
     pub rest : List ℕ
@@ -95,7 +95,7 @@ module _ {R S F : Type 0} (remaining : R → Option (List ℕ)) (failures : R �
           offset_is,
         )
 
-  ended : (w : Stop F) → (w ≡ Late → ⊥) → StopsAt remaining (RefusesMarked Nothing) (before time) count new reads.last w t → Counts w (failures old.reader) (failures new.reader)
+  ended : (w : PartStop F) → (w ≡ Late → ⊥) → StopsAt remaining (RefusesMarked Nothing) (before time) count new reads.last w t → Counts w (failures old.reader) (failures new.reader)
       → Ends left.rest ⊎ Open left.rest
   ended Full other (same, (most, is, all)) counts = absurd (no_number is)
   ended Late other stops counts = absurd (other refl)

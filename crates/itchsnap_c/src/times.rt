@@ -6,7 +6,7 @@ use crate::answers::Count;
 use crate::codes::{ABSENT, OUT_OF_MEMORY, counted, no_count};
 use crate::slice::SliceReader;
 use itch_codec::{CodecFault, Message};
-use itch_day::{Limit, Mark, Marked, Sink, Stop, read_part};
+use itch_day::{Limit, Mark, Marked, PartStop, Sink, read_part};
 use itch_frame::BlockReader;
 use std::alloc::{AllocError, Global};
 
@@ -41,7 +41,7 @@ fn bytes_before(alloc: Global, blocks: &[u8], time: u64) -> Result<Option<u64>, 
     };
     let mut count = 0;
     match read_part(&mut reader, &mut count, &mut passed, limit) {
-        Stop::Late => Ok(Some(passed.mark.offset)),
+        PartStop::Late => Ok(Some(passed.mark.offset)),
         _ => Ok(None),
     }
 }

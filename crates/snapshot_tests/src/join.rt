@@ -81,7 +81,7 @@ fn check_market<B: OrderBook>(rt: &impl Host, joiner: &Joiner<B>, want: &[&[u8]]
 
 // A call of a joiner with its result, or the state expected at that point.
 #[derive(Clone, Copy)]
-enum Step<'a> {
+enum JoinStep<'a> {
     Live(u64, &'a [u8], Result<Live, JoinFault>),
     Snapshot(&'a [u8], Result<Snap, JoinFault>),
     // Messages of a snapshot before its end.
@@ -95,16 +95,20 @@ enum Step<'a> {
     Market(&'a [&'a [u8]]),
 }
 
-fn take_step<B: OrderBook>(rt: &impl Host, joiner: &mut Joiner<B>, step: Step<'_>) -> TestResult {
+fn take_step<B: OrderBook>(
+    rt: &impl Host,
+    joiner: &mut Joiner<B>,
+    step: JoinStep<'_>,
+) -> TestResult {
     match step {
-        Step::Live(number, payload, want) => live(rt, joiner, number, payload, want),
-        Step::Snapshot(payload, want) => snapshot(rt, joiner, payload, want),
-        Step::Read(payloads) => read(rt, joiner, payloads),
-        Step::Resume(want) => same(rt, joiner.resume(), want),
-        Step::Restart => joiner.restart(),
-        Step::Stands(next, waiting) => stands(rt, joiner, next, waiting),
-        Step::Waiting(want) => same(rt, joiner.waiting(), want),
-        Step::Market(want) => check_market(rt, joiner, want)?,
+        JoinStep::Live(number, payload, want) => live(rt, joiner, number, payload, want),
+        JoinStep::Snapshot(payload, want) => snapshot(rt, joiner, payload, want),
+        JoinStep::Read(payloads) => read(rt, joiner, payloads),
+        JoinStep::Resume(want) => same(rt, joiner.resume(), want),
+        JoinStep::Restart => joiner.restart(),
+        JoinStep::Stands(next, waiting) => stands(rt, joiner, next, waiting),
+        JoinStep::Waiting(want) => same(rt, joiner.waiting(), want),
+        JoinStep::Market(want) => check_market(rt, joiner, want)?,
     }
     Ok(())
 }
@@ -112,7 +116,7 @@ fn take_step<B: OrderBook>(rt: &impl Host, joiner: &mut Joiner<B>, step: Step<'_
 fn take_steps<B: OrderBook>(
     rt: &impl Host,
     joiner: &mut Joiner<B>,
-    steps: &[Step<'_>],
+    steps: &[JoinStep<'_>],
 ) -> TestResult {
     for step in steps {
         take_step(rt, joiner, *step)?;
@@ -125,31 +129,31 @@ fn check<B: OrderBook>(
     rt: &impl Host,
     memory: B::Alloc,
     cap: usize,
-    steps: &[Step<'_>],
+    steps: &[JoinStep<'_>],
 ) -> TestResult {
     let mut joiner: Joiner<B> = joiner(memory, cap);
     take_steps(rt, &mut joiner, steps)
 }
 
 // Takes the program's joiner through these steps.
-fn check_indexed(rt: &impl Host, cap: usize, steps: &[Step<'_>]) -> TestResult {
+fn check_indexed(rt: &impl Host, cap: usize, steps: &[JoinStep<'_>]) -> TestResult {
     check::<IndexedBook>(rt, rt.alloc(), cap, steps)
 }
 
 // Messages 7 and 8 arrive before the snapshot of the first five, and message 9 when there is room for it.
-const JOINS_LATE: &[Step<'static>] = &[
-    Step::Live(8, DELETE_3, Ok(Live::Kept)),
-    Step::Live(7, REPLACE_1_BY_4, Ok(Live::Kept)),
-    Step::Live(9, NAMED_5, Err(JoinFault::Full { cap: 2 })),
-    Step::Read(BEFORE_6),
-    Step::Stands(None, 2),
-    Step::Resume(Ok(None)),
-    Step::Snapshot(END_6, Ok(Snap::Joined { next: 6 })),
-    Step::Live(6, EXECUTE_1, Ok(Live::Applied { next: 9 })),
-    Step::Live(6, EXECUTE_1, Ok(Live::Old)),
-    Step::Live(9, NAMED_5, Ok(Live::Applied { next: 10 })),
-    Step::Stands(Some(10), 0),
-    Step::Market(&[EVENT, AAPL, ADD_2, ADD_4, NAMED_5]),
+const JOINS_LATE: &[JoinStep<'static>] = &[
+    JoinStep::Live(8, DELETE_3, Ok(Live::Kept)),
+    JoinStep::Live(7, REPLACE_1_BY_4, Ok(Live::Kept)),
+    JoinStep::Live(9, NAMED_5, Err(JoinFault::Full { cap: 2 })),
+    JoinStep::Read(BEFORE_6),
+    JoinStep::Stands(None, 2),
+    JoinStep::Resume(Ok(None)),
+    JoinStep::Snapshot(END_6, Ok(Snap::Joined { next: 6 })),
+    JoinStep::Live(6, EXECUTE_1, Ok(Live::Applied { next: 9 })),
+    JoinStep::Live(6, EXECUTE_1, Ok(Live::Old)),
+    JoinStep::Live(9, NAMED_5, Ok(Live::Applied { next: 10 })),
+    JoinStep::Stands(Some(10), 0),
+    JoinStep::Market(&[EVENT, AAPL, ADD_2, ADD_4, NAMED_5]),
 ];
 
 #[test]
@@ -172,9 +176,9 @@ fn the_laws_of_joins() {
 }
 
 // The snapshot of the first two messages.
-const READ_2: Step<'static> = Step::Read(&[EVENT, AAPL]);
+const READ_2: JoinStep<'static> = JoinStep::Read(&[EVENT, AAPL]);
 
-const JOINED_AT_3: Step<'static> = Step::Snapshot(END_3, Ok(Snap::Joined { next: 3 }));
+const JOINED_AT_3: JoinStep<'static> = JoinStep::Snapshot(END_3, Ok(Snap::Joined { next: 3 }));
 
 #[test]
 fn a_refused_message_halts_for_good(rt: HostRuntime) -> TestResult {
@@ -185,17 +189,17 @@ fn a_refused_message_halts_for_good(rt: HostRuntime) -> TestResult {
     let steps = [
         READ_2,
         JOINED_AT_3,
-        Step::Live(4, ADD_2, Ok(Live::Kept)),
-        Step::Live(3, ADD_1_AT_9, Err(halted)),
-        Step::Live(3, ADD_1, Err(halted)),
-        Step::Live(0, ADD_1, Err(halted)),
-        Step::Live(1, EVENT, Err(halted)),
-        Step::Snapshot(END_3, Err(halted)),
-        Step::Resume(Err(halted)),
-        Step::Restart,
-        Step::Resume(Err(halted)),
-        Step::Stands(Some(3), 1),
-        Step::Market(&[EVENT, AAPL]),
+        JoinStep::Live(4, ADD_2, Ok(Live::Kept)),
+        JoinStep::Live(3, ADD_1_AT_9, Err(halted)),
+        JoinStep::Live(3, ADD_1, Err(halted)),
+        JoinStep::Live(0, ADD_1, Err(halted)),
+        JoinStep::Live(1, EVENT, Err(halted)),
+        JoinStep::Snapshot(END_3, Err(halted)),
+        JoinStep::Resume(Err(halted)),
+        JoinStep::Restart,
+        JoinStep::Resume(Err(halted)),
+        JoinStep::Stands(Some(3), 1),
+        JoinStep::Market(&[EVENT, AAPL]),
     ];
     check_indexed(&rt, 1, &steps)
 }
@@ -210,11 +214,11 @@ fn a_waiting_message_halts(rt: HostRuntime) -> TestResult {
     let steps = [
         READ_2,
         JOINED_AT_3,
-        Step::Live(4, b"", Ok(Live::Kept)),
-        Step::Live(5, ADD_2, Ok(Live::Kept)),
-        Step::Live(3, ADD_1, Err(halted)),
-        Step::Stands(Some(4), 2),
-        Step::Market(&[EVENT, AAPL, ADD_1]),
+        JoinStep::Live(4, b"", Ok(Live::Kept)),
+        JoinStep::Live(5, ADD_2, Ok(Live::Kept)),
+        JoinStep::Live(3, ADD_1, Err(halted)),
+        JoinStep::Stands(Some(4), 2),
+        JoinStep::Market(&[EVENT, AAPL, ADD_1]),
     ];
     check_indexed(&rt, 2, &steps)
 }
@@ -227,22 +231,22 @@ fn a_broken_snapshot_is_restarted(rt: HostRuntime) -> TestResult {
     };
     let bad = Err(JoinFault::BadNumber);
     let steps = [
-        Step::Snapshot(ADD_1, Err(broken)),
-        Step::Snapshot(END_1, Err(broken)),
-        Step::Live(1, EVENT, Ok(Live::Kept)),
-        Step::Live(1, EVENT, Ok(Live::Kept)),
-        Step::Live(1, CLOSES, Err(JoinFault::Conflict { number: 1 })),
-        Step::Live(2, AAPL, Err(JoinFault::Full { cap: 1 })),
-        Step::Live(0, AAPL, bad),
-        Step::Live(10_000_000_000_000_000_000, AAPL, bad),
-        Step::Restart,
-        Step::Waiting(1),
-        Step::Snapshot(END_1, Ok(Snap::Joined { next: 2 })),
-        Step::Waiting(0),
-        Step::Snapshot(END_1, Err(JoinFault::Joined)),
-        Step::Restart,
-        Step::Resume(Ok(Some(2))),
-        Step::Market(&[EVENT]),
+        JoinStep::Snapshot(ADD_1, Err(broken)),
+        JoinStep::Snapshot(END_1, Err(broken)),
+        JoinStep::Live(1, EVENT, Ok(Live::Kept)),
+        JoinStep::Live(1, EVENT, Ok(Live::Kept)),
+        JoinStep::Live(1, CLOSES, Err(JoinFault::Conflict { number: 1 })),
+        JoinStep::Live(2, AAPL, Err(JoinFault::Full { cap: 1 })),
+        JoinStep::Live(0, AAPL, bad),
+        JoinStep::Live(10_000_000_000_000_000_000, AAPL, bad),
+        JoinStep::Restart,
+        JoinStep::Waiting(1),
+        JoinStep::Snapshot(END_1, Ok(Snap::Joined { next: 2 })),
+        JoinStep::Waiting(0),
+        JoinStep::Snapshot(END_1, Err(JoinFault::Joined)),
+        JoinStep::Restart,
+        JoinStep::Resume(Ok(Some(2))),
+        JoinStep::Market(&[EVENT]),
     ];
     check_indexed(&rt, 1, &steps)
 }
@@ -268,11 +272,11 @@ fn joins_a_feed_in_order(rt: HostRuntime) -> TestResult {
     let steps = [
         READ_2,
         JOINED_AT_3,
-        Step::Live(1, EVENT, Ok(Live::Old)),
-        Step::Live(2, AAPL, Ok(Live::Old)),
-        Step::Live(4, ADD_2, Err(JoinFault::Full { cap: 0 })),
-        Step::Live(3, ADD_1, Ok(Live::Applied { next: 4 })),
-        Step::Market(&[EVENT, AAPL, ADD_1]),
+        JoinStep::Live(1, EVENT, Ok(Live::Old)),
+        JoinStep::Live(2, AAPL, Ok(Live::Old)),
+        JoinStep::Live(4, ADD_2, Err(JoinFault::Full { cap: 0 })),
+        JoinStep::Live(3, ADD_1, Ok(Live::Applied { next: 4 })),
+        JoinStep::Market(&[EVENT, AAPL, ADD_1]),
     ];
     check_indexed(&rt, 0, &steps)
 }
@@ -282,16 +286,16 @@ fn a_feed_with_nothing_new(rt: HostRuntime) -> TestResult {
     let steps = [
         READ_2,
         JOINED_AT_3,
-        Step::Live(1, EVENT, Ok(Live::Old)),
-        Step::Stands(Some(3), 0),
-        Step::Market(&[EVENT, AAPL]),
+        JoinStep::Live(1, EVENT, Ok(Live::Old)),
+        JoinStep::Stands(Some(3), 0),
+        JoinStep::Market(&[EVENT, AAPL]),
     ];
     check_indexed(&rt, 0, &steps)
 }
 
 #[test]
 fn a_snapshot_without_its_end(rt: HostRuntime) -> TestResult {
-    let steps = [Step::Read(&[AAPL]), Step::Stands(None, 0)];
+    let steps = [JoinStep::Read(&[AAPL]), JoinStep::Stands(None, 0)];
     check_indexed(&rt, 0, &steps)
 }
 

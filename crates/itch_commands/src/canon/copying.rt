@@ -3,7 +3,7 @@ ghost use Rattle.std.specs.Prelude.{◌≡◌, ◌++◌, [], OnOk, IfOk, Ok};
 ghost use Rattle.itch_frame.specs.Blocks.{IsPayload, block};
 ghost use Rattle.itch_frame.specs.Reading.{bytes_left};
 ghost use Rattle.itch_snapshot.specs.TakenMessages.{begun, taken_after, stage_after};
-ghost use Rattle.itch_snapshot.specs.declared.reader.Stage.TheVariants.{Taking};
+ghost use Rattle.itch_snapshot.specs.declared.reader.SnapshotStage.TheVariants.{Taking};
 ghost use Rattle.itch_commands.specs.Canons.{CopiesNext, CopiesAll, EndsFile, CountsSnap};
 ghost use Rattle.itch_commands.specs.declared.fault.Source.TheVariants.{Only};
 ghost use Rattle.itch_commands.specs.declared.fault.ToolFault.TheVariants.{Snap};

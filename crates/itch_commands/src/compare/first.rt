@@ -20,7 +20,7 @@ use crate::order_book::Book;
 use crate::reading::stopped;
 use crate::writing::write_text;
 use itch_book::OrderBook;
-use itch_day::{Limit, Stop, pass_stop, read_part};
+use itch_day::{Limit, PartStop, pass_stop, read_part};
 use itch_frame::{BlockReader, CountedRead, CountedWrite};
 use itch_market::{Market, Refused, reason_of};
 use itch_snapshot::same_market;
@@ -99,7 +99,7 @@ fn first_difference<R: CountedRead, S: CountedRead, A: Allocator, C: Allocator, 
         };
         if one_goes {
             match read_part(first, &mut read, &mut one, one_more) {
-                Stop::Full => {}
+                PartStop::Full => {}
                 stop => {
                     one_goes = false;
                     over(
@@ -115,7 +115,7 @@ fn first_difference<R: CountedRead, S: CountedRead, A: Allocator, C: Allocator, 
         }
         if other_goes {
             match read_part(second, &mut also_read, &mut other, one_more) {
-                Stop::Full => {}
+                PartStop::Full => {}
                 stop => {
                     other_goes = false;
                     over(
@@ -142,7 +142,7 @@ fn first_difference<R: CountedRead, S: CountedRead, A: Allocator, C: Allocator, 
 #[inline(never)]
 fn over<R: CountedRead, A: Allocator>(
     reader: &mut BlockReader<R, A>,
-    stop: Stop<Refused>,
+    stop: PartStop<Refused>,
     limit: Limit,
     file: Source,
     count: u64,

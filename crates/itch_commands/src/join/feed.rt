@@ -11,7 +11,7 @@ use crate::fault::{Source, ToolFault};
 use crate::feed_part::{FeedPart, Misfit};
 use crate::reading::stopped;
 use itch_book::OrderBook;
-use itch_day::{Limit, Stop as PartStop, pass_stop, read_part};
+use itch_day::{Limit, PartStop, pass_stop, read_part};
 use itch_frame::{BlockReader, CountedRead};
 use itch_join::Joiner;
 use itch_market::{Stop, reason_of};

@@ -15,7 +15,7 @@ use crate::fault::{Source, ToolFault};
 use crate::filters::Filters;
 use crate::form::OrderForm;
 use itch_book::OrderBook;
-use itch_day::{Limit, Stop as PartStop, pass_stop, read_part};
+use itch_day::{Limit, PartStop, pass_stop, read_part};
 use itch_frame::{BlockReader, CountedRead, CountedWrite};
 use itch_market::{LocateSet, Market, Refused, Stop};
 use lines::write_head;

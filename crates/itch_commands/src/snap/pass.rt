@@ -27,8 +27,8 @@ impl<R: CountedRead, A: Allocator, B: OrderBook> Pass<R, A, B> {
     ghost use Rattle.itch_frame.specs.Reading.{Reading};
     ghost use Rattle.itch_day.specs.Parts.{GoesOn, GoesOnTo};
     ghost use Rattle.itch_day.specs.declared.limit.Limit.{Limit as AnyLimit};
-    ghost use Rattle.itch_day.specs.declared.stop.Stop.{Stop as AnyStop};
-    ghost use Rattle.itch_day.specs.declared.stop.Stop.TheVariants.{Full};
+    ghost use Rattle.itch_day.specs.declared.stop.PartStop.{PartStop as AnyStop};
+    ghost use Rattle.itch_day.specs.declared.stop.PartStop.TheVariants.{Full};
     ghost use Rattle.itch_market.specs.declared.refused.Refused.{Refused as AnyRefused};
     ghost use Rattle.itch_commands.specs.Commands.{Snaps};
     ghost use Rattle.itch_commands.specs.Points.{IsRead, ReadsMore, ReadsOn, ReadsUntil, Stands, up_to};

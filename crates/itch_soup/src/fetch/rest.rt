@@ -6,7 +6,7 @@ ghost use Rattle.itch_soup.specs.Serving.{CountsWait};
 ghost use Rattle.itch_soup.specs.FetchingRest.{KeepsMessage, KeepsPacket, ReceivesRest, FetchesRest};
 
 use crate::client::{ClientAct, ClientSession};
-use crate::connection::Stage;
+use crate::connection::SessionStage;
 use crate::fault::SoupFault;
 use crate::login::Credentials;
 use crate::origin::Origin;
@@ -91,7 +91,7 @@ fn receive<R: CountedRead, A: Allocator, B: Allocator>(
     mut session: ClientSession,
     from: Seq,
 ) -> Result<Rest<B>, SoupFault>
-    requires { session.connection.stage ≡ Stage.Before }
+    requires { session.connection.stage ≡ SessionStage.Before }
     ensures received { ReceivesRest from session (bytes_left R.remaining reader.old) (bytes_left R.remaining reader.new) result }
     ensures held { OnOk result (reader.new.held ≡ []) }
     ensures failures { CountsWait result (R.failures reader.old.reader) (R.failures reader.new.reader) }

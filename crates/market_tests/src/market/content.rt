@@ -10,13 +10,13 @@ use std::alloc::{AllocError, Allocator, Global};
 #[derive(Debug, Drop, PartialEq)]
 pub(crate) struct Content {
     pub(crate) phase: Option<u8>,
-    pub(crate) securities: Vec<Kept>,
+    pub(crate) securities: Vec<SecurityContent>,
     pub(crate) orders: Vec<Order>,
 }
 
 /// The data of the security at a locate.
 #[derive(Debug, Drop, PartialEq)]
-pub(crate) struct Kept {
+pub(crate) struct SecurityContent {
     pub(crate) locate: u16,
     pub(crate) entry: Directory,
     pub(crate) action: Option<Action>,
@@ -29,10 +29,10 @@ fn kept_at<A: Allocator>(
     alloc: Global,
     locate: u16,
     security: &Security<A>,
-) -> Result<Kept, AllocError> {
+) -> Result<SecurityContent, AllocError> {
     let halts = security.halts().collect(alloc)?;
     let positions = security.positions().collect(alloc)?;
-    Ok(Kept {
+    Ok(SecurityContent {
         locate,
         entry: security.entry,
         action: security.action,
@@ -62,7 +62,7 @@ fn push_kept<B: OrderBook>(
     alloc: Global,
     market: &Market<B>,
     locate: u16,
-    securities: &mut Vec<Kept>,
+    securities: &mut Vec<SecurityContent>,
 ) -> Result<(), AllocError> {
     if let Some(security) = market.security(locate) {
         securities.push(kept_at(alloc, locate, security)?)?;

@@ -9,7 +9,7 @@ use std::test::Fail;
 use test_doubles::messages::*;
 
 // A message, and its plainest form.
-type Row = (Made, Made);
+type MadePair = (Made, Made);
 
 // Returns a market with AAPL at locate 1, all its data set, and a bid for 100 shares with reference 1.
 fn begun<B: OrderBook>(alloc: B::Alloc) -> Result<Market<B>, Fail> {
@@ -62,7 +62,7 @@ fn check_plain<B: OrderBook>(
 }
 
 // Checks the plainest form of each message, also with another tracking number and timestamp.
-fn check_rows<B: OrderBook>(rt: &impl Host, memory: B::Alloc, rows: &[Row]) -> TestResult {
+fn check_rows<B: OrderBook>(rt: &impl Host, memory: B::Alloc, rows: &[MadePair]) -> TestResult {
     let market: Market<B> = begun(memory)?;
     for (row, (message, want)) in rows.iter().enumerate() {
         let message = made(message)?;

@@ -12,7 +12,7 @@ use test_doubles::days::{Blocks, REPLACED, blocks, replayed};
 use test_doubles::payloads::*;
 use test_doubles::{PieceReader, Refusing};
 
-type Refused<'a> = &'a Refusing<Global>;
+type RefusingMemory<'a> = &'a Refusing<Global>;
 
 // Applies a message with this allocation refused. Returns whether it was refused.
 fn refuse_one<B: OrderBook>(
@@ -124,7 +124,7 @@ fn refuse_growth<B: OrderBook>(
 #[test]
 fn a_market_of_a_list_stays_as_it_was(rt: HostRuntime) -> TestResult {
     let refusing = Refusing::new(rt.alloc(), 0);
-    let refused = refuse_growth::<ListBook<Refused<'_>>>(&rt, &refusing, &refusing)?;
+    let refused = refuse_growth::<ListBook<RefusingMemory<'_>>>(&rt, &refusing, &refusing)?;
     same(&rt, refused, 0);
     Ok(())
 }
@@ -132,7 +132,7 @@ fn a_market_of_a_list_stays_as_it_was(rt: HostRuntime) -> TestResult {
 #[test]
 fn a_market_of_an_index_stays_as_it_was(rt: HostRuntime) -> TestResult {
     let refusing = Refusing::new(rt.alloc(), 0);
-    let refused = refuse_growth::<IndexedBook<Refused<'_>>>(&rt, &refusing, &refusing)?;
+    let refused = refuse_growth::<IndexedBook<RefusingMemory<'_>>>(&rt, &refusing, &refusing)?;
     assert!(rt; refused > 0);
     Ok(())
 }
@@ -233,11 +233,11 @@ fn refuse_each_replay<B: OrderBook>(
 #[test]
 fn a_replay_stops_at_the_message(rt: HostRuntime) -> TestResult {
     let refusing = Refusing::new(rt.alloc(), 0);
-    refuse_each_replay::<IndexedBook<Refused<'_>>>(&rt, &refusing, &refusing)
+    refuse_each_replay::<IndexedBook<RefusingMemory<'_>>>(&rt, &refusing, &refusing)
 }
 
 #[test]
 fn a_replay_over_a_list_stops_at_the_message(rt: HostRuntime) -> TestResult {
     let refusing = Refusing::new(rt.alloc(), 0);
-    refuse_each_replay::<ListBook<Refused<'_>>>(&rt, &refusing, &refusing)
+    refuse_each_replay::<ListBook<RefusingMemory<'_>>>(&rt, &refusing, &refusing)
 }

@@ -76,41 +76,50 @@ const SNAPSHOT_LINES: &[u8] =
     {\"number\":4,\"type\":\"G\",\"sequence_number\":5}\n";
 
 /// The result of a command.
-pub(super) type Answer = Result<bool, ToolFault>;
+pub(super) type CommandResult = Result<bool, ToolFault>;
 
 // These call each command without its contract, so that their callers do not have to know it.
-fn checked(alloc: Global, reader: PieceReader<'_>, out: &mut FuseWriter) -> Answer {
+fn checked(alloc: Global, reader: PieceReader<'_>, out: &mut FuseWriter) -> CommandResult {
     check(alloc, reader, out)
 }
 
-fn snapped(alloc: Global, reader: PieceReader<'_>, out: &mut FuseWriter) -> Answer {
+fn snapped(alloc: Global, reader: PieceReader<'_>, out: &mut FuseWriter) -> CommandResult {
     snap(alloc, reader, None, None, out)
 }
 
-fn canonical(alloc: Global, reader: PieceReader<'_>, check: bool, out: &mut FuseWriter) -> Answer {
+fn canonical(
+    alloc: Global,
+    reader: PieceReader<'_>,
+    check: bool,
+    out: &mut FuseWriter,
+) -> CommandResult {
     canon(alloc, reader, check, out)
 }
 
-fn shown(alloc: Global, reader: PieceReader<'_>, out: &mut FuseWriter) -> Answer {
+fn shown(alloc: Global, reader: PieceReader<'_>, out: &mut FuseWriter) -> CommandResult {
     show(alloc, reader, out)
 }
 
-fn booked(alloc: Global, reader: PieceReader<'_>, out: &mut FuseWriter) -> Answer {
+fn booked(alloc: Global, reader: PieceReader<'_>, out: &mut FuseWriter) -> CommandResult {
     book(alloc, 1, reader, out)
 }
 
 // The readers for a command over two files.
 type Files<'a> = (PieceReader<'a>, PieceReader<'a>);
 
-fn compared(alloc: Global, (first, second): Files<'_>, out: &mut FuseWriter) -> Answer {
+fn compared(alloc: Global, (first, second): Files<'_>, out: &mut FuseWriter) -> CommandResult {
     compare(alloc, first, second, out)
 }
 
-fn compared_first(alloc: Global, (first, second): Files<'_>, out: &mut FuseWriter) -> Answer {
+fn compared_first(
+    alloc: Global,
+    (first, second): Files<'_>,
+    out: &mut FuseWriter,
+) -> CommandResult {
     compare_first(alloc, first, second, out)
 }
 
-fn joined(alloc: Global, (snapshot, feed): Files<'_>, out: &mut FuseWriter) -> Answer {
+fn joined(alloc: Global, (snapshot, feed): Files<'_>, out: &mut FuseWriter) -> CommandResult {
     join(alloc, snapshot, feed, None, out)
 }
 
@@ -121,7 +130,7 @@ fn performed(
     list: Option<&str>,
     reader: PieceReader<'_>,
     out: &mut FuseWriter,
-) -> Answer {
+) -> CommandResult {
     let set = match list {
         Some(list) => Some(read_locates(alloc, list)?),
         None => None,
@@ -130,7 +139,11 @@ fn performed(
     perform::<_, _, Book<Global>, _>(alloc, command, set.as_ref(), &mut reader, out)
 }
 
-fn joined_of_stocks(alloc: Global, (snapshot, feed): Files<'_>, out: &mut FuseWriter) -> Answer {
+fn joined_of_stocks(
+    alloc: Global,
+    (snapshot, feed): Files<'_>,
+    out: &mut FuseWriter,
+) -> CommandResult {
     let command = PairCommand::Join {
         part: FeedPart::whole(),
         selection: Selection::Stocks("AAPL"),
@@ -242,7 +255,7 @@ pub(super) fn perform_single(
     alloc: Global,
     bytes: &[u8],
     out: &mut FuseWriter,
-) -> Answer {
+) -> CommandResult {
     let reader = PieceReader::new(bytes, 64, None);
     match command {
         Single::Check => checked(alloc, reader, out),
@@ -268,7 +281,7 @@ pub(super) fn perform_double(
     alloc: Global,
     (first, second): (&[u8], &[u8]),
     out: &mut FuseWriter,
-) -> Answer {
+) -> CommandResult {
     let first = PieceReader::new(first, 64, None);
     let files = (first, PieceReader::new(second, 64, None));
     match command {

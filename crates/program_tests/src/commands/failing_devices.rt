@@ -1,7 +1,9 @@
 //! The write of each byte of each command's output fails: the bytes before it were written, and nothing after it. A run of the program does
 //! not show that, since its output is buffered.
 use super::blocks::file;
-use super::cases::{Answer, DAY, Double, SNAPSHOT, Single, perform_double, perform_single, wanted};
+use super::cases::{
+    CommandResult, DAY, Double, SNAPSHOT, Single, perform_double, perform_single, wanted,
+};
 use crate::equal::{Host, TestResult, holds_in, same_in};
 use itch_commands::ToolFault;
 use std::alloc::Global;
@@ -9,7 +11,7 @@ use std::test::Fail;
 use test_doubles::FuseWriter;
 
 // The write of this byte of the output failed.
-fn is_cut(rt: &impl Host, at: usize, answer: Answer, written: &[u8], wanted: &[u8]) {
+fn is_cut(rt: &impl Host, at: usize, answer: CommandResult, written: &[u8], wanted: &[u8]) {
     let has_failed = matches!(answer, Err(ToolFault::Write(_)));
     holds_in(rt, ("write", at), has_failed);
     same_in(rt, ("write", at), Some(written), wanted.get(..at));

@@ -3,7 +3,7 @@ use super::messages::{
     AAPL, ACCEPTED_1, ACCEPTED_3, ADD_1, ADD_2, ADD_AT_9, DAY, DAY_FROM_3, END_3, ENDED, EVENT,
     FEED_FROM_1, FEED_FROM_3, FEED_FROM_5, HEARTBEAT, MONDAY_FROM_1, REJECTED,
 };
-use super::steps::{Brought, Step, check, desk, take_steps};
+use super::steps::{Brought, DeskStep, check, desk, take_steps};
 use crate::equal::TestResult;
 use itch_book::IndexedBook;
 use itch_live::Desk;
@@ -14,22 +14,22 @@ use test_doubles::FuseWriter;
 type Index = IndexedBook<Global>;
 
 // The connection ends in the middle of message 3, which is requested again, in the session that was named first.
-const LOST: &[Step<'static>] = &[
-    Step::Begin,
-    Step::Feed(EVENT, Brought::Taken(2)),
-    Step::Feed(HEARTBEAT, Brought::Nothing),
-    Step::Feed(AAPL, Brought::Taken(3)),
-    Step::Feed(b"\0\x25SA\0\x01\0\0\0", Brought::Nothing),
-    Step::Next(Some(3)),
-    Step::At(2_000),
-    Step::GoOn,
-    Step::Feed(ADD_1, Brought::Taken(4)),
-    Step::Feed(ADD_2, Brought::Taken(5)),
-    Step::Feed(ENDED, Brought::Ended),
-    Step::Recorded(DAY),
-    Step::Connect(FEED_FROM_5),
-    Step::Feed(REJECTED, Brought::Rejected(b'S')),
-    Step::Next(Some(5)),
+const LOST: &[DeskStep<'static>] = &[
+    DeskStep::Begin,
+    DeskStep::Feed(EVENT, Brought::Taken(2)),
+    DeskStep::Feed(HEARTBEAT, Brought::Nothing),
+    DeskStep::Feed(AAPL, Brought::Taken(3)),
+    DeskStep::Feed(b"\0\x25SA\0\x01\0\0\0", Brought::Nothing),
+    DeskStep::Next(Some(3)),
+    DeskStep::At(2_000),
+    DeskStep::GoOn,
+    DeskStep::Feed(ADD_1, Brought::Taken(4)),
+    DeskStep::Feed(ADD_2, Brought::Taken(5)),
+    DeskStep::Feed(ENDED, Brought::Ended),
+    DeskStep::Recorded(DAY),
+    DeskStep::Connect(FEED_FROM_5),
+    DeskStep::Feed(REJECTED, Brought::Rejected(b'S')),
+    DeskStep::Next(Some(5)),
 ];
 
 #[test]
@@ -39,28 +39,28 @@ fn lost_in_a_message(rt: HostRuntime) -> TestResult {
 
 // The next day's server accepts the login in its own name: nothing of that connection is taken, though its numbers would fit. The same name
 // with other padding is the same.
-const NEXT_DAY: &[Step<'static>] = &[
-    Step::Begin,
-    Step::Feed(EVENT, Brought::Taken(2)),
-    Step::Feed(AAPL, Brought::Taken(3)),
-    Step::Connect(FEED_FROM_3),
-    Step::Feed(
+const NEXT_DAY: &[DeskStep<'static>] = &[
+    DeskStep::Begin,
+    DeskStep::Feed(EVENT, Brought::Taken(2)),
+    DeskStep::Feed(AAPL, Brought::Taken(3)),
+    DeskStep::Connect(FEED_FROM_3),
+    DeskStep::Feed(
         b"\0\x1fA   TUESDAY                   3",
         Brought::OtherSession(*b"   TUESDAY"),
     ),
-    Step::Feed(ADD_1, Brought::Broken),
-    Step::Feed(ACCEPTED_3, Brought::Broken),
-    Step::Feed(ADD_1, Brought::Broken),
-    Step::Next(Some(3)),
-    Step::Connect(FEED_FROM_3),
-    Step::Feed(
+    DeskStep::Feed(ADD_1, Brought::Broken),
+    DeskStep::Feed(ACCEPTED_3, Brought::Broken),
+    DeskStep::Feed(ADD_1, Brought::Broken),
+    DeskStep::Next(Some(3)),
+    DeskStep::Connect(FEED_FROM_3),
+    DeskStep::Feed(
         b"\0\x1fAMONDAY                       3",
         Brought::Accepted(3),
     ),
-    Step::Feed(ADD_1, Brought::Taken(4)),
-    Step::Feed(ADD_2, Brought::Taken(5)),
-    Step::Recorded(DAY),
-    Step::Connect(FEED_FROM_5),
+    DeskStep::Feed(ADD_1, Brought::Taken(4)),
+    DeskStep::Feed(ADD_2, Brought::Taken(5)),
+    DeskStep::Recorded(DAY),
+    DeskStep::Connect(FEED_FROM_5),
 ];
 
 #[test]
@@ -69,25 +69,25 @@ fn the_next_day(rt: HostRuntime) -> TestResult {
 }
 
 // A feed that begins with an earlier message than requested repeats messages, and a feed that begins with a later one is not taken.
-const ELSEWHERE: &[Step<'static>] = &[
-    Step::Begin,
-    Step::Feed(EVENT, Brought::Taken(2)),
-    Step::Feed(AAPL, Brought::Taken(3)),
-    Step::Connect(FEED_FROM_3),
-    Step::Feed(ACCEPTED_1, Brought::Accepted(1)),
-    Step::Feed(EVENT, Brought::Nothing),
-    Step::Feed(AAPL, Brought::Nothing),
-    Step::Feed(ADD_1, Brought::Taken(4)),
-    Step::Feed(ADD_2, Brought::Taken(5)),
-    Step::Recorded(DAY),
-    Step::Connect(FEED_FROM_5),
-    Step::Feed(
+const ELSEWHERE: &[DeskStep<'static>] = &[
+    DeskStep::Begin,
+    DeskStep::Feed(EVENT, Brought::Taken(2)),
+    DeskStep::Feed(AAPL, Brought::Taken(3)),
+    DeskStep::Connect(FEED_FROM_3),
+    DeskStep::Feed(ACCEPTED_1, Brought::Accepted(1)),
+    DeskStep::Feed(EVENT, Brought::Nothing),
+    DeskStep::Feed(AAPL, Brought::Nothing),
+    DeskStep::Feed(ADD_1, Brought::Taken(4)),
+    DeskStep::Feed(ADD_2, Brought::Taken(5)),
+    DeskStep::Recorded(DAY),
+    DeskStep::Connect(FEED_FROM_5),
+    DeskStep::Feed(
         b"\0\x1fA    MONDAY                   7",
         Brought::Accepted(7),
     ),
-    Step::Feed(ADD_1, Brought::OutOfOrder),
-    Step::Next(Some(5)),
-    Step::Recorded(DAY),
+    DeskStep::Feed(ADD_1, Brought::OutOfOrder),
+    DeskStep::Next(Some(5)),
+    DeskStep::Recorded(DAY),
 ];
 
 #[test]
@@ -96,21 +96,21 @@ fn begun_elsewhere(rt: HostRuntime) -> TestResult {
 }
 
 // The snapshot of a GLIMPSE server, lost once, and then the feed from its number on, in the session that the GLIMPSE server named.
-const GLIMPSE: &[Step<'static>] = &[
-    Step::Next(None),
-    Step::Begin,
-    Step::Feed(EVENT, Brought::Nothing),
-    Step::Connect(MONDAY_FROM_1),
-    Step::Feed(ACCEPTED_1, Brought::Accepted(1)),
-    Step::Feed(EVENT, Brought::Nothing),
-    Step::Feed(AAPL, Brought::Nothing),
-    Step::Feed(END_3, Brought::Joined(3)),
-    Step::Next(Some(3)),
-    Step::GoOn,
-    Step::Feed(ADD_1, Brought::Taken(4)),
-    Step::Feed(ADD_2, Brought::Taken(5)),
-    Step::Recorded(DAY_FROM_3),
-    Step::Connect(FEED_FROM_5),
+const GLIMPSE: &[DeskStep<'static>] = &[
+    DeskStep::Next(None),
+    DeskStep::Begin,
+    DeskStep::Feed(EVENT, Brought::Nothing),
+    DeskStep::Connect(MONDAY_FROM_1),
+    DeskStep::Feed(ACCEPTED_1, Brought::Accepted(1)),
+    DeskStep::Feed(EVENT, Brought::Nothing),
+    DeskStep::Feed(AAPL, Brought::Nothing),
+    DeskStep::Feed(END_3, Brought::Joined(3)),
+    DeskStep::Next(Some(3)),
+    DeskStep::GoOn,
+    DeskStep::Feed(ADD_1, Brought::Taken(4)),
+    DeskStep::Feed(ADD_2, Brought::Taken(5)),
+    DeskStep::Recorded(DAY_FROM_3),
+    DeskStep::Connect(FEED_FROM_5),
 ];
 
 #[test]
@@ -118,14 +118,14 @@ fn begun_with_a_snapshot(rt: HostRuntime) -> TestResult {
     check::<Index>(&rt, rt.alloc(), true, GLIMPSE)
 }
 
-const SILENT: &[Step<'static>] = &[
-    Step::Connect(FEED_FROM_1),
-    Step::FeedTick(Tick::Nothing),
-    Step::Feed(ACCEPTED_1, Brought::Accepted(1)),
-    Step::FeedTickAt(1_000, Tick::Nothing),
-    Step::FeedTickAt(1_001, Tick::Heartbeat),
-    Step::FeedTickAt(14_999, Tick::Heartbeat),
-    Step::FeedTickAt(15_000, Tick::Lost),
+const SILENT: &[DeskStep<'static>] = &[
+    DeskStep::Connect(FEED_FROM_1),
+    DeskStep::FeedTick(Tick::Nothing),
+    DeskStep::Feed(ACCEPTED_1, Brought::Accepted(1)),
+    DeskStep::FeedTickAt(1_000, Tick::Nothing),
+    DeskStep::FeedTickAt(1_001, Tick::Heartbeat),
+    DeskStep::FeedTickAt(14_999, Tick::Heartbeat),
+    DeskStep::FeedTickAt(15_000, Tick::Lost),
 ];
 
 #[test]
@@ -134,13 +134,13 @@ fn silent(rt: HostRuntime) -> TestResult {
 }
 
 // A packet of an unknown type, and an order at a locate that the feed has not named: the joiner refuses it permanently.
-const BROKEN: &[Step<'static>] = &[
-    Step::Connect(FEED_FROM_1),
-    Step::Feed(b"\0\x01Q", Brought::Broken),
-    Step::Begin,
-    Step::Feed(ADD_AT_9, Brought::Refused),
-    Step::Next(Some(1)),
-    Step::Recorded(b""),
+const BROKEN: &[DeskStep<'static>] = &[
+    DeskStep::Connect(FEED_FROM_1),
+    DeskStep::Feed(b"\0\x01Q", Brought::Broken),
+    DeskStep::Begin,
+    DeskStep::Feed(ADD_AT_9, Brought::Refused),
+    DeskStep::Next(Some(1)),
+    DeskStep::Recorded(b""),
 ];
 
 #[test]
@@ -149,11 +149,11 @@ fn broken(rt: HostRuntime) -> TestResult {
 }
 
 // The second write fails, which is that of the payload: the market has the message, and the record only its length.
-const UNRECORDED: &[Step<'static>] = &[
-    Step::Begin,
-    Step::Feed(EVENT, Brought::Unrecorded),
-    Step::Next(Some(2)),
-    Step::Recorded(b"\0\x0c"),
+const UNRECORDED: &[DeskStep<'static>] = &[
+    DeskStep::Begin,
+    DeskStep::Feed(EVENT, Brought::Unrecorded),
+    DeskStep::Next(Some(2)),
+    DeskStep::Recorded(b"\0\x0c"),
 ];
 
 #[test]

@@ -1,6 +1,6 @@
 //! Each allocation refused in turn: the state is unchanged, and the same call succeeds with memory.
 use super::messages::{AAPL, ADD_1, EVENT, LOGIN, SNAPSHOT_2, WELCOME};
-use super::steps::{Brought, Standing, Step, config, desk, take_steps};
+use super::steps::{Brought, DeskStep, Standing, config, desk, take_steps};
 use crate::equal::{Host, TestResult, holds_in, same_in};
 use itch_book::{IndexedBook, OrderBook};
 use itch_live::Desk;
@@ -12,10 +12,10 @@ type Index<'a> = IndexedBook<&'a Refusing<Global>>;
 // More allocations than any test makes: none is refused.
 const NONE: u64 = 1_000_000;
 
-const TWO_MESSAGES: &[Step<'static>] = &[
-    Step::Begin,
-    Step::Feed(EVENT, Brought::Taken(2)),
-    Step::Feed(AAPL, Brought::Taken(3)),
+const TWO_MESSAGES: &[DeskStep<'static>] = &[
+    DeskStep::Begin,
+    DeskStep::Feed(EVENT, Brought::Taken(2)),
+    DeskStep::Feed(AAPL, Brought::Taken(3)),
 ];
 
 // Creates a desk with each of its allocations refused in turn. Returns how many were refused.
@@ -78,18 +78,18 @@ fn check_clients<B: OrderBook>(
     take_steps(rt, &mut desk, &mut record, TWO_MESSAGES)?;
     holds_in(rt, 3, refuse_client(rt, refusing, &mut desk) > 0);
     refusing.arm(0);
-    take_steps(rt, &mut desk, &mut record, &[Step::Hear(0, LOGIN)])?;
+    take_steps(rt, &mut desk, &mut record, &[DeskStep::Hear(0, LOGIN)])?;
     holds_in(rt, 4, !refusing.has_refused());
     holds_in(rt, 5, refuse_answer(rt, refusing, &mut desk) > 1);
     refusing.arm(0);
     let rest = [
-        Step::Take(0, 33),
-        Step::Pending(0, SNAPSHOT_2),
-        Step::Take(0, 84),
-        Step::Stands(0, Standing::Closing),
-        Step::Tick,
-        Step::Leave(0),
-        Step::Answer,
+        DeskStep::Take(0, 33),
+        DeskStep::Pending(0, SNAPSHOT_2),
+        DeskStep::Take(0, 84),
+        DeskStep::Stands(0, Standing::Closing),
+        DeskStep::Tick,
+        DeskStep::Leave(0),
+        DeskStep::Answer,
     ];
     take_steps(rt, &mut desk, &mut record, &rest)?;
     holds_in(rt, 6, !refusing.has_refused());
@@ -105,12 +105,12 @@ fn a_desk_and_its_clients(rt: HostRuntime) -> TestResult {
 }
 
 // A message for which memory is refused is requested again.
-const REFUSED_AT_3: &[Step<'static>] = &[
-    Step::Feed(ADD_1, Brought::NoMemory),
-    Step::Next(Some(3)),
-    Step::GoOn,
-    Step::Feed(ADD_1, Brought::Taken(4)),
-    Step::Next(Some(4)),
+const REFUSED_AT_3: &[DeskStep<'static>] = &[
+    DeskStep::Feed(ADD_1, Brought::NoMemory),
+    DeskStep::Next(Some(3)),
+    DeskStep::GoOn,
+    DeskStep::Feed(ADD_1, Brought::Taken(4)),
+    DeskStep::Next(Some(4)),
 ];
 
 fn check_feed<B: OrderBook>(

@@ -4,7 +4,7 @@ use super::messages::{
     FEED_FROM_3_BLANK, MONDAY_FROM_1, SNAPSHOTS_1, SNAPSHOTS_FROM_1, TUESDAY_1, TUESDAY_3,
 };
 use super::steps::{
-    Brought, Step, UNKNOWN, credentials, desk_of, feed, follower_of, known, take_steps,
+    Brought, DeskStep, UNKNOWN, credentials, desk_of, feed, follower_of, known, take_steps,
 };
 use crate::equal::{Host, TestResult, same_in};
 use itch_book::{IndexedBook, OrderBook};
@@ -21,7 +21,7 @@ fn check<B: OrderBook>(
     memory: B::Alloc,
     (feed, glimpse): (Option<&str>, Option<&str>),
     has_glimpse: bool,
-    steps: &[Step<'_>],
+    steps: &[DeskStep<'_>],
 ) -> TestResult {
     let sessions = known(rt, feed, glimpse);
     let mut desk: Desk<B> = desk_of(rt, memory, sessions, has_glimpse, 1)?;
@@ -30,20 +30,20 @@ fn check<B: OrderBook>(
 }
 
 // The first login is for the known session, and nothing is taken from a server that accepts it in another name.
-const BEFOREHAND: &[Step<'static>] = &[
-    Step::Session(Some(b"MONDAY    ")),
-    Step::Connect(MONDAY_FROM_1),
-    Step::Feed(TUESDAY_1, TUESDAY),
-    Step::Feed(EVENT, Brought::Broken),
-    Step::Next(Some(1)),
-    Step::Connect(MONDAY_FROM_1),
-    Step::Feed(ACCEPTED_1, Brought::Accepted(1)),
-    Step::Feed(EVENT, Brought::Taken(2)),
-    Step::Feed(AAPL, Brought::Taken(3)),
-    Step::Feed(ADD_1, Brought::Taken(4)),
-    Step::Feed(ADD_2, Brought::Taken(5)),
-    Step::Session(Some(b"MONDAY    ")),
-    Step::Recorded(DAY),
+const BEFOREHAND: &[DeskStep<'static>] = &[
+    DeskStep::Session(Some(b"MONDAY    ")),
+    DeskStep::Connect(MONDAY_FROM_1),
+    DeskStep::Feed(TUESDAY_1, TUESDAY),
+    DeskStep::Feed(EVENT, Brought::Broken),
+    DeskStep::Next(Some(1)),
+    DeskStep::Connect(MONDAY_FROM_1),
+    DeskStep::Feed(ACCEPTED_1, Brought::Accepted(1)),
+    DeskStep::Feed(EVENT, Brought::Taken(2)),
+    DeskStep::Feed(AAPL, Brought::Taken(3)),
+    DeskStep::Feed(ADD_1, Brought::Taken(4)),
+    DeskStep::Feed(ADD_2, Brought::Taken(5)),
+    DeskStep::Session(Some(b"MONDAY    ")),
+    DeskStep::Recorded(DAY),
 ];
 
 #[test]
@@ -52,18 +52,18 @@ fn known_beforehand(rt: HostRuntime) -> TestResult {
 }
 
 // The session that a snapshot server names first is the feed's: a feed of another day is not joined to the snapshot.
-const NAMED: &[Step<'static>] = &[
-    Step::Session(None),
-    Step::Begin,
-    Step::Session(Some(b"    MONDAY")),
-    Step::Feed(EVENT, Brought::Nothing),
-    Step::Feed(AAPL, Brought::Nothing),
-    Step::Feed(END_3, Brought::Joined(3)),
-    Step::Connect(FEED_FROM_3),
-    Step::Feed(TUESDAY_3, TUESDAY),
-    Step::Feed(ADD_1, Brought::Broken),
-    Step::Next(Some(3)),
-    Step::Recorded(b""),
+const NAMED: &[DeskStep<'static>] = &[
+    DeskStep::Session(None),
+    DeskStep::Begin,
+    DeskStep::Session(Some(b"    MONDAY")),
+    DeskStep::Feed(EVENT, Brought::Nothing),
+    DeskStep::Feed(AAPL, Brought::Nothing),
+    DeskStep::Feed(END_3, Brought::Joined(3)),
+    DeskStep::Connect(FEED_FROM_3),
+    DeskStep::Feed(TUESDAY_3, TUESDAY),
+    DeskStep::Feed(ADD_1, Brought::Broken),
+    DeskStep::Next(Some(3)),
+    DeskStep::Recorded(b""),
 ];
 
 #[test]
@@ -72,15 +72,15 @@ fn named_by_the_snapshot(rt: HostRuntime) -> TestResult {
 }
 
 // A snapshot of another day than the known one is not taken.
-const ANOTHER_DAY: &[Step<'static>] = &[
-    Step::Connect(MONDAY_FROM_1),
-    Step::Feed(TUESDAY_1, TUESDAY),
-    Step::Feed(EVENT, Brought::Broken),
-    Step::Connect(MONDAY_FROM_1),
-    Step::Feed(ACCEPTED_1, Brought::Accepted(1)),
-    Step::Feed(EVENT, Brought::Nothing),
-    Step::Feed(AAPL, Brought::Nothing),
-    Step::Feed(END_3, Brought::Joined(3)),
+const ANOTHER_DAY: &[DeskStep<'static>] = &[
+    DeskStep::Connect(MONDAY_FROM_1),
+    DeskStep::Feed(TUESDAY_1, TUESDAY),
+    DeskStep::Feed(EVENT, Brought::Broken),
+    DeskStep::Connect(MONDAY_FROM_1),
+    DeskStep::Feed(ACCEPTED_1, Brought::Accepted(1)),
+    DeskStep::Feed(EVENT, Brought::Nothing),
+    DeskStep::Feed(AAPL, Brought::Nothing),
+    DeskStep::Feed(END_3, Brought::Joined(3)),
 ];
 
 #[test]
@@ -89,19 +89,19 @@ fn a_snapshot_of_another_day(rt: HostRuntime) -> TestResult {
 }
 
 // A snapshot server with its own name for the session must accept in that name, which does not name the feed's session.
-const TWO_NAMES: &[Step<'static>] = &[
-    Step::Connect(SNAPSHOTS_FROM_1),
-    Step::Feed(ACCEPTED_1, Brought::OtherSession(*b"    MONDAY")),
-    Step::Connect(SNAPSHOTS_FROM_1),
-    Step::Feed(SNAPSHOTS_1, Brought::Accepted(1)),
-    Step::Session(None),
-    Step::Feed(EVENT, Brought::Nothing),
-    Step::Feed(AAPL, Brought::Nothing),
-    Step::Feed(END_3, Brought::Joined(3)),
-    Step::Connect(FEED_FROM_3_BLANK),
-    Step::Feed(ACCEPTED_3, Brought::Accepted(3)),
-    Step::Session(Some(b"    MONDAY")),
-    Step::Feed(ADD_1, Brought::Taken(4)),
+const TWO_NAMES: &[DeskStep<'static>] = &[
+    DeskStep::Connect(SNAPSHOTS_FROM_1),
+    DeskStep::Feed(ACCEPTED_1, Brought::OtherSession(*b"    MONDAY")),
+    DeskStep::Connect(SNAPSHOTS_FROM_1),
+    DeskStep::Feed(SNAPSHOTS_1, Brought::Accepted(1)),
+    DeskStep::Session(None),
+    DeskStep::Feed(EVENT, Brought::Nothing),
+    DeskStep::Feed(AAPL, Brought::Nothing),
+    DeskStep::Feed(END_3, Brought::Joined(3)),
+    DeskStep::Connect(FEED_FROM_3_BLANK),
+    DeskStep::Feed(ACCEPTED_3, Brought::Accepted(3)),
+    DeskStep::Session(Some(b"    MONDAY")),
+    DeskStep::Feed(ADD_1, Brought::Taken(4)),
 ];
 
 #[test]
@@ -109,13 +109,13 @@ fn two_names(rt: HostRuntime) -> TestResult {
     check::<Index>(&rt, rt.alloc(), (None, Some("SNAPSHOTS")), true, TWO_NAMES)
 }
 
-const GONE_ON: &[Step<'static>] = &[
-    Step::Session(Some(b"    MONDAY")),
-    Step::Next(Some(3)),
-    Step::Admit(Some(0)),
-    Step::Feed(ADD_1, Brought::Taken(4)),
-    Step::Feed(ADD_2, Brought::Taken(5)),
-    Step::Recorded(DAY),
+const GONE_ON: &[DeskStep<'static>] = &[
+    DeskStep::Session(Some(b"    MONDAY")),
+    DeskStep::Next(Some(3)),
+    DeskStep::Admit(Some(0)),
+    DeskStep::Feed(ADD_1, Brought::Taken(4)),
+    DeskStep::Feed(ADD_2, Brought::Taken(5)),
+    DeskStep::Recorded(DAY),
 ];
 
 fn check_connected<B: OrderBook>(rt: &impl Host, memory: B::Alloc) -> TestResult {

@@ -12,7 +12,7 @@ use test_doubles::FuseWriter;
 
 /// An action, or an expected result.
 #[derive(Clone, Copy)]
-pub(crate) enum Step<'a> {
+pub(crate) enum DeskStep<'a> {
     /// Sets the time.
     At(u64),
     /// A connection to the feed begins with this login.
@@ -273,31 +273,31 @@ pub(crate) fn take_step<B: OrderBook>(
     desk: &mut Desk<B>,
     record: &mut FuseWriter,
     (at, now): (usize, u64),
-    step: Step<'_>,
+    step: DeskStep<'_>,
 ) -> Result<u64, Fail> {
     match step {
-        Step::At(now) => return Ok(now),
-        Step::Connect(login) => same_in(
+        DeskStep::At(now) => return Ok(now),
+        DeskStep::Connect(login) => same_in(
             rt,
             at,
             &desk.follower_mut().connect(credentials(rt), now)[..],
             login,
         ),
-        Step::Begin => begin(rt, desk, record, (at, now), (FEED_FROM_1, ACCEPTED_1, 1)),
-        Step::GoOn => begin(rt, desk, record, (at, now), (FEED_FROM_3, ACCEPTED_3, 3)),
-        Step::Feed(bytes, want) => {
+        DeskStep::Begin => begin(rt, desk, record, (at, now), (FEED_FROM_1, ACCEPTED_1, 1)),
+        DeskStep::GoOn => begin(rt, desk, record, (at, now), (FEED_FROM_3, ACCEPTED_3, 3)),
+        DeskStep::Feed(bytes, want) => {
             let brought = feed(desk.follower_mut(), bytes, 7, now, record);
             same_in(rt, at, brought, want);
         }
-        Step::FeedTick(want) => same_in(rt, at, desk.follower_mut().tick(now), want),
-        Step::FeedTickAt(now, want) => {
+        DeskStep::FeedTick(want) => same_in(rt, at, desk.follower_mut().tick(now), want),
+        DeskStep::FeedTickAt(now, want) => {
             same_in(rt, at, desk.follower_mut().tick(now), want);
             return Ok(now);
         }
-        Step::Next(want) => same_in(rt, at, desk.follower().next(), want),
-        Step::Session(want) => holds_in(rt, at, is_session(desk, want)),
-        Step::Recorded(want) => same_in(rt, at, record.written(), want),
-        Step::TickAt(now) => {
+        DeskStep::Next(want) => same_in(rt, at, desk.follower().next(), want),
+        DeskStep::Session(want) => holds_in(rt, at, is_session(desk, want)),
+        DeskStep::Recorded(want) => same_in(rt, at, record.written(), want),
+        DeskStep::TickAt(now) => {
             desk.tick(now);
             return Ok(now);
         }
@@ -311,25 +311,25 @@ fn take_client_step<B: OrderBook>(
     rt: &impl Host,
     desk: &mut Desk<B>,
     (at, now): (usize, u64),
-    step: Step<'_>,
+    step: DeskStep<'_>,
 ) -> TestResult {
     match step {
-        Step::Admit(want) => same_in(rt, at, desk.admit(config(rt), now)?, want),
-        Step::Hear(place, bytes) => same_in(rt, at, hear(desk, place, bytes, now), bytes.len()),
-        Step::Login(place) => {
+        DeskStep::Admit(want) => same_in(rt, at, desk.admit(config(rt), now)?, want),
+        DeskStep::Hear(place, bytes) => same_in(rt, at, hear(desk, place, bytes, now), bytes.len()),
+        DeskStep::Login(place) => {
             same_in(rt, at, hear(desk, place, LOGIN, now), LOGIN.len());
             holds_in(rt, at, take(desk, place, WELCOME.len(), now));
         }
-        Step::Answer => desk.answer(u64::MAX, now)?,
-        Step::AnswerWithin(limit) => desk.answer(limit, now)?,
-        Step::Kept(want) => same_in(rt, at, desk.snapshot_bytes(), want),
-        Step::Pending(place, want) => same_in(rt, at, desk.pending(place), want),
-        Step::Take(place, count) => holds_in(rt, at, take(desk, place, count, now)),
-        Step::Tick => desk.tick(now),
-        Step::Stands(place, want) => same_in(rt, at, stands_at(desk, place), want),
-        Step::Accepted(place, want) => same_in(rt, at, is_accepted_at(desk, place), want),
-        Step::Rejected(place, want) => same_in(rt, at, rejection_at(desk, place), want),
-        Step::Leave(place) => desk.leave(place),
+        DeskStep::Answer => desk.answer(u64::MAX, now)?,
+        DeskStep::AnswerWithin(limit) => desk.answer(limit, now)?,
+        DeskStep::Kept(want) => same_in(rt, at, desk.snapshot_bytes(), want),
+        DeskStep::Pending(place, want) => same_in(rt, at, desk.pending(place), want),
+        DeskStep::Take(place, count) => holds_in(rt, at, take(desk, place, count, now)),
+        DeskStep::Tick => desk.tick(now),
+        DeskStep::Stands(place, want) => same_in(rt, at, stands_at(desk, place), want),
+        DeskStep::Accepted(place, want) => same_in(rt, at, is_accepted_at(desk, place), want),
+        DeskStep::Rejected(place, want) => same_in(rt, at, rejection_at(desk, place), want),
+        DeskStep::Leave(place) => desk.leave(place),
         _ => panic!(rt; "step {at} is not of a client"),
     }
     Ok(())
@@ -340,7 +340,7 @@ pub(crate) fn take_steps<B: OrderBook>(
     rt: &impl Host,
     desk: &mut Desk<B>,
     record: &mut FuseWriter,
-    steps: &[Step<'_>],
+    steps: &[DeskStep<'_>],
 ) -> TestResult {
     let mut now = 0;
     for at in 0..steps.len() {
@@ -354,7 +354,7 @@ pub(crate) fn check<B: OrderBook>(
     rt: &impl Host,
     memory: B::Alloc,
     glimpse: bool,
-    steps: &[Step<'_>],
+    steps: &[DeskStep<'_>],
 ) -> TestResult {
     let mut desk: Desk<B> = desk(rt, memory, glimpse)?;
     let mut record = FuseWriter::new(rt.alloc(), 5, None);

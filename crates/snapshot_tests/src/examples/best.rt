@@ -25,9 +25,9 @@ const QUOTES: &[&[u8]] = &[
 ];
 
 // A bid and an offer.
-type Prices = (Option<u32>, Option<u32>);
+type BestPrices = (Option<u32>, Option<u32>);
 
-const CHANGES: [(u64, Prices); 6] = [
+const CHANGES: [(u64, BestPrices); 6] = [
     (4, (Some(1_500_000), None)),
     (5, (Some(1_500_000), Some(1_501_000))),
     (6, (Some(1_500_500), Some(1_501_000))),
@@ -46,7 +46,7 @@ fn follow<R: CountedRead + Drop, B: OrderBook>(
     memory: B::Alloc,
     reader: R,
     locate: u16,
-) -> Result<Vec<(u64, Prices)>, Fail> {
+) -> Result<Vec<(u64, BestPrices)>, Fail> {
     let mut blocks = BlockReader::new(alloc, reader)?;
     let mut market: Market<B> = Market::new(memory);
     let mut changes = Vec::new(alloc);

@@ -1,6 +1,6 @@
 //! Each growth of a joiner refused in turn, and the calls that allocate no memory.
 use super::{
-    BEFORE_6, JOINED_AT_3, READ_2, Step, check_market, joiner, live, read, snapshot, stands,
+    BEFORE_6, JOINED_AT_3, JoinStep, READ_2, check_market, joiner, live, read, snapshot, stands,
     take_steps,
 };
 use crate::equal::{Host, TestResult, same};
@@ -123,24 +123,24 @@ const FOUR_ORDERS: &[&[u8]] = &[AAPL, ADD_1, ADD_2, SELL_3, NAMED_5];
 const LEFT: &[&[u8]] = &[AAPL, ADD_2, ADD_4, NAMED_5];
 
 // Messages 7 and 8 wait, and the snapshot contains the first five.
-const JOINED_AT_6: &[Step<'static>] = &[
-    Step::Live(8, DELETE_3, Ok(Live::Kept)),
-    Step::Live(7, REPLACE_1_BY_4, Ok(Live::Kept)),
-    Step::Read(FOUR_ORDERS),
-    Step::Snapshot(END_6, Ok(Snap::Joined { next: 6 })),
+const JOINED_AT_6: &[JoinStep<'static>] = &[
+    JoinStep::Live(8, DELETE_3, Ok(Live::Kept)),
+    JoinStep::Live(7, REPLACE_1_BY_4, Ok(Live::Kept)),
+    JoinStep::Read(FOUR_ORDERS),
+    JoinStep::Snapshot(END_6, Ok(Snap::Joined { next: 6 })),
 ];
 
 // Message 7, which waits already, is refused when it is delivered again, and then applied by `resume`.
-const REFUSED_AT_7: &[Step<'static>] = &[
-    Step::Live(7, REPLACE_1_BY_4, Err(TAKEN)),
-    Step::Stands(Some(7), 2),
+const REFUSED_AT_7: &[JoinStep<'static>] = &[
+    JoinStep::Live(7, REPLACE_1_BY_4, Err(TAKEN)),
+    JoinStep::Stands(Some(7), 2),
 ];
 
-const RESUMED_AT_7: &[Step<'static>] = &[
-    Step::Resume(Err(NOT_TAKEN)),
-    Step::Stands(Some(7), 2),
-    Step::Resume(Ok(Some(9))),
-    Step::Stands(Some(9), 0),
+const RESUMED_AT_7: &[JoinStep<'static>] = &[
+    JoinStep::Resume(Err(NOT_TAKEN)),
+    JoinStep::Stands(Some(7), 2),
+    JoinStep::Resume(Ok(Some(9))),
+    JoinStep::Stands(Some(9), 0),
 ];
 
 fn resume_at_7<B: OrderBook>(
@@ -243,11 +243,11 @@ fn check_end<B: OrderBook>(
     read(rt, &mut joiner, &[EVENT, AAPL]);
     refusing.arm(0);
     let steps = [
-        Step::Snapshot(END_3, Err(TAKEN)),
-        Step::Stands(Some(3), 1),
-        Step::Snapshot(END_3, Err(JoinFault::Joined)),
-        Step::Resume(Ok(Some(4))),
-        Step::Market(&[EVENT, AAPL, ADD_1]),
+        JoinStep::Snapshot(END_3, Err(TAKEN)),
+        JoinStep::Stands(Some(3), 1),
+        JoinStep::Snapshot(END_3, Err(JoinFault::Joined)),
+        JoinStep::Resume(Ok(Some(4))),
+        JoinStep::Market(&[EVENT, AAPL, ADD_1]),
     ];
     take_steps(rt, &mut joiner, &steps)
 }
@@ -259,30 +259,30 @@ fn the_end_of_the_snapshot(rt: HostRuntime) -> TestResult {
 }
 
 // No call allocates memory before the second message.
-const BEFORE_MEMORY: &[Step<'static>] = &[
-    Step::Restart,
-    Step::Resume(Ok(None)),
-    Step::Stands(None, 0),
-    Step::Live(0, EVENT, Err(JoinFault::BadNumber)),
-    Step::Snapshot(EVENT, Ok(Snap::More)),
+const BEFORE_MEMORY: &[JoinStep<'static>] = &[
+    JoinStep::Restart,
+    JoinStep::Resume(Ok(None)),
+    JoinStep::Stands(None, 0),
+    JoinStep::Live(0, EVENT, Err(JoinFault::BadNumber)),
+    JoinStep::Snapshot(EVENT, Ok(Snap::More)),
 ];
 
 // The second message, and the fourth, which waits.
-const WITH_MEMORY: &[Step<'static>] = &[
-    Step::Snapshot(AAPL, Ok(Snap::More)),
-    Step::Live(4, CLOSES, Ok(Live::Kept)),
+const WITH_MEMORY: &[JoinStep<'static>] = &[
+    JoinStep::Snapshot(AAPL, Ok(Snap::More)),
+    JoinStep::Live(4, CLOSES, Ok(Live::Kept)),
 ];
 
 // No call allocates memory after that.
-const AFTER_MEMORY: &[Step<'static>] = &[
-    Step::Live(4, CLOSES, Ok(Live::Kept)),
-    Step::Live(4, EVENT, Err(JoinFault::Conflict { number: 4 })),
-    Step::Live(5, EVENT, Err(JoinFault::Full { cap: 1 })),
-    Step::Snapshot(END_3, Ok(Snap::Joined { next: 3 })),
-    Step::Live(1, EVENT, Ok(Live::Old)),
-    Step::Live(3, EVENT, Ok(Live::Applied { next: 5 })),
-    Step::Live(5, ADD_1_AT_9, Err(HALTED_AT_5)),
-    Step::Resume(Err(HALTED_AT_5)),
+const AFTER_MEMORY: &[JoinStep<'static>] = &[
+    JoinStep::Live(4, CLOSES, Ok(Live::Kept)),
+    JoinStep::Live(4, EVENT, Err(JoinFault::Conflict { number: 4 })),
+    JoinStep::Live(5, EVENT, Err(JoinFault::Full { cap: 1 })),
+    JoinStep::Snapshot(END_3, Ok(Snap::Joined { next: 3 })),
+    JoinStep::Live(1, EVENT, Ok(Live::Old)),
+    JoinStep::Live(3, EVENT, Ok(Live::Applied { next: 5 })),
+    JoinStep::Live(5, ADD_1_AT_9, Err(HALTED_AT_5)),
+    JoinStep::Resume(Err(HALTED_AT_5)),
 ];
 
 fn check_without_memory<B: OrderBook>(

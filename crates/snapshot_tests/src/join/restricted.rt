@@ -1,5 +1,5 @@
 //! Joiners restricted to a set of locates.
-use super::{Step, take_steps};
+use super::{JoinStep, take_steps};
 use crate::equal::{Host, TestResult};
 use itch_book::{IndexedBook, OrderBook};
 use itch_codec::CodecFault;
@@ -12,7 +12,7 @@ fn check<B: OrderBook>(
     rt: &impl Host,
     memory: B::Alloc,
     cap: usize,
-    steps: &[Step<'_>],
+    steps: &[JoinStep<'_>],
 ) -> TestResult {
     let mut set = LocateSet::new(memory);
     set.insert(1)?;
@@ -24,14 +24,14 @@ fn check<B: OrderBook>(
 #[test]
 fn counts_what_it_skips(rt: HostRuntime) -> TestResult {
     let steps = [
-        Step::Live(8, ADD_2, Ok(Live::Kept)),
-        Step::Read(&[EVENT, ADD_1_AT_9, AAPL, MSFT]),
-        Step::Snapshot(END_6, Ok(Snap::Joined { next: 6 })),
-        Step::Live(7, ADD_1_AT_9, Ok(Live::Kept)),
-        Step::Live(6, ADD_1, Ok(Live::Applied { next: 9 })),
-        Step::Live(9, ADD_1_AT_9, Ok(Live::Applied { next: 10 })),
-        Step::Stands(Some(10), 0),
-        Step::Market(&[EVENT, AAPL, ADD_1, ADD_2]),
+        JoinStep::Live(8, ADD_2, Ok(Live::Kept)),
+        JoinStep::Read(&[EVENT, ADD_1_AT_9, AAPL, MSFT]),
+        JoinStep::Snapshot(END_6, Ok(Snap::Joined { next: 6 })),
+        JoinStep::Live(7, ADD_1_AT_9, Ok(Live::Kept)),
+        JoinStep::Live(6, ADD_1, Ok(Live::Applied { next: 9 })),
+        JoinStep::Live(9, ADD_1_AT_9, Ok(Live::Applied { next: 10 })),
+        JoinStep::Stands(Some(10), 0),
+        JoinStep::Market(&[EVENT, AAPL, ADD_1, ADD_2]),
     ];
     check::<IndexedBook>(&rt, rt.alloc(), 2, &steps)
 }
@@ -40,12 +40,12 @@ fn counts_what_it_skips(rt: HostRuntime) -> TestResult {
 fn check_halt(rt: &impl Host, payload: &[u8], cause: Cause) -> TestResult {
     let halted = JoinFault::Halted { number: 4, cause };
     let steps = [
-        Step::Read(&[EVENT, MSFT]),
-        Step::Snapshot(END_3, Ok(Snap::Joined { next: 3 })),
-        Step::Live(3, ADD_1_AT_9, Ok(Live::Applied { next: 4 })),
-        Step::Live(4, payload, Err(halted)),
-        Step::Stands(Some(4), 0),
-        Step::Market(&[EVENT]),
+        JoinStep::Read(&[EVENT, MSFT]),
+        JoinStep::Snapshot(END_3, Ok(Snap::Joined { next: 3 })),
+        JoinStep::Live(3, ADD_1_AT_9, Ok(Live::Applied { next: 4 })),
+        JoinStep::Live(4, payload, Err(halted)),
+        JoinStep::Stands(Some(4), 0),
+        JoinStep::Market(&[EVENT]),
     ];
     check::<IndexedBook>(rt, rt.alloc(), 0, &steps)
 }

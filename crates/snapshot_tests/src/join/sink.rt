@@ -2,7 +2,7 @@
 use super::{BEFORE_6, check_market, joiner, read, snapshot, stands};
 use crate::equal::{Host, TestResult, same};
 use itch_book::{IndexedBook, OrderBook};
-use itch_day::{Limit, Stop, read_part};
+use itch_day::{Limit, PartStop, read_part};
 use itch_frame::BlockReader;
 use itch_join::{Joiner, Snap};
 use itch_market::{Refusal, Refused};
@@ -14,16 +14,16 @@ use test_doubles::payloads::*;
 const NOTHING: &[u8] = b"A";
 
 // Returns a word for a stop.
-fn word(stop: &Stop<Refused>) -> &'static str {
+fn word(stop: &PartStop<Refused>) -> &'static str {
     match stop {
-        Stop::Full => "full",
-        Stop::Late => "late",
-        Stop::End => "end",
-        Stop::Frame(_) => "frame",
-        Stop::TooMany => "too many",
-        Stop::Refused(Refused::Codec(_)) => "undecoded",
-        Stop::Refused(Refused::Rule(Refusal::UnknownLocate)) => "unknown locate",
-        Stop::Refused(Refused::Rule(_)) => "another rule",
+        PartStop::Full => "full",
+        PartStop::Late => "late",
+        PartStop::End => "end",
+        PartStop::Frame(_) => "frame",
+        PartStop::TooMany => "too many",
+        PartStop::Refused(Refused::Codec(_)) => "undecoded",
+        PartStop::Refused(Refused::Rule(Refusal::UnknownLocate)) => "unknown locate",
+        PartStop::Refused(Refused::Rule(_)) => "another rule",
     }
 }
 

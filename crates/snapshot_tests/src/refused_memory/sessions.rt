@@ -14,7 +14,7 @@ use std::alloc::{Allocator, Global};
 use std::test::Fail;
 use test_doubles::{PieceReader, Refusing};
 
-type Refused<'a> = &'a Refusing<Global>;
+type RefusingMemory<'a> = &'a Refusing<Global>;
 
 // Returns whether memory was refused for a message of the snapshot.
 fn wants_memory(fault: &SoupFault) -> bool {
@@ -59,13 +59,13 @@ fn refuse_each_fetch<B: OrderBook>(
 #[test]
 fn no_market_is_fetched(rt: HostRuntime) -> TestResult {
     let refusing = Refusing::new(rt.alloc(), 0);
-    refuse_each_fetch::<IndexedBook<Refused<'_>>>(&rt, &refusing, &refusing)
+    refuse_each_fetch::<IndexedBook<RefusingMemory<'_>>>(&rt, &refusing, &refusing)
 }
 
 #[test]
 fn no_market_is_fetched_over_a_list(rt: HostRuntime) -> TestResult {
     let refusing = Refusing::new(rt.alloc(), 0);
-    refuse_each_fetch::<ListBook<Refused<'_>>>(&rt, &refusing, &refusing)
+    refuse_each_fetch::<ListBook<RefusingMemory<'_>>>(&rt, &refusing, &refusing)
 }
 
 // Fetches a rest with one allocation refused. Returns whether it was refused.
@@ -140,5 +140,5 @@ fn serve_each<B: OrderBook>(
 #[test]
 fn serving_takes_no_memory(rt: HostRuntime) -> TestResult {
     let refusing = Refusing::new(rt.alloc(), 1000);
-    serve_each::<IndexedBook<Refused<'_>>>(&rt, &refusing, &refusing)
+    serve_each::<IndexedBook<RefusingMemory<'_>>>(&rt, &refusing, &refusing)
 }

@@ -10,7 +10,7 @@ use std::test::Fail;
 use test_doubles::days::{REPLACED, blocks};
 use test_doubles::{PieceReader, Refusing};
 
-type Refused<'a> = &'a Refusing<Global>;
+type RefusingMemory<'a> = &'a Refusing<Global>;
 
 // Returns whether memory was refused for the message at this place.
 fn wants_memory(fault: &SnapFault, at: u64) -> bool {
@@ -62,13 +62,13 @@ fn refuse_each<B: OrderBook>(
 #[test]
 fn a_message_may_follow_again(rt: HostRuntime) -> TestResult {
     let refusing = Refusing::new(rt.alloc(), 0);
-    refuse_each::<IndexedBook<Refused<'_>>>(&rt, &refusing, &refusing)
+    refuse_each::<IndexedBook<RefusingMemory<'_>>>(&rt, &refusing, &refusing)
 }
 
 #[test]
 fn a_message_may_follow_again_over_a_list(rt: HostRuntime) -> TestResult {
     let refusing = Refusing::new(rt.alloc(), 0);
-    refuse_each::<ListBook<Refused<'_>>>(&rt, &refusing, &refusing)
+    refuse_each::<ListBook<RefusingMemory<'_>>>(&rt, &refusing, &refusing)
 }
 
 // Reads a snapshot file with one allocation refused. Returns whether it was refused.
@@ -111,13 +111,13 @@ fn refuse_each_read<B: OrderBook>(
 #[test]
 fn no_market_is_handed_out(rt: HostRuntime) -> TestResult {
     let refusing = Refusing::new(rt.alloc(), 0);
-    refuse_each_read::<IndexedBook<Refused<'_>>>(&rt, &refusing, &refusing)
+    refuse_each_read::<IndexedBook<RefusingMemory<'_>>>(&rt, &refusing, &refusing)
 }
 
 #[test]
 fn no_market_is_handed_out_over_a_list(rt: HostRuntime) -> TestResult {
     let refusing = Refusing::new(rt.alloc(), 0);
-    refuse_each_read::<ListBook<Refused<'_>>>(&rt, &refusing, &refusing)
+    refuse_each_read::<ListBook<RefusingMemory<'_>>>(&rt, &refusing, &refusing)
 }
 
 // Writes a snapshot into this memory, and compares the market with itself, with every allocation refused.
@@ -152,5 +152,5 @@ fn write_without_memory<B: OrderBook>(
 #[test]
 fn writing_and_comparing_take_no_memory(rt: HostRuntime) -> TestResult {
     let refusing = Refusing::new(rt.alloc(), 1000);
-    write_without_memory::<IndexedBook<Refused<'_>>>(&rt, &refusing, &refusing)
+    write_without_memory::<IndexedBook<RefusingMemory<'_>>>(&rt, &refusing, &refusing)
 }

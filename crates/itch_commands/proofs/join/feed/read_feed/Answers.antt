@@ -1,6 +1,6 @@
 use Rattle.std.proofs.Common.{◌≡◌, ◌+◌, None, sym, ap, ◌∙◌, subst}
 use Rattle.itch_day.specs.declared.limit.Limit.{Limit as DayLimit}
-use Rattle.itch_day.specs.declared.stop.Stop.TheVariants.{Late}
+use Rattle.itch_day.specs.declared.stop.PartStop.TheVariants.{Late}
 use Rattle.itch_day.specs.Parts.{ReadsPart}
 use Rattle.itch_day.proofs.PassedBlocks.{stop_held}
 use Rattle.itch_join.specs.Positions.{Position}
