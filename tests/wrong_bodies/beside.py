@@ -6,7 +6,7 @@ import shutil
 import threading
 from pathlib import Path
 
-from kit import rt
+from kit import link_or_copy
 
 # The line that rt ci prints for a crate that it has proved, now or in an earlier run. Its library then exists.
 PROVED = re.compile(r"^rt: (\w+) (?:proved|is kept: .*)$", re.MULTILINE)
@@ -77,7 +77,7 @@ class Proofs:
             return True
         to = f"{self.room}/libraries/{crate.name}"
         try:
-            shutil.copytree(os.path.dirname(crate.rlib), to, copy_function=rt.link_or_copy)
+            shutil.copytree(os.path.dirname(crate.rlib), to, copy_function=link_or_copy)
         except (OSError, shutil.Error):
             return False
         if Path(to, "stamp").exists():

@@ -3,8 +3,13 @@ here."""
 import importlib.machinery
 import importlib.util
 import os
+import shutil
 import subprocess
 import sys
+from pathlib import Path
+
+# The memory of a check over the result of another one, as a part of that of a check from nothing.
+MEMORY_OVER = 0.6
 
 
 def load(name, path):
@@ -34,3 +39,29 @@ def toolchain_line():
     """Returns the line that `rt version` prints."""
     with open(f"{rt.KIT}/KIT-ID", encoding="utf-8") as it:
         return it.read().strip()
+
+
+def link_or_copy(source, to):
+    """Links a file, or copies it to another file system."""
+    try:
+        os.link(source, to)
+    except OSError:
+        shutil.copy2(source, to)
+
+
+def linked(folder, to):
+    """Makes a copy of a folder that shares its files with it."""
+    shutil.copytree(folder, to, copy_function=link_or_copy)
+
+
+def listing(folder):
+    """Returns the files below a folder, with their lengths and the times of their last changes."""
+    files = sorted(it for it in Path(folder).rglob("*") if it.is_file())
+    return {str(it.relative_to(folder)): (it.stat().st_size, it.stat().st_mtime_ns) for it in files}
+
+
+def must_fail(crate, edit, words):
+    """Tries an edit from nothing, as `rt must-fail` does. Returns whether the prover refused it, and the reason."""
+    verdict, text = rt.must_fail(crate, edit, words)
+    # (a newer rt has several verdicts)
+    return verdict == getattr(rt, "REFUSED", True), text

@@ -8,7 +8,7 @@ from dataclasses import dataclass
 
 from checking import Checker, only, own_failure, reached_the_prover
 from edits import Round, rounds_of
-from kit import rt
+from kit import MEMORY_OVER, linked, listing, must_fail, rt
 
 ONE_JOB = ["--jobs", "1"]
 # The number of lines of a crate that take about as long to check as one edit of it. A round with more edits begins earlier.
@@ -58,16 +58,16 @@ def by_itself(crate, edit):
 
     It counts as refused if the prover refuses a contract, not if the prover reaches a limit, or if only a proof file names what is
     gone."""
-    kind, text = rt.must_fail(crate, str(edit.path), ONE_JOB)
-    refused = kind == rt.REFUSED and "only because a proof file names" not in text
-    return Outcome(edit.name, refused, f"alone: {text.partition(': ')[2]}")
+    refused, text = must_fail(crate, str(edit.path), ONE_JOB)
+    counts = refused and "only because a proof file names" not in text
+    return Outcome(edit.name, counts, f"alone: {text.partition(': ')[2]}")
 
 
 @contextlib.contextmanager
 def copy_of(seed, name):
     """Yields a copy of the seed, next to it, for one check."""
     over = f"{os.path.dirname(seed)}/{name}"
-    rt.linked(seed, over)
+    linked(seed, over)
     try:
         yield over
     finally:
@@ -95,7 +95,7 @@ class Tries:
         found = {seed: ([], lines, memory, lambda _given, jobs: self.make_seed(jobs))}
         for key, together in zip(rounds, self.rounds):
             call = lambda _given, _jobs, key=key, together=together: self.try_round(f"round {key[2]}", together)
-            found[key] = ([seed], LINES_OF_AN_EDIT * len(together.edits), rt.OVER * memory, call)
+            found[key] = ([seed], LINES_OF_AN_EDIT * len(together.edits), MEMORY_OVER * memory, call)
         last = lambda given, _jobs: end(self.end([given[it] for it in rounds]))
         found[name, "rest"] = ([seed, *rounds], LINES_OF_AN_EDIT * len(self.rest), memory, last)
         return found
@@ -108,7 +108,7 @@ class Tries:
         ran = self.checker.checked(self.crate, {}, ["--jobs", str(jobs), *only(functions)], seed)
         if ran.returncode == 0:
             self.seed = seed
-            self.files = rt.listing(seed)
+            self.files = listing(seed)
         self.unknown = next(iter(UNKNOWN.findall(ran.stdout)), "")
 
     def try_round(self, label, together):
@@ -123,7 +123,7 @@ class Tries:
         """Returns the outcomes of all edits after the rounds. Edits that were not clearly refused are tried alone."""
         found = {edit: it for outcomes in rounds for edit, it in outcomes.items()}
         # (the copies share files with the seed, which a check replaces but does not modify)
-        if self.seed and rt.listing(self.seed) != self.files:
+        if self.seed and listing(self.seed) != self.files:
             found, self.seed = {}, None
         tried = [found.get(it) or self.alone(it) for it in self.edits]
         self.room.cleanup()

@@ -108,7 +108,8 @@ pub trait OrderBook: Drop {
         false
     }
 
-    /// Prepares the book for look-ups, so that they can be fast. No order changes, and no memory is allocated.
+    /// Prepares the book for look-ups, so that they can be fast. No order changes. Where a book needs memory for this and is refused it,
+    /// look-ups are slower.
     fn settle(&mut self)
         ensures { orders self.new ≡ orders self.old };
 

@@ -21,4 +21,4 @@ pub use marked::Marked;
 pub use passing::pass_stop;
 pub use reading::{read_further, read_part};
 pub use sink::Sink;
-pub use stop::Stop;
+pub use stop::PartStop;

@@ -155,7 +155,7 @@ impl<B: OrderBook> Joiner<B> {
         Some(&position.market)
     }
 
-    /// Prepares the market for look-ups, as [`Market::settle`] does. Nothing changes, and no memory is allocated.
+    /// Prepares the market for look-ups, as [`Market::settle`] does. Nothing changes.
     pub fn settle_market(&mut self)
         ensures { self.new ≡ self.old }
     {

@@ -103,7 +103,8 @@ impl<B: OrderBook> Market<B> {
         Ok(())
     }
 
-    /// Prepares the market's book for look-ups, so that they can be fast. Nothing changes, and no memory is allocated.
+    /// Prepares the market's book for look-ups, so that they can be fast. Nothing changes. Where the book needs memory for this and is refused
+    /// it, look-ups are slower.
     pub fn settle(&mut self)
         ensures { self.new ≡ self.old }
     {

@@ -139,7 +139,7 @@ impl<B: OrderBook> SnapshotReader<B> {
         &self.market
     }
 
-    /// Prepares the market for look-ups, as [`Market::settle`] does. Nothing changes, and no memory is allocated.
+    /// Prepares the market for look-ups, as [`Market::settle`] does. Nothing changes.
     pub fn settle_market(&mut self)
         ensures { self.new ≡ self.old }
     {
