@@ -3,6 +3,7 @@
 RUNS lists the runs: functions that take the program and yield the differences found.
 """
 import contextlib
+import fcntl
 import os
 import stat
 import subprocess
@@ -126,6 +127,48 @@ def a_device_is_written_as_it_is(program):
         yield from differs("what is left", names(folder), ["pipe"])
 
 
+def an_output_is_not_an_input(program):
+    """A recording must not be lost because its name is given twice."""
+    commands = ("snap day.itch", "cut day.itch", "canon day.snap", "index day.itch", "join day.snap day.itch", "cut day.itch --from 2 --index day.idx")
+    with folder_of_files() as folder:
+        ended_in(folder, program, "index", "day.itch", "--output", "day.idx")
+        os.link(folder / "day.itch", folder / "link.itch")
+        os.symlink("day.itch", folder / "symbolic.itch")
+        os.link(folder / "day.itch", folder / "new.itch.part")
+        before = {it: (folder / it).read_bytes() for it in os.listdir(folder)}
+        for command in commands:
+            name = next(it for it in command.split() if "." in it)
+            for path in (name, f"./{name}", *(("link.itch", "symbolic.itch") if name == "day.itch" else ())):
+                wanted = (3, b"", f"itchsnap: cannot open\n  {path}: the output would replace this input file\n".encode())
+                yield from differs(f"{command} to {path}", ended_in(folder, program, *command.split(), "--output", path), wanted)
+        wanted = 3, b"", b"itchsnap: cannot open\n  new.itch.part: the output would replace this input file\n"
+        yield from differs("its temporary file", ended_in(folder, program, "cut", "day.itch", "--output", "new.itch"), wanted)
+        for words in (["snap", "--output", "day.itch"], ["cut", "-", "--output", "day.itch"]):
+            with (folder / "day.itch").open("rb") as source:
+                ran = subprocess.run([program, *words], cwd=folder, stdin=source, capture_output=True)
+            yield from differs(words, (ran.returncode, ran.stderr), (3, b"itchsnap: cannot open\n  day.itch: the output would replace this input file\n"))
+        with (folder / "day.itch").open("ab") as sink:
+            ran = subprocess.run([program, "show", "day.itch"], cwd=folder, stdout=sink, stderr=subprocess.PIPE)
+        wanted = (3, b"itchsnap: cannot open\n  /dev/stdout: the output would replace this input file\n")
+        yield from differs("show day.itch >> day.itch", (ran.returncode, ran.stderr), wanted)
+        yield from differs("the files", {it: (folder / it).read_bytes() for it in os.listdir(folder)}, before)
+
+
+def two_runs_do_not_write_one_file(program):
+    """Otherwise the file could have the bytes of both."""
+    with folder_of_files() as folder:
+        with (folder / "out.snap.part").open("wb") as other:
+            other.write(OLD)
+            other.flush()
+            fcntl.flock(other, fcntl.LOCK_EX)
+            wanted = 3, b"", b"itchsnap: cannot open\n  out.snap.part: another process is writing it\n"
+            yield from differs("locked", ended_in(folder, program, "snap", "day.itch", "--output", "out.snap"), wanted)
+            yield from differs("locked", ((folder / "out.snap.part").read_bytes(), names(folder)), (OLD, ["out.snap.part"]))
+        # The file of a process that was killed is not locked any more.
+        yield from differs("left", ended_in(folder, program, "snap", "day.itch", "--output", "out.snap"), (0, b"", b""))
+        yield from differs("left", ((folder / "out.snap").read_bytes(), names(folder)), (SNAPSHOT, ["out.snap"]))
+
+
 def what_is_fetched_is_written_to_a_file(program):
     with folder_of_files() as folder:
         for words in ((), ("--from", "1")):
@@ -147,5 +190,7 @@ RUNS = [
     each_allocation_and_write_fails_in_turn,
     nothing_is_left_of_a_file_that_gets_no_name,
     a_device_is_written_as_it_is,
+    an_output_is_not_an_input,
+    two_runs_do_not_write_one_file,
     what_is_fetched_is_written_to_a_file,
 ]

@@ -3,6 +3,7 @@
 RUNS lists the runs: functions that take the program and yield the differences found.
 """
 import contextlib
+import fcntl
 import hashlib
 import json
 import os
@@ -58,7 +59,6 @@ USAGE_FAULTS = [
     "--to out --every +1",
     "--to out --after 1 --until 3",
     "--to out --after 1 --every 2",
-    "--to out --stock AAPL",
     "--to out --output out.snap",
     "--to",
 ]
@@ -101,13 +101,13 @@ def each_point_has_its_snapshot(program):
 def each_snapshot_is_what_a_run_of_its_own_writes(program):
     day, _ = large.orders(3000, symbols=40)
     blocks = split(day)
-    for words in ((), ("--only", "3-17,40")):
+    for words, only in ((), None), (("--only", "3-17,40"), "3-17,40"), (("--stock", "S0000009,S0000040"), "9,40"):
         with folder_of(day) as folder:
             got = snap(folder, program, " ".join(("--every", "700", *words)))
             yield from differs(words, got, (0, b"", b""))
             found = written(folder)
             counts = [700, 1400, 2100, 2800, len(blocks)]
-            index = [line_of(blocks, count, 0, **({"only": "3-17,40"} if words else {})) for count in counts]
+            index = [line_of(blocks, count, 0, **({"only": only} if only else {})) for count in counts]
             yield from differs(words, found.pop("index.jsonl"), index_of(index))
             alone = {f"{count}.snap": ended_in(folder, program, "snap", "day.itch", "--after", str(count), *words)[1] for count in counts}
             yield from differs(words, found, alone)
@@ -124,6 +124,35 @@ def a_message_at_a_time_is_in_the_next_snapshot(program):
             "3.snap": file(SNAPSHOTS[3]),
         }
         yield from differs("files", written(folder), wanted)
+
+
+def a_missing_folder_is_created(program):
+    with folder_of(DAY) as folder:
+        (folder / "out").rmdir()
+        yield from differs("status", snap(folder, program, "--every 1"), (0, b"", b""))
+        yield from differs("files", written(folder), files_of([1, 2, 3]))
+
+
+def a_folder_that_another_process_writes_is_refused(program):
+    """`live --to` has it locked, and would lose its index."""
+    with folder_of(DAY) as folder:
+        other = os.open(folder / "out", os.O_RDONLY)
+        fcntl.flock(other, fcntl.LOCK_EX)
+        wanted = 3, b"", b"itchsnap: cannot open\n  out: another process is writing it\n"
+        yield from differs("locked", snap(folder, program, "--every 1"), wanted)
+        yield from differs("locked", written(folder), {})
+        os.close(other)
+        yield from differs("free", snap(folder, program, "--every 1"), (0, b"", b""))
+
+
+def a_stock_that_the_directory_lacks_at_a_point_is_named(program):
+    with folder_of(DAY) as folder:
+        wanted = 1, b"", b"itchsnap: unknown stock\n  day.itch: no stock AAPL\n"
+        yield from differs("before its entry", snap(folder, program, "--every 1 --stock AAPL"), wanted)
+        yield from differs("before its entry", written(folder), {"index.jsonl": b""})
+        yield from differs("after it", snap(folder, program, "--after 2,3 --stock AAPL"), (0, b"", b""))
+        lines = [line_of(split(DAY), count, count, only="1") for count in (2, 3)]
+        yield from differs("after it", written(folder)["index.jsonl"], index_of(lines))
 
 
 def an_empty_file_has_one_snapshot(program):
@@ -166,7 +195,7 @@ def another_run_writes_a_new_index(program):
 
 def a_folder_that_is_none_is_named(program):
     with folder_of(DAY) as folder:
-        for path, why in (("no", "No such file or directory (os error 2)"), ("day.itch", "Not a directory (os error 20)")):
+        for path, why in (("no/out", "No such file or directory (os error 2)"), ("day.itch", "Not a directory (os error 20)")):
             got = ended_in(folder, program, "snap", "day.itch", "--to", path, "--after", "1,2")
             yield from differs(path, got, (3, b"", f"itchsnap: cannot open\n  {path}: {why}\n".encode()))
         # The day file is opened first: if it does not exist, no index is begun.
@@ -231,6 +260,9 @@ def each_allocation_and_write_fails_in_turn(program):
 
 
 RUNS = [
+    a_folder_that_another_process_writes_is_refused,
+    a_missing_folder_is_created,
+    a_stock_that_the_directory_lacks_at_a_point_is_named,
     each_point_has_its_snapshot,
     each_snapshot_is_what_a_run_of_its_own_writes,
     a_message_at_a_time_is_in_the_next_snapshot,

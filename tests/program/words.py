@@ -315,7 +315,6 @@ RULES = {
     "compare a b --first --snapshot": "the argument '--first' cannot be used with '--snapshot'",
     "compare a b --snapshot --until 9": "the argument '--snapshot' cannot be used with '--until <TIME>'",
     "snap --only 1 --stock AAPL": "the argument '--only <LIST>' cannot be used with '--stock <LIST>'",
-    "snap --to d --stock AAPL": "the argument '--to <DIR>' cannot be used with '--stock <LIST>'",
     "snap --to d --output o": "the argument '--to <DIR>' cannot be used with '--output <PATH>'",
     "snap --to d --every 5 --after 5": "the argument '--every <N>' cannot be used with '--after <N>'",
     "snap --every 5": "the following required arguments were not provided:",

@@ -1,4 +1,4 @@
-"""Checks a copy of a crate as rt does, counts the processor time of it, and reads what rattle says of one function."""
+"""Checks a copy of a crate as rt does, measures the processor time, and reads what rattle reports about a function."""
 import os
 import re
 import shutil
@@ -10,16 +10,16 @@ from pathlib import Path
 
 from kit import rt, rtlib
 
-# A function's line where search found no proof of one of its own goals. That it calls another which is not proved is no failure of its own.
+# The line of a function for one of whose own goals search found no proof. A call of a function that is not proved is not its own failure.
 SEARCHED = re.compile(r"no proof: expected .*`search` did not prove")
 # The last line of a check of some functions.
 COUNTED = re.compile(r"only=\d+ proved=\d+")
-# A proof file that names what an edit took away says nothing of the contract.
+# An error in a proof file that names something the edit removed says nothing about the contract.
 NAMES_ONLY = re.compile(r"has no field|is not in scope|has no `|was not admitted|which was rejected, was not checked")
 
 
 class Checker:
-    """Checks in place of rt's own `checked`, and adds up the processor seconds of each crate."""
+    """Replaces rt's own `checked`, and adds up the processor seconds of each crate."""
 
     def __init__(self, logs):
         self.logs = logs
@@ -30,7 +30,7 @@ class Checker:
         self.counting = threading.Lock()
 
     def checked(self, crate, texts, flags, kept):
-        """Checks a copy of the crate with these texts in place of its own, over what kept holds where it is given."""
+        """Checks a copy of the crate with these texts in place of its own. Uses the results in `kept`, if it is given."""
         with tempfile.TemporaryDirectory(prefix="edits-") as room:
             for part in rtlib.PARTS:
                 if os.path.isdir(f"{crate.folder}/{part}"):
@@ -41,7 +41,7 @@ class Checker:
             return self.run(crate, [*rtlib.guarded(), *words], room)
 
     def run(self, crate, words, room):
-        """Runs a command to its end, as subprocess.run does, and counts its processor time."""
+        """Runs a command to its end, as subprocess.run does, and measures its processor time."""
         how = {"cwd": room, "stdin": subprocess.DEVNULL, "stdout": subprocess.PIPE, "stderr": subprocess.STDOUT, "errors": "replace"}
         begin = time.monotonic()
         started = subprocess.Popen(words, **how)
@@ -60,12 +60,12 @@ class Checker:
 
 
 def only(functions):
-    """Returns the words by which a check reads these functions and what they call, and no others."""
+    """Returns the arguments with which a check reads only these functions and those that they call."""
     return [word for it in sorted(functions) for word in ("--only", it)]
 
 
 def reached_the_prover(ran, texts):
-    """Returns whether the prover refused some of the functions that it was to check, with every text read, as rt's must_fail wants it too."""
+    """Returns whether the prover could read every text, and rejected some of the functions that it was asked to check."""
     lines = ran.stdout.rstrip("\n").split("\n")
     if any(rt.unread(it, texts) for it in lines) or rtlib.STALE.search(ran.stdout):
         return False
@@ -73,13 +73,13 @@ def reached_the_prover(ran, texts):
 
 
 def own_failure(said, crate, function):
-    """Returns rattle's line on the function where one of its own goals failed, or nothing."""
+    """Returns rattle's line about the function if one of its own goals failed, and otherwise an empty string."""
     lines = said.split("\n")
     verdict = next((it for it in lines if it.startswith(f"fn {crate.name}::{function}: ")), "").partition(": ")[2]
     if SEARCHED.match(verdict):
         return verdict
     if not verdict.startswith(("not proved", "no proof")):
         return ""
-    # a goal that the function's own proof file answers, and that the answer no longer fits
+    # a goal that its own proof file no longer proves
     own = re.compile(rf"(\./)?proofs/{re.escape(function.replace('::', '/'))}/\w+\.antt:\d+:\d+: error: ")
     return next((it for it in lines if own.match(it) and not NAMES_ONLY.search(it)), "")

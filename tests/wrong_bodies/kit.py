@@ -41,6 +41,11 @@ def toolchain_line():
         return it.read().strip()
 
 
+def logic_line():
+    """Returns the part of that line that names the logic in which proofs are checked. Versions of the toolchain can share it."""
+    return toolchain_line().partition(" ")[2]
+
+
 def link_or_copy(source, to):
     """Links a file, or copies it to another file system."""
     try:

@@ -1,11 +1,12 @@
 """`edits.record`: a hash of everything on which the refusal of each edit depended when the prover last refused it."""
+import ast
 import hashlib
 import os
 import re
 import threading
 from pathlib import Path
 
-from kit import toolchain_line
+from kit import logic_line, toolchain_line
 
 HERE = Path(__file__).resolve().parent
 TOP = HERE.parent.parent
@@ -15,9 +16,18 @@ JUDGE = HERE / "checking.py"
 WRITING = threading.Lock()
 
 
+def without_docstrings(text):
+    """Returns the lines of a Python file that do not belong to docstrings."""
+    tree = ast.parse(text)
+    parts = [it for it in ast.walk(tree) if isinstance(it, (ast.Module, ast.ClassDef, ast.FunctionDef)) and ast.get_docstring(it) is not None]
+    left_out = {number for it in parts for number in range(it.body[0].lineno, it.body[0].end_lineno + 1)}
+    return [line for number, line in enumerate(text.split(b"\n"), 1) if number not in left_out]
+
+
 def text_that_counts(path):
-    """Returns the part of a file that a check reads: without blank lines and comment lines (`//`, `///`, `//!`, `--`)."""
-    lines = path.read_bytes().split(b"\n")
+    """Returns the part of a file that a check reads: without blank lines, comment lines (`//`, `///`, `//!`, `--`) and docstrings."""
+    text = path.read_bytes()
+    lines = without_docstrings(text) if path.suffix == ".py" else text.split(b"\n")
     mark = {".rt": b"//", ".antt": b"--", ".py": b"#"}.get(path.suffix)
     if not mark:
         return b"\n".join(lines)
@@ -45,8 +55,8 @@ def files_behind(crate, edit):
 
 
 def hash_of(crate, edit):
-    """Hashes the toolchain, and the files on which an edit's refusal mainly depends."""
-    found = hashlib.sha256(toolchain_line().encode())
+    """Hashes the toolchain's logic, and the files on which an edit's refusal mainly depends."""
+    found = hashlib.sha256(logic_line().encode())
     for it in files_behind(crate, edit):
         found.update(f"{it.relative_to(TOP)} {hashlib.sha256(text_that_counts(it)).hexdigest()}\n".encode())
     return found.hexdigest()[:32]

@@ -8,7 +8,7 @@ use Rattle.itch_commands.specs.declared.fault.ToolFault.TheVariants as tool
 use Rattle.itch_sessions.specs.SessionFaults.{session_status}
 use Rattle.itch_sessions.specs.declared.session_fault.SessionFault.TheVariants as session_fault
 use Rattle.itch_tool.specs.declared.failure.Failure.{Failure}
-use Rattle.itch_tool.specs.declared.failure.Failure.TheVariants.{Command, Session, Open, NoOrder, OnlyOnce, Checkpoint, NotPlaced, Index, Users, Said}
+use Rattle.itch_tool.specs.declared.failure.Failure.TheVariants.{Command, Session, Open, NoOrder, OnlyOnce, Checkpoint, NotPlaced, Index, SameFile, Users, Said}
 
 -- the exit status for a failure
 abbrev pub failure_status : Failure → ℕ
@@ -20,6 +20,7 @@ failure_status (OnlyOnce path) = 3
 failure_status (Checkpoint why detail) = 1
 failure_status (NotPlaced path) = 3
 failure_status (Index why detail) = 1
+failure_status (SameFile path) = 3
 failure_status (Users path fault) = 2
 failure_status (Said status) = status
 

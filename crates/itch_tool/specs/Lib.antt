@@ -3,3 +3,4 @@ pub mod Hints
 pub mod Histories
 pub mod Names
 pub mod Serving
+pub mod SameFiles

@@ -155,6 +155,10 @@ fn say<R: Files + Eprint + AllocGlobal>(
             let feed = names.files.subject(Source::Only);
             say_unfit(rt, *why, detail.as_str(), feed, beginning)
         }
+        Failure::SameFile { path } => {
+            rt.eprintln("itchsnap: cannot open")?;
+            eprintln!(rt; "  {path}: the output would replace this input file")
+        }
         Failure::Users { path, fault } => {
             rt.eprintln("itchsnap: bad users")?;
             eprintln!(rt; "  {path}: {fault}")

@@ -46,6 +46,10 @@ pub enum Failure {
         why: IndexUnfit,
         detail: String,
     },
+    /// The output, or its temporary file, would be written to the input file at this path.
+    SameFile {
+        path: String,
+    },
     /// The users file at this path is invalid.
     Users {
         path: String,
@@ -82,6 +86,7 @@ impl Failure {
             Failure::Checkpoint { .. } => 1,
             Failure::NotPlaced { .. } => 3,
             Failure::Index { .. } => 1,
+            Failure::SameFile { .. } => 3,
             Failure::Users { .. } => 2,
             Failure::Said { status } => *status,
         }

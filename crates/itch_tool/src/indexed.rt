@@ -17,13 +17,13 @@ use itch_sessions::sessions::PIECE;
 use itchsnap_cli::input::{Opened, ProgressLine, Watched};
 use itchsnap_cli::words::{IndexedWords, IndexedWork};
 use std::alloc::{AllocError, Global};
-use std::fs;
+use std::fs::{self, File};
 use std::io::{self, BufReader, BufWriter, ErrorKind, Read, Seek, SeekFrom, Write};
 use std::rt::{Clock, Files};
 
 /// Shows or cuts a day file from the row of its index that is nearest to the range. An index that does not fit the file is refused, even if
 /// the file is read from its beginning.
-pub fn run_indexed<R: Files + Input + Print + Eprint + AllocGlobal + Clock>(
+pub fn run_indexed<R: Files<File = File> + Input + Print + Eprint + AllocGlobal + Clock>(
     rt: &R,
     words: &IndexedWords<'_>,
     beginning: &Beginning,

@@ -13,12 +13,12 @@ use itch_sessions::sessions::PIECE;
 use itchsnap_cli::input::ProgressLine;
 use itchsnap_cli::words::IndexWords;
 use std::alloc::{Allocator, Global};
-use std::fs::OpenFile;
+use std::fs::{File, OpenFile};
 use std::io::{self, BufWriter, ErrorKind, Write};
 use std::rt::{Clock, Files};
 
 /// Reads a day file, or a part of it, and writes its index.
-pub fn run_index<R: Files + Input + Print + Eprint + AllocGlobal + Clock>(
+pub fn run_index<R: Files<File = File> + Input + Print + Eprint + AllocGlobal + Clock>(
     rt: &R,
     words: &IndexWords<'_>,
     beginning: &Beginning,

@@ -31,6 +31,7 @@ mod packed;
 mod password;
 mod points;
 mod run;
+mod same_file;
 mod second_look;
 mod selected;
 mod serving;

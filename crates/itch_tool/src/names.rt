@@ -221,6 +221,20 @@ impl<'a> CommandFiles<'a> {
         CommandFiles::of_one(path, "serve - ..", SnapshotFlag::of_kind(kind), None)
     }
 
+    /// Returns the path of the output, if it is not standard output.
+    pub fn output(&self) -> Option<&'a str> {
+        self.output
+    }
+
+    /// Returns a path of each input, which may be one and the same.
+    pub fn input_paths(&self) -> (&'a str, &'a str) {
+        let standard = "/dev/stdin";
+        (
+            self.first.path.unwrap_or(standard),
+            self.last.path.unwrap_or(standard),
+        )
+    }
+
     /// Returns the only file, the second of two, or the feed.
     pub fn last(&self) -> InputFile<'a> {
         self.last

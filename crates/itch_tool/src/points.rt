@@ -5,32 +5,29 @@ use crate::failure::Failure;
 use crate::locate_list::read_only;
 use crate::noted::{Noted, Notes};
 use crate::opened::{open, read_fault};
-use crate::output::Output;
+use crate::output::{Output, in_use};
 use crate::run::blocks;
 use itch_checkpoints::index_line;
 use itch_commands::snap::Pass;
-use itch_commands::{Book, Limit, Source, ToolFault, write_locates};
+use itch_commands::{Book, Limit, Selection, Source, ToolFault, stock_locates, write_locates};
 use itch_frame::{BlockReader, Counted, CountedRead};
 use itch_market::LocateSet;
 use itch_sessions::sessions::PIECE;
 use itchsnap_cli::input::ProgressLine;
 use itchsnap_cli::words::{PointWords, Points};
 use std::alloc::{Allocator, Global};
-use std::fs;
-use std::io::{BufWriter, Write};
+use std::fs::{self, File, TryLockError};
+use std::io::{BufWriter, ErrorKind, Write};
 use std::rt::{Clock, Files};
 
 /// Writes the snapshot of each point into the folder, and its line into the index there. Files that were written before a fault are kept.
-pub fn run_points<R: Files + Input + Eprint + AllocGlobal + Clock>(
+pub fn run_points<R: Files<File = File> + Input + Eprint + AllocGlobal + Clock>(
     rt: &R,
     words: &PointWords<'_>,
     beginning: &Beginning,
 ) -> Result<bool, Failure> {
     let alloc = rt.alloc();
-    let only = match words.only {
-        Some(words) => Some(read_only(rt, words)?),
-        None => None,
-    };
+    let kept = Kept::of(rt, words.selection)?;
     let progress = if words.progress {
         ProgressLine::begin(rt)
     } else {
@@ -39,17 +36,17 @@ pub fn run_points<R: Files + Input + Eprint + AllocGlobal + Clock>(
     let file = open(rt, words.file, Source::Only, progress.as_ref(), beginning)?;
     let notes = Notes::new(alloc)?;
     let reader = blocks(alloc, Noted::new(file, &notes))?;
-    save_points(rt, words, only, &notes, reader)
+    save_points(rt, words, &kept, &notes, reader)
 }
 
-fn save_points<R: Files + AllocGlobal, S: CountedRead + Drop, A: Allocator>(
+fn save_points<R: Files<File = File> + AllocGlobal, S: CountedRead + Drop, A: Allocator>(
     rt: &R,
     words: &PointWords<'_>,
-    only: Option<LocateSet<Global>>,
+    kept: &Kept<'_>,
     notes: &Notes,
     reader: BlockReader<S, A>,
 ) -> Result<bool, Failure> {
-    let mut folder = Folder::create(rt, words.folder, only, notes)?;
+    let mut folder = Folder::create(rt, words.folder, kept, notes)?;
     let mut pass = Pass::new(rt.alloc(), reader);
     match &words.points {
         Points::At(limits) => save_each(&mut folder, &mut pass, limits),
@@ -57,40 +54,61 @@ fn save_points<R: Files + AllocGlobal, S: CountedRead + Drop, A: Allocator>(
     }
 }
 
-// A folder of snapshots.
+// The locates that the snapshots keep.
+#[derive(Drop)]
+enum Kept<'a> {
+    All,
+    Listed(LocateSet<Global>),
+    // Those that have one of these stocks at the point.
+    OfStocks(&'a str),
+}
+
+impl<'a> Kept<'a> {
+    fn of<R: Files + AllocGlobal>(rt: &R, selection: Selection<'a>) -> Result<Kept<'a>, Failure> {
+        Ok(match selection {
+            Selection::All => Kept::All,
+            Selection::Locates(list) => Kept::Listed(read_only(rt, list)?),
+            Selection::Stocks(names) => Kept::OfStocks(names),
+        })
+    }
+}
+
+// A folder of snapshots, which no other process uses.
 #[derive(Drop)]
 struct Folder<'a, R: Files> {
     rt: &'a R,
     path: &'a str,
+    _lock: File,
     index: R::File,
-    only: Option<LocateSet<Global>>,
-    // The list of the same locates.
-    list: Option<String>,
+    kept: &'a Kept<'a>,
     notes: &'a Notes,
     // The number of messages in the last snapshot.
     last: Option<u64>,
 }
 
-impl<'a, R: Files + AllocGlobal> Folder<'a, R> {
-    // Opens the folder at a path, with a new index.
+impl<'a, R: Files<File = File> + AllocGlobal> Folder<'a, R> {
+    // Opens the folder at a path, with a new index. Creates the folder if it is missing.
     fn create(
         rt: &'a R,
         path: &'a str,
-        only: Option<LocateSet<Global>>,
+        kept: &'a Kept<'a>,
         notes: &'a Notes,
     ) -> Result<Folder<'a, R>, Failure> {
         let index = format!(in rt.alloc(); "{path}/index.jsonl")?;
-        let list = match &only {
-            Some(only) => Some(write_locates(rt.alloc(), only)?),
-            None => None,
-        };
+        match fs::create_dir(rt, path) {
+            Err(error) if !matches!(error.kind(), ErrorKind::AlreadyExists) => {
+                return Err(Failure::open(rt.alloc(), path, error));
+            }
+            _ => {}
+        }
+        let lock = lock_folder(rt, path)?;
         match fs::create(rt, index.as_str()) {
             Ok(file) => Ok(Folder {
                 rt,
                 path,
+                _lock: lock,
                 index: file,
-                only,
-                list,
+                kept,
                 notes,
                 last: None,
             }),
@@ -103,10 +121,26 @@ impl<'a, R: Files + AllocGlobal> Folder<'a, R> {
         &mut self,
         pass: &Pass<S, A, Book<Global>>,
     ) -> Result<(), Failure> {
-        let mark = pass.mark();
-        if self.last == Some(mark.count) {
+        if self.last == Some(pass.mark().count) {
             return Ok(());
         }
+        match self.kept {
+            Kept::All => self.save_locates(pass, None),
+            Kept::Listed(set) => self.save_locates(pass, Some(set)),
+            Kept::OfStocks(names) => {
+                let set = stock_locates(self.rt.alloc(), pass.market(), names)?;
+                self.save_locates(pass, Some(&set))
+            }
+        }
+    }
+
+    // Writes the snapshot of these locates, and its line in the index.
+    fn save_locates<S: CountedRead, A: Allocator>(
+        &mut self,
+        pass: &Pass<S, A, Book<Global>>,
+        only: Option<&LocateSet<Global>>,
+    ) -> Result<(), Failure> {
+        let mark = pass.mark();
         let fingerprint = match self.notes.fingerprint(mark.offset) {
             Ok(fingerprint) => fingerprint,
             Err(error) => return Err(Failure::from(read_fault(mark.count, error))),
@@ -114,17 +148,30 @@ impl<'a, R: Files + AllocGlobal> Folder<'a, R> {
         let (alloc, folder, count) = (self.rt.alloc(), self.path, mark.count);
         let path = format!(in alloc; "{folder}/{count}.snap")?;
         let (output, file) = Output::create(self.rt, path.as_str())?;
-        output.finish(self.rt, write_file(alloc, pass, self.only.as_ref(), file))?;
+        output.finish(self.rt, write_file(alloc, pass, only, file))?;
         self.last = Some(count);
-        let list = match &self.list {
-            Some(list) => Some(list.as_str()),
+        let list = match only {
+            Some(only) => Some(write_locates(alloc, only)?),
             None => None,
         };
+        let list = list.as_ref().map(String::as_str);
         let line = index_line(alloc, mark, fingerprint, list)?;
         match self.index.write_all(&line) {
             Ok(()) => Ok(()),
             Err(error) => Err(Failure::from(ToolFault::Write(error))),
         }
+    }
+}
+
+// Opens a folder and locks it, as `live --to` does, whose index would be lost. A file system without locks has none.
+fn lock_folder<R: Files<File = File> + AllocGlobal>(rt: &R, path: &str) -> Result<File, Failure> {
+    let folder = match fs::open(rt, path) {
+        Ok(folder) => folder,
+        Err(error) => return Err(Failure::open(rt.alloc(), path, error)),
+    };
+    match folder.try_lock() {
+        Err(TryLockError::WouldBlock) => Err(Failure::open(rt.alloc(), path, in_use())),
+        _ => Ok(folder),
     }
 }
 
@@ -146,7 +193,7 @@ fn write_file<S: CountedRead, A: Allocator, W: Write + Drop>(
 }
 
 // Writes the snapshots at the ends of these parts of the file.
-fn save_each<R: Files + AllocGlobal, S: CountedRead, A: Allocator>(
+fn save_each<R: Files<File = File> + AllocGlobal, S: CountedRead, A: Allocator>(
     folder: &mut Folder<'_, R>,
     pass: &mut Pass<S, A, Book<Global>>,
     limits: &[Limit],
@@ -159,7 +206,7 @@ fn save_each<R: Files + AllocGlobal, S: CountedRead, A: Allocator>(
 }
 
 // Writes one snapshot per that many messages, and one at the end.
-fn save_every<R: Files + AllocGlobal, S: CountedRead, A: Allocator>(
+fn save_every<R: Files<File = File> + AllocGlobal, S: CountedRead, A: Allocator>(
     folder: &mut Folder<'_, R>,
     pass: &mut Pass<S, A, Book<Global>>,
     count: u64,

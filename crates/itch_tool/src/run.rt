@@ -10,9 +10,11 @@ use crate::indexed::run_indexed;
 use crate::indexing::run_index;
 use crate::live::{run_feed, run_follow, run_live};
 use crate::locate_list::read_only;
+use crate::names::JobNames;
 use crate::opened::open;
 use crate::output::Output;
 use crate::points::run_points;
+use crate::same_file::check_output;
 use crate::sockets::{run_fetch, run_serve};
 use crate::status::run_status;
 use itch_commands::{
@@ -36,6 +38,9 @@ where
     R: Files<File = File> + Input + Print + Eprint + AllocGlobal + Clock,
     R: Net<Listener = TcpListener, Stream = TcpStream>,
 {
+    if reads_files(job) {
+        check_output(rt, &JobNames::of(job).files)?;
+    }
     match job {
         Job::Files {
             request,
@@ -76,6 +81,26 @@ where
     }
 }
 
+// Returns whether a job writes what it reads from files.
+fn reads_files(job: &Job<'_>) -> bool {
+    match job {
+        Job::Files { .. }
+        | Job::Index(_)
+        | Job::Indexed(_)
+        | Job::History(_)
+        | Job::Points(_)
+        | Job::Books(_)
+        | Job::Changes(_) => true,
+        Job::Serve { .. }
+        | Job::Fetch { .. }
+        | Job::Live(_)
+        | Job::Follow(_)
+        | Job::Feed(_)
+        | Job::Status(_)
+        | Job::Completions(_) => false,
+    }
+}
+
 fn print_completions<R: Print + AllocGlobal>(rt: &R, shell: Shell) -> Result<bool, ToolFault> {
     let completions = Completions::new(shell);
     let script = format!(in rt.alloc(); "{completions}")?;
@@ -86,7 +111,7 @@ fn print_completions<R: Print + AllocGlobal>(rt: &R, shell: Shell) -> Result<boo
 }
 
 // Performs a request, with its output in the file at a path, or on standard output. It reads its arguments first, and then opens files.
-fn run_request<R: Files + Input + Print + Eprint + AllocGlobal + Clock>(
+fn run_request<R: Files<File = File> + Input + Print + Eprint + AllocGlobal + Clock>(
     rt: &R,
     request: Request<'_>,
     progress: bool,

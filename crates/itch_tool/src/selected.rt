@@ -23,7 +23,7 @@ impl<'a> Selected<'a> {
                 IndexedWork::History(words) => Selected::of_history(words),
             },
             Job::History(words) => Selected::of_history(words),
-            Job::Points(PointWords { only, .. }) => Selected::new(*only, None, None),
+            Job::Points(PointWords { selection, .. }) => Selected::by(*selection, None),
             Job::Books(words) => Selected::of_books(words),
             Job::Changes(
                 ChangeWords {

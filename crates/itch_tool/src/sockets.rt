@@ -16,6 +16,7 @@ use itch_sessions::sessions::{Login, PIECE, fetch, fetch_rest};
 use itchsnap_cli::input::ProgressLine;
 use itchsnap_cli::words::{FetchServer, LoginWords};
 use std::alloc::Global;
+use std::fs::File;
 use std::io::{self, BufReader, BufWriter, Write};
 use std::net::{Net, SocketAddr, TcpListener, TcpStream, ToSocketAddrs};
 use std::rt::{Clock, Files};
@@ -70,7 +71,7 @@ pub fn run_fetch<R>(
     output: Option<&str>,
 ) -> Result<bool, Failure>
 where
-    R: Files + Print + AllocGlobal + Clock + Net<Stream = TcpStream>,
+    R: Files<File = File> + Print + AllocGlobal + Clock + Net<Stream = TcpStream>,
 {
     let login = read_login(rt, login)?;
     let Some(path) = output else {

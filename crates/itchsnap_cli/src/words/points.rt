@@ -2,10 +2,10 @@
 
 use crate::words::arguments::MOST_COUNTED;
 use crate::words::fault::{Fault, usage_fault};
-use crate::words::request::{read_count, read_output, read_path, read_until};
+use crate::words::request::{read_count, read_output, read_path, read_selection, read_until};
 use crate::words::time::{read_digits, read_time};
 use clap::ArgMatches;
-use itch_commands::Limit;
+use itch_commands::{Limit, Selection};
 use std::alloc::{AllocError, Global};
 
 /// The points of a day file at which snapshots are requested.
@@ -23,8 +23,8 @@ pub struct PointWords<'a> {
     /// The path of the day file, or none for standard input.
     pub file: Option<&'a str>,
     pub points: Points,
-    /// The list of the locates to keep, if not all are.
-    pub only: Option<&'a str>,
+    /// The locates to keep.
+    pub selection: Selection<'a>,
     pub folder: &'a str,
     /// Whether standard error shows how much was read so far.
     pub progress: bool,
@@ -50,16 +50,16 @@ pub fn read_snap_words<'a>(
     let Some(folder) = options.get_str("to") else {
         return Ok(SnapWords::One(one_part(alloc, options, &points)?));
     };
-    if options.get_str("stock").is_some() || read_output(alloc, options)?.is_some() {
+    if read_output(alloc, options)?.is_some() {
         return Err(usage_fault(
             alloc,
-            "the argument '--to <DIR>' cannot be used with '--stock <LIST>' or '--output <PATH>'",
+            "the argument '--to <DIR>' cannot be used with '--output <PATH>'",
         )?);
     }
     Ok(SnapWords::Several(PointWords {
         file: read_path(options, "FILE"),
         points,
-        only: options.get_str("only"),
+        selection: read_selection(alloc, options)?,
         folder,
         progress: options.get_flag("progress"),
     }))

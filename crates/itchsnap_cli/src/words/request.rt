@@ -331,8 +331,8 @@ pub fn read_booked<'a>(
     }
 }
 
-// Reads the selection of `--only` or `--stock`.
-fn read_selection<'a>(alloc: Global, options: &ArgMatches<'a>) -> Result<Selection<'a>, Fault> {
+/// Reads the selection of `--only` or `--stock`.
+pub fn read_selection<'a>(alloc: Global, options: &ArgMatches<'a>) -> Result<Selection<'a>, Fault> {
     match (options.get_str("only"), read_stocks(alloc, options)?) {
         (None, None) => Ok(Selection::All),
         (Some(list), None) => Ok(Selection::Locates(list)),

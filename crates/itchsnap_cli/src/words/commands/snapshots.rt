@@ -49,7 +49,7 @@ With --to, it writes the snapshots of several points of the day in one pass.",
                 Argument::Optional {
                     long: "to",
                     value: Value::Path("DIR"),
-                    help: "Write each snapshot to DIR/N.snap, for its N messages, and list them in DIR/index.jsonl",
+                    help: "Write each snapshot to DIR/N.snap, for its N messages, and list them in DIR/index.jsonl; create DIR if it is missing",
                 },
                 Argument::Optional {
                     long: "every",
@@ -63,7 +63,6 @@ With --to, it writes the snapshots of several points of the day in one pass.",
     ],
     rules: &[
         ONE_SELECTION,
-        Rule::Excludes("to", "stock"),
         Rule::Excludes("to", "output"),
         Rule::Excludes("every", "after"),
         Rule::Excludes("every", "until"),
