@@ -81,17 +81,17 @@ where
     }
 }
 
-// Returns whether a job writes what it reads from files.
+// Returns whether a job reads files, and writes to one output.
 fn reads_files(job: &Job<'_>) -> bool {
     match job {
         Job::Files { .. }
         | Job::Index(_)
         | Job::Indexed(_)
         | Job::History(_)
-        | Job::Points(_)
         | Job::Books(_)
         | Job::Changes(_) => true,
-        Job::Serve { .. }
+        Job::Points(_)
+        | Job::Serve { .. }
         | Job::Fetch { .. }
         | Job::Live(_)
         | Job::Follow(_)
