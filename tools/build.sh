@@ -6,7 +6,7 @@ say_how_long() {
     if read -r seconds 2>/dev/null <"$(dirname "$built")/seconds"; then
         echo "took $((seconds / 60)) min $((seconds % 60)) s the last time" >&2
     else
-        echo "takes 15 to 40 minutes on four cores" >&2
+        echo "takes an hour or two on four cores" >&2
     fi
 }
 

@@ -153,7 +153,7 @@ def a_changed_source_needs_the_toolchain(_program):
 def a_changed_source_is_proved_and_built(_program):
     says = f"{OTHER}. Proving and building it "
     crates = "".join(f"itchsnap: proving {name} ({number} of {len(NAMES)}), 0 min so far ..\n" for number, name in enumerate(NAMES, 1))
-    first = f"{says}takes 15 to 40 minutes on four cores\n"
+    first = f"{says}takes an hour or two on four cores\n"
     with checkout() as copy:
         copy.change()
         failed = first + crates.split("\n")[0] + "\nrt: not proved\n"
