@@ -171,7 +171,7 @@ class Snapshots(Job):
 
     def make(self, result, made, room):
         """Runs the program for one point. A part at the end of the day is joined to the empty snapshot: this skips the messages of other
-        parts without checking them, so it is faster than `snap`."""
+        parts without checking them, so it needs less memory than `snap`."""
         point = result.made_of["point"]
         if not self.part:
             words = ["snap", *limit(point)]
