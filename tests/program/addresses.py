@@ -1,4 +1,4 @@
-"""`live`, `follow` and `fetch` at a host with two addresses: the first refuses, is silent, or is lost repeatedly; and a status port there.
+"""`live`, `follow`, `fetch` and a status port at a host with two addresses: the first refuses, is silent or is lost.
 
 RUNS lists the runs: functions that take the program and yield the differences found.
 """

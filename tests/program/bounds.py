@@ -1,5 +1,4 @@
-"""The limits of `live`, `feed` and `follow`: clients at a time, and lengths of messages and packets; and over a million waiting messages in a joiner
-of the C library.
+"""Limits: clients at a time, lengths of messages and packets, and over a million waiting messages in a joiner of the C library.
 
 RUNS lists the runs: functions that take the program and yield the differences found.
 """

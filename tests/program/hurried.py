@@ -1,5 +1,5 @@
-"""Runs that would take minutes, by a faster clock (hurry.c): feeds that fail in turn, stay for a minute or stay away, names that are resolved late,
-and what is logged once a minute.
+"""Runs that would take minutes, by a faster clock (hurry.c): feeds that fail or stay away,
+names that are resolved late, and lines that are logged once per minute.
 
 RUNS lists the runs: functions that take the program and yield the differences found. `hurried.py PROGRAM SHIM`, in its own user and network
 namespaces, prints the differences of the run in which two feeds fail in turn.

@@ -1,4 +1,4 @@
-"""`live` with a record and snapshots, killed at each call in turn, by SIGTERM, or with a write that fails: a restart continues with both.
+"""`live` with a record and snapshots, killed at each call in turn, or with a write that fails: a restart continues with both.
 
 RUNS lists the runs: functions that take the program and yield the differences found.
 """

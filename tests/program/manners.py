@@ -255,7 +255,7 @@ exec "$(dirname "$0")/program" "$@"
 
 def parts_are_the_whole_or_end_as_the_program_does(program):
     usage = (2, "", "usage: examples/parts FILE [LOCATES [PROCESSES]]\n")
-    whole = "together the whole snapshot of 4 messages\n"
+    whole = "together the complete snapshot of 4 messages\n"
     with tempfile.TemporaryDirectory() as name:
         folder = Path(name)
         (folder / "examples").symlink_to(TOP / "examples")
@@ -271,7 +271,7 @@ def parts_are_the_whole_or_end_as_the_program_does(program):
                 ([], usage), (["-"], usage), (["a", "1", "2", "3"], usage), (["a", "0"], usage), (["a", "1", "x"], usage),
                 (["nosuch"], (3, "", "itchsnap: cannot open\n  nosuch: No such file or directory (os error 2)\n")),
                 (["examples/refused.itch"], (1, "", "itchsnap: message 2: stock mismatch\n")),
-                (["empty"], (0, "0 parts, together the whole snapshot of 0 messages\n", "")),
+                (["empty"], (0, "0 parts, together the complete snapshot of 0 messages\n", "")),
                 (["examples/opening.itch"], (0, f"1 parts, {whole}", "")),
                 *((["examples/opening.itch", "1", it], (0, f"2 parts, {whole}", "")) for it in "1239")):
             if (got := ended(*words)) != wanted:

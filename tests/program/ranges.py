@@ -1,5 +1,4 @@
-"""`--from` and `--since` with `--after` and `--until`, and `cut`, over random days whose timestamps go back and forth, against an independent
-reader.
+"""Ranges of `show` and `cut`, over random days whose timestamps go back and forth, against an independent reader.
 
 RUNS lists the runs: functions that take the program and yield the differences found.
 """

@@ -1,4 +1,4 @@
-"""The status of `live` after a feed was lost or the server was restarted, and peers of the status port that read or send in an unusual way.
+"""The status of `live` after a feed was lost or the server was restarted, and unusual peers of the status port.
 
 RUNS lists the runs: functions that take the program and yield the differences found.
 """

@@ -1,4 +1,4 @@
-"""`fetch` and `serve` in processes that are stopped and continued, as by a shell's job control: each session continues with the time that is left.
+"""`fetch` and `serve`, stopped and continued as by a shell's job control: each session has the time that is left.
 
 RUNS lists the runs: functions that take the program and yield the differences found.
 """
