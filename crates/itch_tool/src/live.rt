@@ -16,7 +16,7 @@ use std::io::{self, BufWriter};
 use std::net::{Net, ToSocketAddrs};
 use std::rt::{Clock, Files};
 
-/// Follows a feed, and serves the snapshot of its present market. The line of each client is written once it is gone.
+/// Follows a feed, and serves snapshots of its current market. The line of each client is written once it is gone.
 pub fn run_live<R>(rt: &R, words: &LiveWords<'_>) -> Result<bool, Failure>
 where
     R: Net + Clock + Files<File = File> + Print + Eprint + AllocGlobal,

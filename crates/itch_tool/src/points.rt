@@ -27,7 +27,7 @@ pub fn run_points<R: Files<File = File> + Input + Eprint + AllocGlobal + Clock>(
     beginning: &Beginning,
 ) -> Result<bool, Failure> {
     let alloc = rt.alloc();
-    let kept = Kept::of(rt, words.selection)?;
+    let kept = KeptLocates::of(rt, words.selection)?;
     let progress = if words.progress {
         ProgressLine::begin(rt)
     } else {
@@ -42,7 +42,7 @@ pub fn run_points<R: Files<File = File> + Input + Eprint + AllocGlobal + Clock>(
 fn save_points<R: Files<File = File> + AllocGlobal, S: CountedRead + Drop, A: Allocator>(
     rt: &R,
     words: &PointWords<'_>,
-    kept: &Kept<'_>,
+    kept: &KeptLocates<'_>,
     notes: &Notes,
     reader: BlockReader<S, A>,
 ) -> Result<bool, Failure> {
@@ -56,19 +56,22 @@ fn save_points<R: Files<File = File> + AllocGlobal, S: CountedRead + Drop, A: Al
 
 // The locates that the snapshots keep.
 #[derive(Drop)]
-enum Kept<'a> {
+enum KeptLocates<'a> {
     All,
     Listed(LocateSet<Global>),
     // Those that have one of these stocks at the point.
     OfStocks(&'a str),
 }
 
-impl<'a> Kept<'a> {
-    fn of<R: Files + AllocGlobal>(rt: &R, selection: Selection<'a>) -> Result<Kept<'a>, Failure> {
+impl<'a> KeptLocates<'a> {
+    fn of<R: Files + AllocGlobal>(
+        rt: &R,
+        selection: Selection<'a>,
+    ) -> Result<KeptLocates<'a>, Failure> {
         Ok(match selection {
-            Selection::All => Kept::All,
-            Selection::Locates(list) => Kept::Listed(read_only(rt, list)?),
-            Selection::Stocks(names) => Kept::OfStocks(names),
+            Selection::All => KeptLocates::All,
+            Selection::Locates(list) => KeptLocates::Listed(read_only(rt, list)?),
+            Selection::Stocks(names) => KeptLocates::OfStocks(names),
         })
     }
 }
@@ -80,7 +83,7 @@ struct Folder<'a, R: Files> {
     path: &'a str,
     _lock: File,
     index: R::File,
-    kept: &'a Kept<'a>,
+    kept: &'a KeptLocates<'a>,
     notes: &'a Notes,
     // The number of messages in the last snapshot.
     last: Option<u64>,
@@ -91,7 +94,7 @@ impl<'a, R: Files<File = File> + AllocGlobal> Folder<'a, R> {
     fn create(
         rt: &'a R,
         path: &'a str,
-        kept: &'a Kept<'a>,
+        kept: &'a KeptLocates<'a>,
         notes: &'a Notes,
     ) -> Result<Folder<'a, R>, Failure> {
         let index = format!(in rt.alloc(); "{path}/index.jsonl")?;
@@ -125,9 +128,9 @@ impl<'a, R: Files<File = File> + AllocGlobal> Folder<'a, R> {
             return Ok(());
         }
         match self.kept {
-            Kept::All => self.save_locates(pass, None),
-            Kept::Listed(set) => self.save_locates(pass, Some(set)),
-            Kept::OfStocks(names) => {
+            KeptLocates::All => self.save_locates(pass, None),
+            KeptLocates::Listed(set) => self.save_locates(pass, Some(set)),
+            KeptLocates::OfStocks(names) => {
                 let set = stock_locates(self.rt.alloc(), pass.market(), names)?;
                 self.save_locates(pass, Some(&set))
             }

@@ -43,12 +43,12 @@ pub const SINCE: Argument = Argument::Optional {
 pub const INDEX: Argument = Argument::Optional {
     long: "index",
     value: Value::Path("PATH"),
-    help: "Start reading at the range, by this index of the file; the output is the same",
+    help: "Start reading just before the range, with this index of the file; the output is the same",
 };
 
 pub const RECORDED: Argument = Argument::Flag {
     long: "snapshot",
-    help: "Read snapshots instead of day files",
+    help: "Read the input as a snapshot instead of a day file",
 };
 
 pub const ONLY: Argument = Argument::Optional {
@@ -66,7 +66,7 @@ pub const STOCK: Argument = Argument::Optional {
 pub const TYPES: Argument = Argument::Optional {
     long: "types",
     value: Value::Text("LETTERS"),
-    help: "Take only messages of these types, such as AEX",
+    help: "Select only messages of these types, such as AEX",
 };
 
 pub const JSON: Argument = Argument::Flag {
@@ -82,7 +82,7 @@ pub const OUTPUT: Argument = Argument::Optional {
 
 pub const PROGRESS: Argument = Argument::Flag {
     long: "progress",
-    help: "Report every 64 MiB, on standard error, how much has been read",
+    help: "Report progress on standard error, every 64 MiB",
 };
 
 // The feed to follow, and the snapshot server.

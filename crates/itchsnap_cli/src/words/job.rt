@@ -67,7 +67,7 @@ pub enum Job<'a> {
         from: Option<Seq>,
         output: Option<&'a str>,
     },
-    /// Follow a live feed, and serve the snapshot of its present market.
+    /// Follow a live feed, and serve snapshots of its current market.
     Live(LiveWords<'a>),
     /// Fetch a snapshot, join a live feed, and write its messages from there on.
     Follow(FollowWords<'a>),

@@ -94,7 +94,7 @@ pub fn read_from<'a>(alloc: Global, options: &ArgMatches<'a>) -> Result<Option<S
     };
     match read_digits(text).and_then(Seq::new) {
         Some(from) if from.value() <= MOST_MESSAGES => Ok(Some(from)),
-        _ => Err(usage_fault(alloc, "--from takes a number from 1 on")?),
+        _ => Err(usage_fault(alloc, "--from takes a number from 1 to 9999999999999999999")?),
     }
 }
 

@@ -104,7 +104,7 @@ select messages.",
                 },
                 Argument::Flag {
                     long: "history",
-                    help: "With --reference, also print the messages of the orders that it replaced; FILE is read twice",
+                    help: "With --reference, also print the messages about the order's earlier numbers; FILE is read twice",
                 },
                 Argument::Flag {
                     long: "orders",
@@ -235,8 +235,8 @@ bids before asks, the best first.",
 pub const COMPARE: Entry = Entry {
     name: "compare",
     topic: Topic::Files,
-    about: "Check whether two files leave the same market",
-    details: "Check whether two files leave the same market
+    about: "Check whether two files lead to the same market",
+    details: "Check whether two files lead to the same market
 
 It prints `same`, or `different at N`: the first message in which the snapshots of the two markets differ.
 Then the exit status is 1.",
@@ -316,10 +316,10 @@ select messages.",
 pub const INDEX_COMMAND: Entry = Entry {
     name: "index",
     topic: Topic::Files,
-    about: "Write the index of a day file, with which `show` and `cut` begin at a range",
-    details: "Write the index of a day file, with which `show` and `cut` begin at a range
+    about: "Write the index of a day file, with which `show` and `cut` start at a range",
+    details: "Write the index of a day file, with which `show` and `cut` start at a range
 
-It has a row for every 65,536 messages, and the stocks of the day. A file that `show` refuses is refused.",
+It contains a row for every 65,536 messages, and the stocks of the day. A file that `show` refuses is refused.",
     usage: None,
     words: &[FILE],
     groups: &[

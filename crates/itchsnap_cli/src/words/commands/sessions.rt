@@ -13,8 +13,8 @@ pub const SERVE: Entry = Entry {
     about: "Serve the snapshot of a file",
     details: "Serve the snapshot of a file
 
-It serves one client after another, and prints a line for each. Once it listens, it says so on standard
-error.",
+It serves one client after another, and prints a line for each. It reports on standard error when it
+listens.",
     usage: None,
     words: &[Argument::RequiredWord {
         id: "FILE",
@@ -58,8 +58,8 @@ error.",
 pub const FETCH: Entry = Entry {
     name: "fetch",
     topic: Topic::Sessions,
-    about: "Write the snapshot that a server has",
-    details: "Write the snapshot that a server has
+    about: "Fetch the snapshot of a server",
+    details: "Fetch the snapshot of a server
 
 The server is one of GLIMPSE, `serve` or `live`. If the connection is lost, nothing is written.",
     usage: Some("itchsnap fetch [OPTIONS] --user <USER> <HOST:PORT>"),
@@ -93,7 +93,7 @@ The server is one of GLIMPSE, `serve` or `live`. If the connection is lost, noth
                 Argument::Optional {
                     long: "from",
                     value: Value::Text("N"),
-                    help: "Write the messages from number N on as they are, instead of a whole snapshot",
+                    help: "Fetch only messages N and later, and write them as received",
                 },
             ],
         },
@@ -171,7 +171,7 @@ exits when the feed has ended its session and the clients have left, unless --st
                 Argument::Optional {
                     long: "ready",
                     value: Value::Choice("WHEN", &["first", "caught-up"]),
-                    help: "Serve clients from the first market on, or once it is caught up [default: first]",
+                    help: "Serve clients from the first market on, or once the server has caught up [default: first]",
                 },
                 Argument::Optional {
                     long: "status",

@@ -20,8 +20,8 @@ const ONE_OUTPUT: Group = Group {
 pub const SNAP: Entry = Entry {
     name: "snap",
     topic: Topic::Snapshots,
-    about: "Write the snapshot of the market that a day file leaves",
-    details: "Write the snapshot of the market that a day file leaves
+    about: "Write the snapshot of a day file's final market",
+    details: "Write the snapshot of a day file's final market
 
 With --to, it writes the snapshots of several points of the day in one pass.",
     usage: None,
@@ -33,12 +33,12 @@ With --to, it writes the snapshots of several points of the day in one pass.",
                 Argument::Optional {
                     long: "after",
                     value: Value::Text("N"),
-                    help: "Stop after the first N messages; with --to, N,.. takes a snapshot after each of them",
+                    help: "Stop after the first N messages; with --to, take a snapshot after each of N,..",
                 },
                 Argument::Optional {
                     long: "until",
                     value: Value::Text("TIME"),
-                    help: "Stop before the first message at TIME or later, such as 10:30; with --to TIME,..",
+                    help: "Stop before the first message at TIME or later, such as 10:30; with --to, take a snapshot before each of TIME,..",
                 },
             ],
         },
@@ -77,7 +77,7 @@ pub const JOIN: Entry = Entry {
     about: "Join a feed to a snapshot, and write the snapshot after both",
     details: "Join a feed to a snapshot, and write the snapshot after both
 
-Messages of the feed that the snapshot contains already are skipped. The feed is refused if a message
+Messages of the feed that the snapshot already contains are skipped. The feed is refused if a message
 between the two is missing.",
     usage: None,
     words: &[
@@ -110,8 +110,8 @@ between the two is missing.",
 pub const AT: Entry = Entry {
     name: "at",
     topic: Topic::Snapshots,
-    about: "Write the snapshot at a point of the day, starting from the nearest stored one",
-    details: "Write the snapshot at a point of the day, starting from the nearest stored one
+    about: "Write the snapshot at a point of the day, starting from the nearest saved one",
+    details: "Write the snapshot at a point of the day, starting from the nearest saved one
 
 DIR is the folder of `snap --to` or of `live --to`, with its index.jsonl. Only the part of FEED after the
 nearest snapshot is read.",
