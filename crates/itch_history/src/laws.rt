@@ -6,10 +6,11 @@ ghost use Rattle.itch_codec.specs.declared.message.Message.{Message};
 ghost use Rattle.itch_history.specs.Histories.{first_number, is_about, last_number, names, number_after, number_before};
 ghost use Rattle.itch_history.specs.Lives.{AreDone, StaysAlone};
 
-/// If no message names an order after its replacement, following an order forward from the first number of its history leads back to it:
-/// at each message it has the number from which its later replacements lead to it, and the message that names it is about the number that it
-/// then has. From that message on, it has the number that following the named number alone gives. So a message is about the number that the followed order has exactly if its order has the same first number: one direction
-/// holds for such messages, the other if no replacement gives another order the followed order's number.
+/// If no message names an order after its replacement, following an order forward from the first number of its history leads back to it: at
+/// each message it has the number from which its later replacements lead to it, and the message that names it is about the number that it
+/// then has. From that message on, it has the number that following the named number alone gives. So a message is about the number that
+/// the followed order has exactly if its order has the same first number: one direction holds for such messages, the other if no
+/// replacement gives another order the followed order's number.
 pub fn histories()
     ensures leads { (before between : List Message) → (message : Message) → (number : ℕ) → AreDone ((before ++ between) ++ message ∷ []) → names number message ≡ true
         → last_number before (first_number (before ++ between) (number_before message number)) ≡ first_number between (number_before message number) }
