@@ -16,6 +16,8 @@ mod changes;
 mod every;
 pub mod laws;
 mod listing;
+mod own;
+mod pass;
 mod request;
 mod timed;
 
