@@ -161,6 +161,7 @@ module _ {R W : Type 0} (remaining : R → Option (List ℕ)) (failed_reads : R 
       × MatchBool (continues result)
       ((stop : PartStop Refused) × ((stop ≡ part.Late) ⊎ (stop ≡ part.End)) × Stands remaining failed_reads (up_to time) first now marked stop) ⊤
 
+  -- the same, with the market and the number of messages afterwards
   abbrev pub ListsThere : BookRequest → Option Wanted → Reading R → ℕ → Reading R → Content → ℕ → W → Result Bool ToolFault → W → Type 0
   ListsThere request set first time now m count old result new =
       (marked : Marked Content) × ListsOn request set first time now marked old result new × IsAt marked m count
