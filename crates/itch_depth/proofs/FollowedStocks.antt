@@ -1,95 +1,30 @@
--- The first locate that has a stock, and its best prices, from the market of the stock alone.
-use Rattle.std.proofs.Common.{T, ◌&&◌, is_lt, nat_cmp, ◌≡◌, ℕ, ◌==◌, Bool, true, false, cond, List, [], ◌∷◌, map, find, Option, None, Some, is_some, option_map, refl, sym, ap, ap₂, ◌∙◌, subst, arith}
+-- The followed stock in the market of its locates.
+use Rattle.std.proofs.Common.{◌≡◌, ℕ, Bool, true, List, [], ◌∷◌, find, Option, None, Some, option_map, refl, sym, ap, ap₂, ◌∙◌}
 use Rattle.std.specs.List.{filter}
 use Rattle.std.specs.FinMap as finite
-use Rattle.std.specs.FinMap.{nat_cmp-IsAntisymmetric}
-use Rattle.std.specs.FinMap.Entries.{below_all, is_sorted}
-use Rattle.std.specs.Ordering.{eq_by_cmp}
-use Rattle.std.specs.Cmp.{nat_cmp_total}
-use Rattle.std.proofs.lemmas.Bool.Decides.{nat_tests}
-use Rattle.itch_codec.specs.declared.orders.Side.{Side}
 use Rattle.itch_codec.specs.declared.orders.Side.TheVariants.{Buy, Sell}
 use Rattle.itch_book.specs.declared.order.Order.{Order}
-use Rattle.itch_book.specs.StableLists.{in_order}
-use Rattle.itch_book.specs.Orders.{is_better, is_of, queue}
-use Rattle.itch_book.proofs.Lists.{by_test, filter_within, found_passes}
-use Rattle.itch_market.specs.Content.{Content, Listing, Securities}
-use Rattle.itch_market.proofs.Maps.{same_map}
-use Rattle.itch_market.proofs.Trees.{same_entries_of}
-use Rattle.itch_market.proofs.Partials.{get_cut}
+use Rattle.itch_book.proofs.Lists.{by_test, found_passes}
+use Rattle.itch_market.specs.Content.{Content, Listing}
+use Rattle.itch_commands.specs.Stocks.{is_named}
 use Rattle.itch_depth.specs.Changes.{Sides, best, best_at, followed, is_stock, levels}
-use Rattle.itch_depth.specs.Following.{IsOwn, own_stock}
+use Rattle.itch_depth.specs.Following.{wants}
+use Rattle.itch_depth.specs.Own.{IsOwn}
 use Rattle.itch_depth.specs.declared.changes.request.OneStock.{OneStock}
+use Rattle.itch_depth.specs.declared.changes.request.OneStock.TheVariants.{Locate, Named}
+use Rattle.itch_depth.proofs.OwnQueues.{own_keys, own_queue}
+use Rattle.itch_depth.proofs.OwnMarkets.{kept_in}
 
--- ---- keys
+-- whether a locate has the stock depends on its stock alone
+pub by_stock : (wanted : OneStock) (m : Content) (l : ℕ) → is_stock wanted m.securities l ≡ kept_in (wants wanted) m l
+by_stock (Locate k) m l = refl
+by_stock (Named name) m l = by_listing (finite.get m.securities l) where
+  by_listing : (o : Option Listing) → is_named name.now o ≡ wants (Named name) l (option_map (λ (s : Listing). s.entry.stock) o)
+  by_listing None = refl
+  by_listing (Some s) = refl
 
-abbrev Empty : Type 0
-Empty = Unit {0}
-
-module _ {X : Type 0} where
-  abbrev no_value : X → Empty
-  no_value x = tt
-
-  bare : List (ℕ × X) → List (ℕ × Empty)
-  bare [] = []
-  bare (e ∷ es) = (e.0, tt) ∷ bare es
-
-  below_bare : (k : ℕ) (es : List (ℕ × X)) → below_all nat_cmp k (bare es) ≡ below_all nat_cmp k es
-  unfolding bare
-  below_bare k [] = refl
-  below_bare k (e ∷ es) = ap (λ b. is_lt (nat_cmp k e.0) && b) (below_bare k es)
-
-  sorted_bare : (es : List (ℕ × X)) → is_sorted nat_cmp (bare es) ≡ is_sorted nat_cmp es
-  unfolding bare
-  sorted_bare [] = refl
-  sorted_bare (e ∷ es) = ap₂ ◌&&◌ (below_bare e.0 es) (sorted_bare es)
-
-  find_bare : (q : ℕ) (es : List (ℕ × X)) → finite.find nat_cmp q (bare es) ≡ option_map no_value (finite.find nat_cmp q es)
-  unfolding bare
-  find_bare q [] = refl
-  find_bare q (e ∷ es) = ap (cond (eq_by_cmp nat_cmp q e.0) (Some tt)) (find_bare q es) ∙ by_key (eq_by_cmp nat_cmp q e.0) where
-    by_key : (b : Bool) → cond b (Some tt) (option_map no_value (finite.find nat_cmp q es)) ≡ option_map no_value (cond b (Some e.1) (finite.find nat_cmp q es))
-    by_key true = refl
-    by_key false = refl
-
-  keys_bare : (es : List (ℕ × X)) → map (λ (e : ℕ × Empty). e.0) (bare es) ≡ map (λ (e : ℕ × X). e.0) es
-  unfolding bare
-  keys_bare [] = refl
-  keys_bare (e ∷ es) = ap (λ ks. e.0 ∷ ks) (keys_bare es)
-
-  -- the keys of a map, with no values
-  key_set : finite.FinMap nat_cmp X → finite.FinMap nat_cmp Empty
-  key_set m = finite.from_sorted (bare (finite.entries m))
-
-  bare_sorted : (m : finite.FinMap nat_cmp X) → T (is_sorted nat_cmp (bare (finite.entries m)))
-  bare_sorted m = subst T (sym (sorted_bare (finite.entries m))) (finite.entries_sorted m)
-
-  get_key : (m : finite.FinMap nat_cmp X) (q : ℕ) → finite.get (key_set m) q ≡ option_map no_value (finite.get m q)
-  unfolding key_set
-  get_key m q = finite.get-from_sorted nat_cmp (bare (finite.entries m)) q (bare_sorted m) ∙ find_bare q (finite.entries m) ∙ ap (option_map no_value) (sym (finite.get-entries m q))
-
-  keys_alone : (m : finite.FinMap nat_cmp X) → finite.keys (key_set m) ≡ finite.keys m
-  unfolding key_set
-  keys_alone m = ap (map (λ (e : ℕ × Empty). e.0)) (finite.entries-from_sorted nat_cmp (bare (finite.entries m)) (bare_sorted m)) ∙ keys_bare (finite.entries m)
-
-  -- maps with values for the same keys have the same keys
-  pub same_keys : (m n : finite.FinMap nat_cmp X) → ((q : ℕ) → is_some (finite.get m q) ≡ is_some (finite.get n q)) → finite.keys m ≡ finite.keys n
-  same_keys m n same =
-      sym (keys_alone m) ∙ ap finite.keys (same_map (key_set m) (key_set n) (λ q. get_key m q ∙ alike (finite.get m q) (finite.get n q) (same q) ∙ sym (get_key n q))) ∙ keys_alone n where
-        alike : (o p : Option X) → is_some o ≡ is_some p → option_map no_value o ≡ option_map no_value p
-        alike None None is = refl
-        alike None (Some y) is = absurd (cc is)
-        alike (Some x) None is = absurd (cc is)
-        alike (Some x) (Some y) is = refl
-
--- the keys that are kept
-kept_keys : (s : Securities) (w : ℕ → Bool) → finite.keys (finite.retain_keys s w) ≡ filter w (finite.keys s)
-kept_keys s w = ap (map (λ (e : ℕ × Listing). e.0)) (same_entries_of nat_cmp_total nat_cmp-IsAntisymmetric w s) ∙ of_pairs (finite.entries s) where
-  of_pairs : (es : List (ℕ × Listing)) → map (λ (e : ℕ × Listing). e.0) (filter (λ e. w e.0) es) ≡ filter w (map (λ (e : ℕ × Listing). e.0) es)
-  of_pairs [] = refl
-  of_pairs (e ∷ es) = by_test (w e.0) (λ keeps. simp keeps (ap (λ ks. e.0 ∷ ks) (of_pairs es))) (λ drops. simp drops (of_pairs es))
-
--- ---- the market of the stock
+same_locates : (wanted : OneStock) (m : Content) → is_stock wanted m.securities ≡ kept_in (wants wanted) m
+same_locates wanted m = λ i l. by_stock wanted m l i
 
 -- the first of these, if there is one
 abbrev pub first_of : List ℕ → Option ℕ
@@ -100,34 +35,12 @@ find_first : (p : ℕ → Bool) (ks : List ℕ) → find p ks ≡ first_of (filt
 find_first p [] = refl
 find_first p (k ∷ ks) = by_test (p k) (λ on. simp on refl) (λ off. simp off (find_first p ks))
 
-module _ (S : OneStock) (m own : Content) (is_own : IsOwn S m own) where
-  own_keys : finite.keys own.securities ≡ filter (is_stock S m.securities) (finite.keys m.securities)
-  own_keys = same_keys own.securities (finite.retain_keys m.securities (is_stock S m.securities)) same ∙ kept_keys m.securities (is_stock S m.securities) where
-    by_stock : (b : Bool) (o p : Option Listing) → option_map (λ (s : Listing). s.entry.stock) p ≡ own_stock b (option_map (λ (s : Listing). s.entry.stock) o) → is_some p ≡ is_some (cond b o None)
-    by_stock true None None is = refl
-    by_stock true None (Some t) is = absurd (cc is)
-    by_stock true (Some s) None is = absurd (cc is)
-    by_stock true (Some s) (Some t) is = refl
-    by_stock false o None is = refl
-    by_stock false o (Some t) is = absurd (cc is)
-
-    same : (q : ℕ) → is_some (finite.get own.securities q) ≡ is_some (finite.get (finite.retain_keys m.securities (is_stock S m.securities)) q)
-    same q =
-        by_stock (is_stock S m.securities q) (finite.get m.securities q) (finite.get own.securities q) (IsOwn.listed is_own q)
-        ∙ ap is_some (sym (get_cut (is_stock S m.securities) m.securities q))
-
+module _ (S : OneStock) (m own : Content) (is_own : IsOwn (wants S) m own) where
   -- the first locate that has the stock is the first of the market of the stock
   pub followed_own : followed S m ≡ first_of (finite.keys own.securities)
-  followed_own = find_first (is_stock S m.securities) (finite.keys m.securities) ∙ ap first_of (sym own_keys)
-
-  own_queue : (l : ℕ) (s : Side) → is_stock S m.securities l ≡ true → queue m.orders l s ≡ queue own.orders l s
-  own_queue l s has =
-      let before : Order → Order → Bool = λ x y. is_better s x.price y.price in
-      sym (ap (λ os. in_order before (filter (is_of l s) os)) is_own.orders
-      ∙ ap (in_order before) (filter_within (is_of l s) (λ x. is_stock S m.securities x.locate) (λ x of. at_locate x (x.locate == l) refl of) m.orders)) where
-        at_locate : (x : Order) (b : Bool) → (x.locate == l) ≡ b → is_of l s x ≡ true → is_stock S m.securities x.locate ≡ true
-        at_locate x true on of = let here : x.locate ≡ l = grind (arith, nat_tests) in ap (is_stock S m.securities) here ∙ has
-        at_locate x false off of = let no : is_of l s x ≡ false = simp off refl in absurd (cc (sym no ∙ of))
+  followed_own =
+      find_first (is_stock S m.securities) (finite.keys m.securities)
+      ∙ ap first_of (ap (λ (v : ℕ → Bool). filter v (finite.keys m.securities)) (same_locates S m) ∙ sym (own_keys (wants S) m own is_own))
 
   -- the best prices of the stock are those of that market
   pub best_own : (depth : ℕ) → best depth S m ≡ best_at depth own.orders (first_of (finite.keys own.securities))
@@ -135,7 +48,7 @@ module _ (S : OneStock) (m own : Content) (is_own : IsOwn S m own) where
     by_found : (o : Option ℕ) → followed S m ≡ o → best_at depth m.orders (followed S m) ≡ best_at depth own.orders (followed S m)
     by_found None there = ap (best_at depth m.orders) there ∙ sym (ap (best_at depth own.orders) there)
     by_found (Some l) there =
-        let has : is_stock S m.securities l ≡ true = found_passes (is_stock S m.securities) (finite.keys m.securities) l there in
+        let has : kept_in (wants S) m l ≡ true = sym (by_stock S m l) ∙ found_passes (is_stock S m.securities) (finite.keys m.securities) l there in
         ap (best_at depth m.orders) there
-        ∙ ap₂ (λ (b a : List Order). let sides : Sides = record { bids = levels depth b; asks = levels depth a } in sides) (own_queue l Buy has) (own_queue l Sell has)
+        ∙ ap₂ (λ (b a : List Order). let sides : Sides = record { bids = levels depth b; asks = levels depth a } in sides) (own_queue (wants S) m own is_own l Buy has) (own_queue (wants S) m own is_own l Sell has)
         ∙ sym (ap (best_at depth own.orders) there)

@@ -5,8 +5,10 @@ use Rattle.itch_codec.specs.Text.{before_spaces}
 use Rattle.itch_book.proofs.Lists.{found_passes}
 use Rattle.itch_market.specs.Content.{Content, Listing}
 use Rattle.itch_depth.specs.Changes.{Sides, best_at, change_line, followed, is_stock, lines_at, lines_of, listed_lines}
-use Rattle.itch_depth.specs.Following.{IsFollowing, IsOwn, own_stock, stock_at}
+use Rattle.itch_depth.specs.Following.{IsFollowing}
+use Rattle.itch_depth.specs.Own.{IsOwn, own_stock, stock_at}
 use Rattle.itch_depth.specs.declared.changes.request.ChangesRequest.{ChangesRequest}
+use Rattle.itch_depth.proofs.FollowedStocks.{by_stock}
 
 module _ (R : ChangesRequest) (m own : Content) (locate : Option ℕ) (shown : Sides) (follow : IsFollowing R m own locate shown) (number time : ℕ) where
   -- without a locate there are none
@@ -20,7 +22,7 @@ module _ (R : ChangesRequest) (m own : Content) (locate : Option ℕ) (shown : S
     same_stock : stock_at own l ≡ stock_at m l
     same_stock =
         IsOwn.listed follow.own_market l
-        ∙ ap (λ b. own_stock b (stock_at m l)) (found_passes (is_stock R.stock m.securities) (finite.keys m.securities) l there)
+        ∙ ap (λ b. own_stock b (stock_at m l)) (sym (by_stock R.stock m l) ∙ found_passes (is_stock R.stock m.securities) (finite.keys m.securities) l there)
 
     lines_there : lines_of R number time m ≡ listed_lines R number time l shown (finite.get m.securities l)
     lines_there =

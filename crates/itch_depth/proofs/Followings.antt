@@ -17,15 +17,17 @@ use Rattle.itch_market.specs.Reasons.{reason}
 use Rattle.itch_market.specs.Effects.{effect}
 use Rattle.itch_market.specs.GoodMarkets.{IsGood}
 use Rattle.itch_market.proofs.Maps.{get_there}
-use Rattle.itch_depth.specs.Changes.{Sides, best, best_at, best_of, followed, is_stock, levels, nothing, same_sides}
+use Rattle.itch_depth.specs.Changes.{Sides, best, best_at, best_of, followed, levels, nothing, same_sides}
 use Rattle.itch_depth.specs.ChangedPrices.{AreSameElsewhere}
-use Rattle.itch_depth.specs.Following.{FollowsOne, IsFollowing, IsOwn, PassesOne, Renews, own_stock, stock_at}
+use Rattle.itch_depth.specs.Following.{FollowsOne, IsFollowing, PassesOne, Renews, wants}
+use Rattle.itch_depth.specs.Own.{IsOwn}
 use Rattle.itch_depth.specs.declared.changes.changed_price.ChangedPrice.{ChangedPrice}
 use Rattle.itch_depth.specs.declared.changes.request.ChangesRequest.{ChangesRequest}
 use Rattle.itch_depth.specs.declared.changes.book.Unfollowed.{Unfollowed}
 use Rattle.itch_depth.proofs.BetterPrices.{same_levels_again, same_queue}
-use Rattle.itch_depth.proofs.FollowedStocks.{best_own, first_of, followed_own, same_keys}
-use Rattle.itch_depth.proofs.OwnMarkets.{is_entry, stocks_kept}
+use Rattle.itch_depth.proofs.FollowedStocks.{best_own, first_of, followed_own}
+use Rattle.itch_depth.proofs.OwnQueues.{same_keys}
+use Rattle.itch_depth.proofs.OwnMarkets.{empty_own, is_entry, stocks_kept}
 
 pub same_sides_again : (x : Sides) → same_sides x x ≡ true
 same_sides_again x = simp (same_levels_again x.bids, same_levels_again x.asks) refl
@@ -71,7 +73,7 @@ unchanged depth own (Some l) shown are = (are, sym (ap not (same_sides_again sho
 
 module _ (R : ChangesRequest) (m own : Content) (locate : Option ℕ) (shown : Sides) (follow : IsFollowing R m own locate shown) where
   -- a market in which the market of the stock is the same
-  pub still_followed : (n : Content) → IsOwn R.stock n own → IsFollowing R n own locate shown × (best R.depth R.stock n ≡ best R.depth R.stock m)
+  pub still_followed : (n : Content) → IsOwn (wants R.stock) n own → IsFollowing R n own locate shown × (best R.depth R.stock n ≡ best R.depth R.stock m)
   still_followed n is_own =
       let same : best R.depth R.stock n ≡ best R.depth R.stock m = best_own R.stock n own is_own R.depth ∙ sym (best_own R.stock m own follow.own_market R.depth) in (
         record {
@@ -82,7 +84,7 @@ module _ (R : ChangesRequest) (m own : Content) (locate : Option ℕ) (shown : S
         same,
       )
 
-  pub nothing_told : (n : Content) → IsOwn R.stock n own → IsFollowing R n own locate shown × (false ≡ not (same_sides (best R.depth R.stock m) (best R.depth R.stock n)))
+  pub nothing_told : (n : Content) → IsOwn (wants R.stock) n own → IsFollowing R n own locate shown × (false ≡ not (same_sides (best R.depth R.stock m) (best R.depth R.stock n)))
   nothing_told n is_own =
       let both = still_followed n is_own in
       (both.0, sym (ap (λ b. not (same_sides (best R.depth R.stock m) b)) both.1 ∙ ap not (same_sides_again (best R.depth R.stock m))))
@@ -95,7 +97,7 @@ module _ (R : ChangesRequest) (m own : Content) (locate : Option ℕ) (shown : S
   none_shown none = shown_own ∙ ap (best_at R.depth own.orders) none
 
   -- a message other than an entry of the directory leaves the locate
-  pub locate_stays : (x : Message) (n : Content) → is_entry x ≡ false → IsOwn R.stock n (laid (effect own x)) → locate ≡ followed R.stock n
+  pub locate_stays : (x : Message) (n : Content) → is_entry x ≡ false → IsOwn (wants R.stock) n (laid (effect own x)) → locate ≡ followed R.stock n
   locate_stays x n other is_own =
       follow.place ∙ followed_own R.stock m own follow.own_market
       ∙ ap first_of (same_keys own.securities (effect own x).securities (λ q. alike (finite.get own.securities q) (finite.get (effect own x).securities q) (stocks_kept own x other q)))
@@ -107,7 +109,7 @@ module _ (R : ChangesRequest) (m own : Content) (locate : Option ℕ) (shown : S
         alike (Some s) (Some t) is = refl
 
   -- the best prices after a message about the stock
-  pub follows_on : (n now : Content) (there : Option ℕ) (result : Result Bool Unfollowed) (shows : Sides) → IsOwn R.stock n now → there ≡ followed R.stock n → (there ≡ None → shown ≡ nothing)
+  pub follows_on : (n now : Content) (there : Option ℕ) (result : Result Bool Unfollowed) (shows : Sides) → IsOwn (wants R.stock) n now → there ≡ followed R.stock n → (there ≡ None → shown ≡ nothing)
       → Renews R.depth now there shown result shows → FollowsOne R m n result now there shows
   follows_on n now None (Err fault) shows is_own place none renews = renews
   follows_on n now (Some l) (Err fault) shows is_own place none renews = renews
@@ -126,15 +128,8 @@ module _ (R : ChangesRequest) (m own : Content) (locate : Option ℕ) (shown : S
 -- before any message
 pub begun : (R : ChangesRequest) → IsFollowing R empty empty None nothing
 begun R = record { own_market = is_own; place = place; sides = ap (best_at R.depth []) place } where
-  none_there : (l : ℕ) → stock_at empty l ≡ None
-  none_there l = ap (option_map (λ (s : Listing). s.entry.stock)) (finite.get-empty nat_cmp l)
-
-  nothing_own : (b : Bool) (o : Option (List ℕ)) → o ≡ None → o ≡ own_stock b o
-  nothing_own true o none = refl
-  nothing_own false o none = none
-
-  is_own : IsOwn R.stock empty empty
-  is_own = record { listed = λ l. nothing_own (is_stock R.stock empty.securities l) (stock_at empty l) (none_there l); orders = refl }
+  is_own : IsOwn (wants R.stock) empty empty
+  is_own = empty_own (wants R.stock)
 
   no_keys : (es : List (ℕ × Listing)) → length es ≡ 0 → None ≡ first_of (map (λ (e : ℕ × Listing). e.0) es)
   no_keys [] none = refl

@@ -11,10 +11,14 @@ pub mod LookedAt
 pub mod BetterPrices
 pub mod ChangedOrders
 pub mod OwnMarkets
+pub mod OwnQueues
+pub mod OwnBooks
 pub mod FollowedStocks
 pub mod Followings
 pub mod FollowedTexts
 pub mod FollowedLines
 pub mod FollowedMessages
 pub mod OtherPayloads
+pub mod TimedMessages
+pub mod TimedParts
 pub mod FollowedDays

@@ -1,5 +1,5 @@
 -- Books at the multiples of a duration, one after another.
-use Rattle.std.proofs.Common.{◌≡◌, ℕ, ◌+◌, ◌-◌, ◌*◌, ◌/◌, ◌≤◌, zero, suc, Bool, true, false, List, Option, None, Some, Result, Ok, Err, inl, inr, refl, sym, ap, subst, ◌∙◌, arith}
+use Rattle.std.proofs.Common.{◌≡◌, ℕ, ◌+◌, ◌-◌, ◌*◌, ◌/◌, ◌≤◌, zero, suc, Bool, true, false, List, Option, None, Some, Result, Ok, Err, inl, inr, refl, sym, subst, arith}
 use Rattle.std.specs.Bool.{MatchBool}
 use Rattle.itch_frame.specs.Reading.{Reading}
 use Rattle.itch_frame.specs.declared.tally.Failures.{Failures}
@@ -7,7 +7,6 @@ use Rattle.itch_day.specs.Limits.{counted}
 use Rattle.itch_day.specs.Parts.{GoesOnTo}
 use Rattle.itch_day.specs.Passing.{left_by}
 use Rattle.itch_day.specs.declared.limit.Limit.{Limit}
-use Rattle.itch_day.specs.declared.mark.Mark.{Mark}
 use Rattle.itch_day.specs.declared.marked.Marked.{Marked}
 use Rattle.itch_day.specs.declared.stop.PartStop.{PartStop}
 use Rattle.itch_day.specs.declared.stop.PartStop.TheVariants.{Full, Late}
@@ -19,7 +18,7 @@ use Rattle.itch_commands.specs.Files.{ReadsFile}
 use Rattle.itch_commands.specs.declared.fault.Source.TheVariants.{Only}
 use Rattle.itch_commands.specs.declared.fault.ToolFault.{ToolFault}
 use Rattle.itch_commands.specs.declared.kind.FileKind.TheVariants.{Day}
-use Rattle.itch_depth.specs.Series.{AtEnd, AtMultiples, AtNext, AtTimeAfter, Checks, ListsAfter, ListsBegun, ListsMarket, continues, latest}
+use Rattle.itch_depth.specs.Series.{AtEnd, AtMultiples, AtNext, AtTimeAfter, Checks, IsAt, ListsAfter, ListsMarket, continues, latest}
 use Rattle.itch_depth.specs.Timed.{timed_books}
 use Rattle.itch_depth.specs.declared.request.BookRequest.{BookRequest}
 use Rattle.itch_depth.proofs.PartsOfDays.{part_checked, part_lacks, part_listed, refused_part, timed_of_market}
@@ -45,14 +44,18 @@ module _ {R : Type 0} (remaining : R → Option (List ℕ)) (failed_reads : R �
         (then, inr (done.0, refl, done.1))
 
 -- after some messages the books are written
-pub begun_after : {W : Type 0} (contents : W → Option (List ℕ)) (failed_writes : W → Failures) (request : BookRequest) (set : Option Wanted) (marked : Marked Content) (time : ℕ) (old new : W)
-    (result : Result Bool ToolFault) (mark : Mark) → mark ≡ marked.mark → (mark.count ≡ 0 → ⊥) → ListsMarket contents failed_writes request set marked.sink time old result new
-    → ListsBegun contents failed_writes request set marked time old result new
-begun_after contents failed_writes request set marked time old new result mark is some wrote =
-    some_there marked.mark.count (λ none. some (ap (λ (k : Mark). k.count) is ∙ none)) where
-      some_there : (count : ℕ) → (count ≡ 0 → ⊥) → ListsAfter contents failed_writes count request set marked.sink time old result new
-      some_there zero some = absurd (some refl)
-      some_there (suc count) some = wrote
+pub some_after : {W : Type 0} (contents : W → Option (List ℕ)) (failed_writes : W → Failures) (request : BookRequest) (set : Option Wanted) (m : Content) (time : ℕ) (old new : W) (result : Result Bool ToolFault)
+    (count : ℕ) → (count ≡ 0 → ⊥) → ListsMarket contents failed_writes request set m time old result new → ListsAfter contents failed_writes count request set m time old result new
+some_after contents failed_writes request set m time old new result zero some wrote = absurd (some refl)
+some_after contents failed_writes request set m time old new result (suc count) some wrote = wrote
+
+-- the market and the number of a pass are those of its point
+pub after_at : {W : Type 0} (contents : W → Option (List ℕ)) (failed_writes : W → Failures) (request : BookRequest) (set : Option Wanted) (time : ℕ) (old new : W) (result : Result Bool ToolFault)
+    (marked : Marked Content) (m : Content) (count : ℕ) → IsAt marked m count → ListsAfter contents failed_writes count request set m time old result new
+    → ListsAfter contents failed_writes marked.mark.count request set marked.sink time old result new
+after_at contents failed_writes request set time old new result marked m count at lists =
+    subst (λ k. ListsAfter contents failed_writes k request set marked.sink time old result new) (sym at.counted)
+    (subst (λ n. ListsAfter contents failed_writes count request set n time old result new) (sym at.market) lists)
 
 module _ {R W : Type 0} (remaining : R → Option (List ℕ)) (failed_reads : R → Failures) (contents : W → Option (List ℕ)) (failed_writes : W → Failures)
     (request : BookRequest) (set : Option Wanted) (first : Reading R) (step : ℕ) where
@@ -86,7 +89,7 @@ module _ {R W : Type 0} (remaining : R → Option (List ℕ)) (failed_reads : R 
   module _ (multiple left : ℕ) (old mid : W) (before now : Reading R) (began marked : Marked Content) (turn : InMultiples multiple (suc left) old mid before began) where
     -- a message follows at that time or later
     module _ (read : ReadsUntil remaining failed_reads (multiple * step) first now (Ok true) marked) (new : W) (answer : Result Bool ToolFault)
-        (listed : ListsBegun contents failed_writes request set marked (multiple * step) mid answer new) where
+        (listed : ListsAfter contents failed_writes marked.mark.count request set marked.sink (multiple * step) mid answer new) where
       at_time : (count : ℕ) → ListsAfter contents failed_writes count request set marked.sink (multiple * step) mid answer new
           → AtTimeAfter remaining failed_reads contents failed_writes count request set first (multiple * step) mid answer new
       at_time zero nothing = nothing
@@ -149,8 +152,9 @@ module _ {R W : Type 0} (remaining : R → Option (List ℕ)) (failed_reads : R 
   multiples_all multiple left old new now marked none turn result ends =
       turn.rest new result (subst (λ n. AtNext remaining failed_reads contents failed_writes request set first step multiple n new result new) (sym none) (ends, refl))
 
--- the same for any beginning of the reading
+-- the same for any beginning of the reading, with the market and the number of messages of a pass
 pub record EveryInTurn {R W : Type 0} (remaining : R → Option (List ℕ)) (failed_reads : R → Failures) (contents : W → Option (List ℕ)) (failed_writes : W → Failures)
-    (request : BookRequest) (set : Option Wanted) (step multiple : ℕ) (old new : W) (start : Reading R) (began : Marked Content) (now : Reading R) (marked : Marked Content) : Type 0 where
-  pub turn : (first : Reading R) → Stands remaining failed_reads (record { after = Some 0; until = Some 0 }) first start began Full
-      → InMultiples remaining failed_reads contents failed_writes request set first step multiple (latest / step + 1 - multiple) old new now marked
+    (request : BookRequest) (set : Option Wanted) (step multiple : ℕ) (old new : W) (start : Reading R) (first_market : Content) (first_count : ℕ) (now : Reading R) (m : Content) (count : ℕ) : Type 0 where
+  pub turn : (first : Reading R) → (began : Marked Content) → Stands remaining failed_reads (record { after = Some 0; until = Some 0 }) first start began Full → IsAt began first_market first_count
+      → (marked : Marked Content)
+      × InMultiples remaining failed_reads contents failed_writes request set first step multiple (latest / step + 1 - multiple) old new now marked × IsAt marked m count

@@ -1,4 +1,4 @@
--- A payload whose locate has another stock.
+-- A payload whose locate is not kept apart.
 use Rattle.std.proofs.Common.{◌≡◌, ℕ, ◌+◌, ◌*◌, ◌≤◌, ◌==◌, ◌||◌, Bool, true, false, not, List, [], ◌∷◌, length, Option, None, is_some, if◌then◌else◌, refl, sym, ap, ◌∙◌, subst, arith}
 use Rattle.std.specs.FinMap as finite
 use Rattle.std.proofs.lemmas.Bool.Decides.{nat_tests}
@@ -15,9 +15,9 @@ use Rattle.itch_market.specs.GoodMarkets.{IsGood}
 use Rattle.itch_market.specs.Takings.{TakesMessage}
 use Rattle.itch_market.proofs.Causes.{no_fault, no_reason}
 use Rattle.itch_depth.specs.Changes.{Sides, best, change, lines_of, same_sides, time_or_midnight}
-use Rattle.itch_depth.specs.Following.{IsFollowing, concerns, may_concern}
+use Rattle.itch_depth.specs.Following.{IsFollowing, wants}
+use Rattle.itch_depth.specs.Own.{concerns, may_concern}
 use Rattle.itch_depth.specs.declared.changes.request.ChangesRequest.{ChangesRequest}
-use Rattle.itch_depth.specs.declared.changes.request.OneStock.{OneStock}
 use Rattle.itch_depth.proofs.Followings.{nothing_told}
 use Rattle.itch_depth.proofs.OwnMarkets.{far_message}
 
@@ -30,7 +30,7 @@ neither true b none = absurd (cc none)
 neither false b none = (refl, none)
 
 module _ (own : Content) where
-  -- it is no entry of the directory, and its locate is not in the market of the stock
+  -- it is no entry of the directory, and its locate is not in the market of some locates
   elsewhere : (payload : List ℕ) → 3 ≤ length payload → may_concern own payload ≡ false
       → ((byte_at 0 payload == 82) ≡ false) × (is_some (finite.get own.securities (number_at 1 2 payload)) ≡ false)
   elsewhere [] long far = absurd (omega arith)
@@ -40,12 +40,12 @@ module _ (own : Content) where
       let both = neither (k == 82) (is_some (finite.get own.securities (256 * h + l))) far in
       (both.0, ap (λ q. is_some (finite.get own.securities q)) (two_bytes k h l rest) ∙ both.1)
 
-  module _ (S : OneStock) (payload : List ℕ) (far : may_concern own payload ≡ false) where
+  module _ (w : ℕ → Option (List ℕ) → Bool) (payload : List ℕ) (far : may_concern own payload ≡ false) where
     headed : (h : Header) (size : ℕ) → h.locate ≡ number_at 1 2 payload → length payload ≡ size → 3 ≤ size → is_some (finite.get own.securities h.locate) ≡ false
     headed h size here long some = ap (λ q. is_some (finite.get own.securities q)) here ∙ (elsewhere payload (omega (arith, long, some)) far).1
 
-    -- so its message is about another stock, or about none
-    by_message : (x : Message) → Spells x payload → concerns S own x ≡ false
+    -- so its message is about another locate, or about none
+    by_message : (x : Message) → Spells x payload → concerns w own x ≡ false
     by_message (is.SystemEvent x) spelled = headed x.header 12 spelled.fields.0 spelled.size (omega arith)
     by_message (is.StockDirectory x) spelled =
         let long : 3 ≤ length payload = (let size = spelled.size in omega (arith, size)) in
@@ -69,7 +69,7 @@ module _ (own : Content) where
     by_message (is.End next) spelled = refl
     by_message (is.Other bytes) spelled = refl
 
-    other_message : fault payload ≡ None → concerns S own (message_of payload) ≡ false
+    pub other_message : fault payload ≡ None → concerns w own (message_of payload) ≡ false
     other_message clean = by_message (message_of payload) (Spells-message_of payload clean)
 
 -- a market that takes it changes no best price of the stock
@@ -78,8 +78,8 @@ pub passed_over : (R : ChangesRequest) (number : ℕ) (payload : List ℕ) (m n 
     → IsFollowing R n own locate shown × (change R number (message_of payload) m n ≡ [])
 passed_over R number payload m n own locate shown follow good in_order far (clean, fits, after) =
     let x = message_of payload in
-    let other = other_message own R.stock payload far (no_fault m payload clean) in
-    let told = nothing_told R m own locate shown follow (laid (effect m x)) (far_message R.stock m own follow.own_market good in_order x (no_reason m payload clean) other) in
+    let other = other_message own (wants R.stock) payload far (no_fault m payload clean) in
+    let told = nothing_told R m own locate shown follow (laid (effect m x)) (far_message (wants R.stock) m own follow.own_market good in_order x (no_reason m payload clean) other) in
     let still : IsFollowing R n own locate shown × (false ≡ not (same_sides (best R.depth R.stock m) (best R.depth R.stock n))) =
     subst (λ k. IsFollowing R k own locate shown × (false ≡ not (same_sides (best R.depth R.stock m) (best R.depth R.stock k)))) (sym after) told in
     (still.0, by_same (same_sides (best R.depth R.stock m) (best R.depth R.stock n)) still.1) where

@@ -1,11 +1,10 @@
--- The market of one stock after each message that a market takes.
-use Rattle.std.proofs.Common.{◌≡◌, ℕ, ◌==◌, eqb, Bool, true, false, cond, not, List, [], ◌∷◌, bytes_eq, Option, None, Some, IsSome, is_some, option_map, refl, sym, ap, ap₂, ◌∙◌, subst, arith}
+-- The market of some locates after each message that a market takes.
+use Rattle.std.proofs.Common.{◌≡◌, ℕ, ◌==◌, eqb, Bool, true, false, cond, not, List, [], ◌∷◌, bytes_eq, Option, None, Some, IsSome, is_some, nat_cmp, option_map, refl, sym, ap, ap₂, ◌∙◌, subst, arith}
 use Rattle.std.specs.List.{filter, AllByRecursion}
 use Rattle.std.specs.FinMap as finite
 use Rattle.std.proofs.lemmas.Bool.Decides.{nat_tests}
 use Rattle.std.proofs.lemmas.Slice.Eq.{bytes_eq-Decides}
 use Rattle.itch_codec.specs.Headers.{header}
-use Rattle.itch_codec.specs.Text.{before_spaces}
 use Rattle.itch_codec.specs.declared.message.Message.{Message}
 use Rattle.itch_codec.specs.declared.message.Message.TheVariants as is
 use Rattle.itch_codec.specs.declared.stocks.Directory.{Directory}
@@ -16,7 +15,7 @@ use Rattle.itch_book.proofs.Lists.{All-found_rec, All-weaker_rec, filter_within}
 use Rattle.itch_book.proofs.BookLemmas.{lay-filter}
 use Rattle.itch_market.specs.declared.refusal.Refusal.{Refusal}
 use Rattle.itch_market.specs.declared.refusal.Refusal.TheVariants.{LocateMismatch, StockMismatch}
-use Rattle.itch_market.specs.Content.{Content, Listing, laid}
+use Rattle.itch_market.specs.Content.{Content, Listing, empty, laid}
 use Rattle.itch_market.specs.Effects.{action_of, changed, changed_at, effect, entered, order_of, position_of, with_action, with_halt, with_position, with_sho}
 use Rattle.itch_market.specs.GoodMarkets.{IsGood, IsListed}
 use Rattle.itch_market.specs.Partial.{is_out, locate_of, only, skips}
@@ -24,30 +23,10 @@ use Rattle.itch_market.specs.Reasons.{directory_reason, order_reason, reason, se
 use Rattle.itch_market.proofs.AllowedMessages.{passed}
 use Rattle.itch_market.proofs.Maps.{get-insert}
 use Rattle.itch_market.proofs.Partials.{IsKept, kept_message}
-use Rattle.itch_commands.specs.Stocks.{is_named}
 use Rattle.itch_depth.specs.ChangedPrices.{changed_price, is_elsewhere}
 use Rattle.itch_depth.specs.declared.changes.changed_price.ChangedPrice.{ChangedPrice}
 use Rattle.itch_depth.proofs.ChangedOrders.{DifferAt, changed_locate, orders_differ}
-use Rattle.itch_depth.specs.Changes.{is_stock}
-use Rattle.itch_depth.specs.Following.{IsOwn, concerns, enters, is_located, own_stock, stock_at}
-use Rattle.itch_depth.specs.declared.changes.request.OneStock.{OneStock}
-use Rattle.itch_depth.specs.declared.changes.request.OneStock.TheVariants.{Locate, Named}
-
--- ---- stocks
-
--- a locate with this stock in the directory, or none, is wanted
-abbrev pub wants : OneStock → ℕ → Option (List ℕ) → Bool
-wants (Locate wanted) locate stock = locate == wanted
-wants (Named name) locate None = false
-wants (Named name) locate (Some stock) = bytes_eq (before_spaces stock) name.now
-
--- whether a locate has the stock depends on its stock alone
-pub by_stock : (wanted : OneStock) (m : Content) (l : ℕ) → is_stock wanted m.securities l ≡ wants wanted l (stock_at m l)
-by_stock (Locate k) m l = refl
-by_stock (Named name) m l = by_listing (finite.get m.securities l) where
-  by_listing : (o : Option Listing) → is_named name.now o ≡ wants (Named name) l (option_map (λ (s : Listing). s.entry.stock) o)
-  by_listing None = refl
-  by_listing (Some s) = refl
+use Rattle.itch_depth.specs.Own.{IsOwn, concerns, is_located, own_stock, stock_at}
 
 -- ---- the effects of messages
 
@@ -141,25 +120,25 @@ located own (is.BrokenTrade x) l there = cc
 located own (is.End next) l there = cc
 located own (is.Other payload) l there = cc
 
-is_its : (own : Content) (S : OneStock) (x : Message) → is_entry x ≡ false → concerns S own x ≡ is_located own (header x)
-is_its own S (is.SystemEvent x) other = refl
-is_its own S (is.StockDirectory x) other = absurd (cc other)
-is_its own S (is.TradingAction x) other = refl
-is_its own S (is.RegSho x) other = refl
-is_its own S (is.Halt x) other = refl
-is_its own S (is.Position x) other = refl
-is_its own S (is.AddOrder x) other = refl
-is_its own S (is.AttributedAddOrder x) other = refl
-is_its own S (is.OrderExecuted x) other = refl
-is_its own S (is.OrderExecutedWithPrice x) other = refl
-is_its own S (is.OrderCancel x) other = refl
-is_its own S (is.OrderDelete x) other = refl
-is_its own S (is.OrderReplace x) other = refl
-is_its own S (is.Trade x) other = refl
-is_its own S (is.CrossTrade x) other = refl
-is_its own S (is.BrokenTrade x) other = refl
-is_its own S (is.End next) other = refl
-is_its own S (is.Other payload) other = refl
+is_its : (own : Content) (w : ℕ → Option (List ℕ) → Bool) (x : Message) → is_entry x ≡ false → concerns w own x ≡ is_located own (header x)
+is_its own w (is.SystemEvent x) other = refl
+is_its own w (is.StockDirectory x) other = absurd (cc other)
+is_its own w (is.TradingAction x) other = refl
+is_its own w (is.RegSho x) other = refl
+is_its own w (is.Halt x) other = refl
+is_its own w (is.Position x) other = refl
+is_its own w (is.AddOrder x) other = refl
+is_its own w (is.AttributedAddOrder x) other = refl
+is_its own w (is.OrderExecuted x) other = refl
+is_its own w (is.OrderExecutedWithPrice x) other = refl
+is_its own w (is.OrderCancel x) other = refl
+is_its own w (is.OrderDelete x) other = refl
+is_its own w (is.OrderReplace x) other = refl
+is_its own w (is.Trade x) other = refl
+is_its own w (is.CrossTrade x) other = refl
+is_its own w (is.BrokenTrade x) other = refl
+is_its own w (is.End next) other = refl
+is_its own w (is.Other payload) other = refl
 
 -- ---- the locates of messages that a market takes
 
@@ -200,42 +179,37 @@ listed m (is.BrokenTrade x) l good other none there = absurd (cc there)
 listed m (is.End next) l good other none there = absurd (cc there)
 listed m (is.Other payload) l good other none there = absurd (cc there)
 
--- ---- the market of the stock
+-- ---- the market of the locates that are kept apart
 
-module _ (S : OneStock) where
-  -- the stock in the market of the stock
+module _ (w : ℕ → Option (List ℕ) → Bool) where
+  -- the locates of a market that are kept apart
+  abbrev pub kept_in : Content → ℕ → Bool
+  kept_in m l = w l (stock_at m l)
+
+  -- the stock of a locate in the market of these locates
   abbrev own_of : ℕ → Option (List ℕ) → Option (List ℕ)
-  own_of l stock = own_stock (wants S l stock) stock
+  own_of l stock = own_stock (w l stock) stock
 
-  own_listed : (m own : Content) → IsOwn S m own → (l : ℕ) → stock_at own l ≡ own_of l (stock_at m l)
-  own_listed m own is_own l = IsOwn.listed is_own l ∙ ap (λ b. own_stock b (stock_at m l)) (by_stock S m l)
-
-  to_listed : (m own : Content) → ((l : ℕ) → stock_at own l ≡ own_of l (stock_at m l)) → (l : ℕ) → stock_at own l ≡ own_stock (is_stock S m.securities l) (stock_at m l)
-  to_listed m own each l = each l ∙ ap (λ b. own_stock b (stock_at m l)) (sym (by_stock S m l))
-
-  -- with the same stocks, the same locates have the stock
-  same_wanted : (m n : Content) → ((l : ℕ) → stock_at n l ≡ stock_at m l) → is_stock S n.securities ≡ is_stock S m.securities
-  same_wanted m n same = λ i l. (by_stock S n l ∙ ap (wants S l) (same l) ∙ sym (by_stock S m l)) i
+  -- with the same stocks, the same locates are kept apart
+  same_wanted : (m n : Content) → ((l : ℕ) → stock_at n l ≡ stock_at m l) → kept_in n ≡ kept_in m
+  same_wanted m n same = λ i l. ap (w l) (same l) i
 
   nothing_own : (l : ℕ) (b : Bool) → own_stock b None ≡ None
   nothing_own l true = refl
   nothing_own l false = refl
 
-  module _ (m own : Content) (is_own : IsOwn S m own) (good : IsGood m) (in_order : laid m ≡ m) where
-    wanted : ℕ → Bool
-    wanted = is_stock S m.securities
-
+  module _ (m own : Content) (is_own : IsOwn w m own) (good : IsGood m) (in_order : laid m ≡ m) where
     -- the orders of the stock are laid
     own_laid : book.lay own.orders ≡ own.orders
     own_laid =
-        ap book.lay is_own.orders ∙ lay-filter (λ x. is_stock S m.securities x.locate) m.orders
-        ∙ ap (λ (n : Content). filter (λ x. is_stock S m.securities x.locate) n.orders) in_order ∙ sym is_own.orders
+        ap book.lay is_own.orders ∙ lay-filter (λ x. kept_in m x.locate) m.orders
+        ∙ ap (λ (n : Content). filter (λ x. kept_in m x.locate) n.orders) in_order ∙ sym is_own.orders
 
     -- the locate of a message about another stock is not wanted
-    unwanted : (x : Message) (l : ℕ) → is_entry x ≡ false → reason m x ≡ None → concerns S own x ≡ false → locate_of x ≡ Some l → is_stock S m.securities l ≡ false
+    unwanted : (x : Message) (l : ℕ) → is_entry x ≡ false → reason m x ≡ None → concerns w own x ≡ false → locate_of x ≡ Some l → kept_in m l ≡ false
     unwanted x l other none far there =
-        let gone : is_some (finite.get own.securities l) ≡ false = sym (located own x l there) ∙ sym (is_its own S x other) ∙ far in
-        out (is_stock S m.securities l) (finite.get m.securities l) (finite.get own.securities l) (IsOwn.listed is_own l) (listed m x l good other none there) gone where
+        let gone : is_some (finite.get own.securities l) ≡ false = sym (located own x l there) ∙ sym (is_its own w x other) ∙ far in
+        out (kept_in m l) (finite.get m.securities l) (finite.get own.securities l) (IsOwn.listed is_own l) (listed m x l good other none there) gone where
           out : (b : Bool) (o p : Option Listing) → option_map (λ (s : Listing). s.entry.stock) p ≡ own_stock b (option_map (λ (s : Listing). s.entry.stock) o) → IsSome o → is_some p ≡ false → b ≡ false
           out false o p is some none = refl
           out true None p is some none = absurd (cc some)
@@ -243,35 +217,35 @@ module _ (S : OneStock) where
           out true (Some s) (Some t) is some none = absurd (cc none)
 
     -- such a message changes no order of the stock
-    orders_kept : (x : Message) → is_entry x ≡ false → reason m x ≡ None → concerns S own x ≡ false
-        → filter (λ y. is_stock S m.securities y.locate) (book.lay (effect m x).orders) ≡ filter (λ y. is_stock S m.securities y.locate) m.orders
+    orders_kept : (x : Message) → is_entry x ≡ false → reason m x ≡ None → concerns w own x ≡ false
+        → filter (λ y. kept_in m y.locate) (book.lay (effect m x).orders) ≡ filter (λ y. kept_in m y.locate) m.orders
     orders_kept x other none far = by_price (changed_price m.orders x) refl (orders_differ m good in_order x none) where
-      apart : (at : ChangedPrice) → is_stock S m.securities at.locate ≡ false → (y : Order) → is_stock S m.securities y.locate ≡ true → is_elsewhere at y ≡ true
+      apart : (at : ChangedPrice) → kept_in m at.locate ≡ false → (y : Order) → kept_in m y.locate ≡ true → is_elsewhere at y ≡ true
       apart at out y has = by_locate (y.locate == at.locate) refl where
         by_locate : (b : Bool) → (y.locate == at.locate) ≡ b → is_elsewhere at y ≡ true
-        by_locate true on = let here : y.locate ≡ at.locate = grind (arith, nat_tests) in absurd (cc (sym has ∙ ap (is_stock S m.securities) here ∙ out))
+        by_locate true on = let here : y.locate ≡ at.locate = grind (arith, nat_tests) in absurd (cc (sym has ∙ ap (kept_in m) here ∙ out))
         by_locate false off = simp off refl
 
       by_price : (o : Option ChangedPrice) → changed_price m.orders x ≡ o → DifferAt o m.orders (book.lay (effect m x).orders)
-          → filter (λ y. is_stock S m.securities y.locate) (book.lay (effect m x).orders) ≡ filter (λ y. is_stock S m.securities y.locate) m.orders
-      by_price None is same = ap (filter (λ y. is_stock S m.securities y.locate)) same
+          → filter (λ y. kept_in m y.locate) (book.lay (effect m x).orders) ≡ filter (λ y. kept_in m y.locate) m.orders
+      by_price None is same = ap (filter (λ y. kept_in m y.locate)) same
       by_price (Some at) is same =
           let all = apart at (unwanted x at.locate other none far (changed_locate m x at none is)) in
-          let has : Order → Bool = λ y. is_stock S m.securities y.locate in
+          let has : Order → Bool = λ y. kept_in m y.locate in
           sym (filter_within has (is_elsewhere at) all (book.lay (effect m x).orders)) ∙ ap (filter has) same ∙ filter_within has (is_elsewhere at) all m.orders
 
-    wanted_here : (x : Message) → is_entry x ≡ false → concerns S own x ≡ true → skips (is_stock S m.securities) x ≡ false
+    wanted_here : (x : Message) → is_entry x ≡ false → concerns w own x ≡ true → skips (kept_in m) x ≡ false
     wanted_here x other near = by_locate (locate_of x) refl where
       here : (b : Bool) (o p : Option Listing) → option_map (λ (s : Listing). s.entry.stock) p ≡ own_stock b (option_map (λ (s : Listing). s.entry.stock) o) → is_some p ≡ true → not b ≡ false
       here true o p is some = refl
       here false o None is some = absurd (cc some)
       here false o (Some t) is some = absurd (cc is)
 
-      by_locate : (o : Option ℕ) → locate_of x ≡ o → skips (is_stock S m.securities) x ≡ false
-      by_locate None there = ap (is_out (is_stock S m.securities)) there
+      by_locate : (o : Option ℕ) → locate_of x ≡ o → skips (kept_in m) x ≡ false
+      by_locate None there = ap (is_out (kept_in m)) there
       by_locate (Some l) there =
-          ap (is_out (is_stock S m.securities)) there
-          ∙ here (is_stock S m.securities l) (finite.get m.securities l) (finite.get own.securities l) (IsOwn.listed is_own l) (sym (located own x l there) ∙ sym (is_its own S x other) ∙ near)
+          ap (is_out (kept_in m)) there
+          ∙ here (kept_in m l) (finite.get m.securities l) (finite.get own.securities l) (IsOwn.listed is_own l) (sym (located own x l there) ∙ sym (is_its own w x other) ∙ near)
 
     -- the directory after an entry that the market takes
     same_stock : (x : StockDirectory) → reason m (is.StockDirectory x) ≡ None → (stock : List ℕ) → stock_at m x.header.locate ≡ Some stock → stock ≡ x.entry.stock
@@ -288,8 +262,8 @@ module _ (S : OneStock) where
 
     -- an order's locate has the stock before an entry exactly if it has it after it
     still_wanted : (x : StockDirectory) → reason m (is.StockDirectory x) ≡ None
-        → filter (λ y. is_stock S (effect m (is.StockDirectory x)).securities y.locate) m.orders ≡ filter (λ y. is_stock S m.securities y.locate) m.orders
-    still_wanted x none = agree _ _ m.orders (All-weaker_rec (IsListed m.securities) (λ y. is_stock S (effect m (is.StockDirectory x)).securities y.locate ≡ is_stock S m.securities y.locate) each m.orders good.listed) where
+        → filter (λ y. kept_in (effect m (is.StockDirectory x)) y.locate) m.orders ≡ filter (λ y. kept_in m y.locate) m.orders
+    still_wanted x none = agree _ _ m.orders (All-weaker_rec (IsListed m.securities) (λ y. kept_in (effect m (is.StockDirectory x)) y.locate ≡ kept_in m y.locate) each m.orders good.listed) where
       by_key : (l : ℕ) (b : Bool) (o : Option (List ℕ)) → eqb l x.header.locate ≡ b → stock_at m l ≡ o → is_some o ≡ true → cond b (Some x.entry.stock) (stock_at m l) ≡ stock_at m l
       by_key l false o off is some = refl
       by_key l true None on is some = absurd (cc some)
@@ -301,57 +275,47 @@ module _ (S : OneStock) where
       some_stock None some = absurd (cc some)
       some_stock (Some s) some = refl
 
-      each : (y : Order) → IsListed m.securities y → is_stock S (effect m (is.StockDirectory x)).securities y.locate ≡ is_stock S m.securities y.locate
+      each : (y : Order) → IsListed m.securities y → kept_in (effect m (is.StockDirectory x)) y.locate ≡ kept_in m y.locate
       each y there =
-          by_stock S (effect m (is.StockDirectory x)) y.locate
-          ∙ ap (wants S y.locate) (stock_set m x y.locate ∙ by_key y.locate (eqb y.locate x.header.locate) (stock_at m y.locate) refl refl (some_stock (finite.get m.securities y.locate) there))
-          ∙ sym (by_stock S m y.locate)
+          ap (w y.locate) (stock_set m x y.locate ∙ by_key y.locate (eqb y.locate x.header.locate) (stock_at m y.locate) refl refl (some_stock (finite.get m.securities y.locate) there))
 
       agree : (p q : Order → Bool) (ys : List Order) → AllByRecursion (λ y. p y ≡ q y) ys → filter p ys ≡ filter q ys
       agree p q [] h = refl
       agree p q (y ∷ ys) h = ap₂ (λ b zs. cond b (y ∷ zs) zs) h.0 (agree p q ys h.1)
 
-    entry_far : (x : StockDirectory) → reason m (is.StockDirectory x) ≡ None → enters S x ≡ false → (l : ℕ) → stock_at own l ≡ own_of l (stock_at (effect m (is.StockDirectory x)) l)
-    entry_far x none far l = own_listed m own is_own l ∙ by_key (eqb l x.header.locate) refl ∙ ap (own_of l) (sym (stock_set m x l)) where
-      not_wanted : (S : OneStock) → enters S x ≡ false → wants S x.header.locate (Some x.entry.stock) ≡ false
-      not_wanted (Locate k) h = h
-      not_wanted (Named name) h = h
-
+    entry_far : (x : StockDirectory) → reason m (is.StockDirectory x) ≡ None → w x.header.locate (Some x.entry.stock) ≡ false → (l : ℕ) → stock_at own l ≡ own_of l (stock_at (effect m (is.StockDirectory x)) l)
+    entry_far x none far l = IsOwn.listed is_own l ∙ by_key (eqb l x.header.locate) refl ∙ ap (own_of l) (sym (stock_set m x l)) where
       at_entry : (o : Option (List ℕ)) → stock_at m x.header.locate ≡ o → own_of x.header.locate o ≡ None
-      at_entry None is = nothing_own l (wants S x.header.locate None)
-      at_entry (Some stock) is = ap (λ t. own_of x.header.locate (Some t)) (same_stock x none stock is) ∙ ap (λ b. own_stock b (Some x.entry.stock)) (not_wanted S far)
+      at_entry None is = nothing_own l (w x.header.locate None)
+      at_entry (Some stock) is = ap (λ t. own_of x.header.locate (Some t)) (same_stock x none stock is) ∙ ap (λ b. own_stock b (Some x.entry.stock)) far
 
       by_key : (b : Bool) → eqb l x.header.locate ≡ b → own_of l (stock_at m l) ≡ own_of l (cond b (Some x.entry.stock) (stock_at m l))
       by_key false off = refl
       by_key true on =
           let here : l ≡ x.header.locate = grind (arith, nat_tests) in
           ap (λ q. own_of q (stock_at m q)) here ∙ at_entry (stock_at m x.header.locate) refl
-          ∙ sym (ap (λ q. own_of q (Some x.entry.stock)) here ∙ ap (λ b. own_stock b (Some x.entry.stock)) (not_wanted S far))
+          ∙ sym (ap (λ q. own_of q (Some x.entry.stock)) here ∙ ap (λ b. own_stock b (Some x.entry.stock)) far)
 
-    entry_near : (x : StockDirectory) → enters S x ≡ true → (l : ℕ) → stock_at (effect own (is.StockDirectory x)) l ≡ own_of l (stock_at (effect m (is.StockDirectory x)) l)
+    entry_near : (x : StockDirectory) → w x.header.locate (Some x.entry.stock) ≡ true → (l : ℕ) → stock_at (effect own (is.StockDirectory x)) l ≡ own_of l (stock_at (effect m (is.StockDirectory x)) l)
     entry_near x near l =
-        stock_set own x l ∙ ap (cond (eqb l x.header.locate) (Some x.entry.stock)) (own_listed m own is_own l)
+        stock_set own x l ∙ ap (cond (eqb l x.header.locate) (Some x.entry.stock)) (IsOwn.listed is_own l)
         ∙ by_key (eqb l x.header.locate) refl ∙ ap (own_of l) (sym (stock_set m x l)) where
-          is_wanted : (S : OneStock) → enters S x ≡ true → wants S x.header.locate (Some x.entry.stock) ≡ true
-          is_wanted (Locate k) h = h
-          is_wanted (Named name) h = h
-
           by_key : (b : Bool) → eqb l x.header.locate ≡ b → cond b (Some x.entry.stock) (own_of l (stock_at m l)) ≡ own_of l (cond b (Some x.entry.stock) (stock_at m l))
           by_key false off = refl
           by_key true on =
               let here : l ≡ x.header.locate = grind (arith, nat_tests) in
-              sym (ap (λ q. own_of q (Some x.entry.stock)) here ∙ ap (λ b. own_stock b (Some x.entry.stock)) (is_wanted S near))
+              sym (ap (λ q. own_of q (Some x.entry.stock)) here ∙ ap (λ b. own_stock b (Some x.entry.stock)) near)
 
     -- a message about another stock leaves the market of the stock
-    pub far_message : (x : Message) → reason m x ≡ None → concerns S own x ≡ false → IsOwn S (laid (effect m x)) own
+    pub far_message : (x : Message) → reason m x ≡ None → concerns w own x ≡ false → IsOwn w (laid (effect m x)) own
     far_message x none far = by_kind (is_entry x) refl where
-      after_entry : (y : StockDirectory) → reason m (is.StockDirectory y) ≡ None → enters S y ≡ false → IsOwn S (laid (effect m (is.StockDirectory y))) own
+      after_entry : (y : StockDirectory) → reason m (is.StockDirectory y) ≡ None → w y.header.locate (Some y.entry.stock) ≡ false → IsOwn w (laid (effect m (is.StockDirectory y))) own
       after_entry y fine out = record {
-        listed = to_listed (effect m (is.StockDirectory y)) own (entry_far y fine out);
-        orders = is_own.orders ∙ sym (ap (λ (n : Content). filter (λ z. is_stock S (effect m (is.StockDirectory y)).securities z.locate) n.orders) in_order ∙ still_wanted y fine);
+        listed = entry_far y fine out;
+        orders = is_own.orders ∙ sym (ap (λ (n : Content). filter (λ z. kept_in (effect m (is.StockDirectory y)) z.locate) n.orders) in_order ∙ still_wanted y fine);
       }
 
-      is_directory : (x : Message) → is_entry x ≡ true → reason m x ≡ None → concerns S own x ≡ false → IsOwn S (laid (effect m x)) own
+      is_directory : (x : Message) → is_entry x ≡ true → reason m x ≡ None → concerns w own x ≡ false → IsOwn w (laid (effect m x)) own
       is_directory (is.StockDirectory y) entry fine out = after_entry y fine out
       is_directory (is.SystemEvent y) entry fine out = absurd (cc entry)
       is_directory (is.TradingAction y) entry fine out = absurd (cc entry)
@@ -371,23 +335,23 @@ module _ (S : OneStock) where
       is_directory (is.End next) entry fine out = absurd (cc entry)
       is_directory (is.Other payload) entry fine out = absurd (cc entry)
 
-      by_kind : (b : Bool) → is_entry x ≡ b → IsOwn S (laid (effect m x)) own
+      by_kind : (b : Bool) → is_entry x ≡ b → IsOwn w (laid (effect m x)) own
       by_kind true entry = is_directory x entry none far
       by_kind false other = record {
-        listed = to_listed (effect m x) own (λ l. own_listed m own is_own l ∙ ap (own_of l) (sym (stocks_kept m x other l)));
-        orders = is_own.orders ∙ sym (ap (λ (w : ℕ → Bool). filter (λ y. w y.locate) (book.lay (effect m x).orders)) (same_wanted m (effect m x) (stocks_kept m x other)) ∙ orders_kept x other none far);
+        listed = λ l. IsOwn.listed is_own l ∙ ap (own_of l) (sym (stocks_kept m x other l));
+        orders = is_own.orders ∙ sym (ap (λ (v : ℕ → Bool). filter (λ y. v y.locate) (book.lay (effect m x).orders)) (same_wanted m (effect m x) (stocks_kept m x other)) ∙ orders_kept x other none far);
       }
 
     -- a message about the stock has its effect there
-    pub near_message : (x : Message) → reason m x ≡ None → concerns S own x ≡ true → IsOwn S (laid (effect m x)) (laid (effect own x))
+    pub near_message : (x : Message) → reason m x ≡ None → concerns w own x ≡ true → IsOwn w (laid (effect m x)) (laid (effect own x))
     near_message x none near = by_kind (is_entry x) refl where
-      after_entry : (y : StockDirectory) → reason m (is.StockDirectory y) ≡ None → enters S y ≡ true → IsOwn S (laid (effect m (is.StockDirectory y))) (laid (effect own (is.StockDirectory y)))
+      after_entry : (y : StockDirectory) → reason m (is.StockDirectory y) ≡ None → w y.header.locate (Some y.entry.stock) ≡ true → IsOwn w (laid (effect m (is.StockDirectory y))) (laid (effect own (is.StockDirectory y)))
       after_entry y fine in_it = record {
-        listed = to_listed (effect m (is.StockDirectory y)) (effect own (is.StockDirectory y)) (entry_near y in_it);
-        orders = own_laid ∙ is_own.orders ∙ sym (ap (λ (n : Content). filter (λ z. is_stock S (effect m (is.StockDirectory y)).securities z.locate) n.orders) in_order ∙ still_wanted y fine);
+        listed = entry_near y in_it;
+        orders = own_laid ∙ is_own.orders ∙ sym (ap (λ (n : Content). filter (λ z. kept_in (effect m (is.StockDirectory y)) z.locate) n.orders) in_order ∙ still_wanted y fine);
       }
 
-      is_directory : (x : Message) → is_entry x ≡ true → reason m x ≡ None → concerns S own x ≡ true → IsOwn S (laid (effect m x)) (laid (effect own x))
+      is_directory : (x : Message) → is_entry x ≡ true → reason m x ≡ None → concerns w own x ≡ true → IsOwn w (laid (effect m x)) (laid (effect own x))
       is_directory (is.StockDirectory y) entry fine in_it = after_entry y fine in_it
       is_directory (is.SystemEvent y) entry fine out = absurd (cc entry)
       is_directory (is.TradingAction y) entry fine out = absurd (cc entry)
@@ -407,13 +371,23 @@ module _ (S : OneStock) where
       is_directory (is.End next) entry fine out = absurd (cc entry)
       is_directory (is.Other payload) entry fine out = absurd (cc entry)
 
-      by_kind : (b : Bool) → is_entry x ≡ b → IsOwn S (laid (effect m x)) (laid (effect own x))
+      by_kind : (b : Bool) → is_entry x ≡ b → IsOwn w (laid (effect m x)) (laid (effect own x))
       by_kind true entry = is_directory x entry none near
       by_kind false other =
-          let w : ℕ → Bool = is_stock S m.securities in
+          let here : ℕ → Bool = kept_in m in
           record {
-            listed = to_listed (effect m x) (effect own x) (λ l. stocks_kept own x other l ∙ own_listed m own is_own l ∙ ap (own_of l) (sym (stocks_kept m x other l)));
-            orders = ap book.lay (same_effect own (only w m) x is_own.orders ∙ ap Content.orders (IsKept.effect (kept_message w m x none (wanted_here x other near))))
-                ∙ lay-filter (λ y. w y.locate) (effect m x).orders
+            listed = λ l. stocks_kept own x other l ∙ IsOwn.listed is_own l ∙ ap (own_of l) (sym (stocks_kept m x other l));
+            orders = ap book.lay (same_effect own (only here m) x is_own.orders ∙ ap Content.orders (IsKept.effect (kept_message here m x none (wanted_here x other near))))
+                ∙ lay-filter (λ y. here y.locate) (effect m x).orders
                 ∙ sym (ap (λ (v : ℕ → Bool). filter (λ y. v y.locate) (book.lay (effect m x).orders)) (same_wanted m (effect m x) (stocks_kept m x other)));
           }
+
+-- before any message
+pub empty_own : (w : ℕ → Option (List ℕ) → Bool) → IsOwn w empty empty
+empty_own w = record { listed = λ l. nothing (w l (stock_at empty l)) (stock_at empty l) (none_there l); orders = refl } where
+  none_there : (l : ℕ) → stock_at empty l ≡ None
+  none_there l = ap (option_map (λ (s : Listing). s.entry.stock)) (finite.get-empty nat_cmp l)
+
+  nothing : (b : Bool) (o : Option (List ℕ)) → o ≡ None → o ≡ own_stock b o
+  nothing true o none = refl
+  nothing false o none = none

@@ -20,7 +20,7 @@ use Rattle.itch_commands.specs.declared.fault.Source.TheVariants.{Only}
 use Rattle.itch_commands.specs.declared.fault.ToolFault.{ToolFault}
 use Rattle.itch_commands.specs.declared.fault.ToolFault.TheVariants as tool
 use Rattle.itch_commands.specs.declared.kind.FileKind.TheVariants.{Day}
-use Rattle.itch_depth.specs.Series.{Ascend, AtEach, AtTime, ListsMarket, ListsOn, continues}
+use Rattle.itch_depth.specs.Series.{Ascend, AtEach, AtTime, IsAt, ListsMarket, ListsOn, continues}
 use Rattle.itch_depth.specs.Timed.{timed_books}
 use Rattle.itch_depth.specs.declared.request.BookRequest.{BookRequest}
 use Rattle.itch_depth.proofs.PartsOfDays.{part_listed, refused_part, timed_of_market}
@@ -172,9 +172,10 @@ module _ {R W : Type 0} (remaining : R → Option (List ℕ)) (failed_reads : R 
       → (before : Limit) × (stop : PartStop Refused) × Stands remaining failed_reads before first now marked stop × GoesOnTo before stop marked.mark.count (up_to time)
   turn_next time left answer old new now marked turn = (turn.stands.0, turn.stands.1, turn.stands.2, turn.stands.3 time refl)
 
--- the same for any beginning of the reading
+-- the same for any beginning of the reading, with the market and the number of messages of a pass
 pub record EachInTurn {R W : Type 0} (remaining : R → Option (List ℕ)) (failed_reads : R → Failures) (contents : W → Option (List ℕ)) (failed_writes : W → Failures)
-    (request : BookRequest) (set : Option Wanted) (times left : List ℕ) (answer : Result Bool ToolFault) (old new : W) (start : Reading R) (began : Marked Content) (now : Reading R)
-    (marked : Marked Content) : Type 0 where
-  pub turn : (first : Reading R) → Stands remaining failed_reads (record { after = Some 0; until = Some 0 }) first start began Full → Ascend times
-      → InTurn remaining failed_reads (AtTime remaining failed_reads contents failed_writes request set first) first times left answer old new now marked
+    (request : BookRequest) (set : Option Wanted) (times left : List ℕ) (answer : Result Bool ToolFault) (old new : W) (start : Reading R) (first_market : Content) (first_count : ℕ)
+    (now : Reading R) (m : Content) (count : ℕ) : Type 0 where
+  pub turn : (first : Reading R) → (began : Marked Content) → Stands remaining failed_reads (record { after = Some 0; until = Some 0 }) first start began Full → IsAt began first_market first_count → Ascend times
+      → (marked : Marked Content)
+      × InTurn remaining failed_reads (AtTime remaining failed_reads contents failed_writes request set first) first times left answer old new now marked × IsAt marked m count

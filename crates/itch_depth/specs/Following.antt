@@ -1,23 +1,17 @@
 -- The input, the output and the result of `book --changes`. A file is refused where `check` refuses it, after the lines before.
-use Rattle.std.specs.Prelude.{◌≡◌, ◌⊎◌, ℕ, ◌+◌, ◌*◌, ◌==◌, ◌||◌, Bool, true, false, not, List, [], ◌∷◌, ◌++◌, bytes_eq, drop, length, map, slice_get, take, Option, None, Some, is_some, option_map, Result, Ok, Err}
+use Rattle.std.specs.Prelude.{◌≡◌, ◌⊎◌, ℕ, ◌+◌, ◌==◌, Bool, true, false, not, List, [], ◌∷◌, ◌++◌, bytes_eq, drop, length, map, slice_get, take, Option, None, Some, Result, Ok, Err}
 use Rattle.std.specs.Io.KnownBytes.{Consumes}
-use Rattle.std.specs.List.{filter}
-use Rattle.std.specs.FinMap as finite
 use Rattle.std.specs.declared.io.Error.{Error}
-use Rattle.itch_codec.specs.Headers.{header}
 use Rattle.itch_codec.specs.Messages.{message_of}
 use Rattle.itch_codec.specs.Text.{before_spaces}
-use Rattle.itch_codec.specs.declared.header.Header.{Header}
 use Rattle.itch_codec.specs.declared.message.Message.{Message}
-use Rattle.itch_codec.specs.declared.message.Message.TheVariants as is
-use Rattle.itch_codec.specs.declared.stocks.StockDirectory.{StockDirectory}
 use Rattle.itch_day.specs.declared.limit.Limit.{Limit}
 use Rattle.itch_day.specs.declared.stop.PartStop.{PartStop as Part}
 use Rattle.itch_day.specs.declared.stop.PartStop.TheVariants as part
 use Rattle.itch_frame.specs.Blocks.{blocks}
 use Rattle.itch_frame.specs.Reading.{Reading, bytes_left}
 use Rattle.itch_frame.specs.declared.tally.Failures.{Failures}
-use Rattle.itch_market.specs.Content.{Content, Listing, laid}
+use Rattle.itch_market.specs.Content.{Content, laid}
 use Rattle.itch_market.specs.DayMessages.{AreTaken}
 use Rattle.itch_market.specs.Effects.{effect, takes_memory}
 use Rattle.itch_market.specs.Reasons.{reason}
@@ -33,7 +27,8 @@ use Rattle.itch_commands.specs.Showing.{WritesPart}
 use Rattle.itch_commands.specs.declared.fault.Source.TheVariants.{Only}
 use Rattle.itch_commands.specs.declared.fault.ToolFault.{ToolFault}
 use Rattle.itch_commands.specs.declared.fault.ToolFault.TheVariants as tool
-use Rattle.itch_depth.specs.Changes.{Sides, best, best_of, change, change_head, change_past, changes_of_day, followed, is_stock, same_level, same_sides}
+use Rattle.itch_depth.specs.Own.{IsOwn}
+use Rattle.itch_depth.specs.Changes.{Sides, best, best_of, change, change_head, change_past, changes_of_day, followed, same_level, same_sides}
 use Rattle.itch_depth.specs.declared.changes.best.DepthLevel.{DepthLevel}
 use Rattle.itch_depth.specs.declared.changes.request.ChangesRequest.{ChangesRequest}
 use Rattle.itch_depth.specs.declared.changes.request.OneStock.{OneStock}
@@ -41,24 +36,15 @@ use Rattle.itch_depth.specs.declared.changes.request.OneStock.TheVariants.{Locat
 use Rattle.itch_depth.specs.declared.changes.book.Unfollowed.{Unfollowed}
 use Rattle.itch_depth.specs.declared.changes.book.Unfollowed.TheVariants as unfollowed
 
--- the stock of a locate of the directory, if it has one
-abbrev pub stock_at : Content → ℕ → Option (List ℕ)
-stock_at m locate = option_map (λ (s : Listing). s.entry.stock) (finite.get m.securities locate)
-
--- the same at a locate that has the stock, and nothing elsewhere
-abbrev pub own_stock : Bool → Option (List ℕ) → Option (List ℕ)
-own_stock true stock = stock
-own_stock false stock = None
-
--- A market of one stock, as part of a market: its directory has the locates that have the stock, with the same stocks, and its orders are
--- those of these locates.
-pub record IsOwn (stock : OneStock) (m own : Content) : Type 0 where
-  pub listed : (locate : ℕ) → stock_at own locate ≡ own_stock (is_stock stock m.securities locate) (stock_at m locate)
-  pub orders : own.orders ≡ filter (λ x. is_stock stock m.securities x.locate) m.orders
+-- a locate with this stock in the directory, or none, is that of the followed stock
+abbrev pub wants : OneStock → ℕ → Option (List ℕ) → Bool
+wants (Locate wanted) locate stock = locate == wanted
+wants (Named name) locate None = false
+wants (Named name) locate (Some stock) = bytes_eq (before_spaces stock) name.now
 
 -- the followed locate and its best prices are those of the market
 pub record IsFollowing (request : ChangesRequest) (m own : Content) (locate : Option ℕ) (shown : Sides) : Type 0 where
-  pub own_market : IsOwn request.stock m own
+  pub own_market : IsOwn (wants request.stock) m own
   pub place : locate ≡ followed request.stock m
   pub sides : shown ≡ best request.depth request.stock m
 
@@ -66,26 +52,6 @@ pub record IsFollowing (request : ChangesRequest) (m own : Content) (locate : Op
 abbrev pub is_level : DepthLevel → Option DepthLevel → Bool
 is_level level None = false
 is_level level (Some there) = same_level there level
-
--- the payload is that of an entry of the directory, or has the locate of a security of the market, where a header has it
-abbrev pub may_concern : Content → List ℕ → Bool
-may_concern own (kind ∷ high ∷ low ∷ rest) = (kind == 82) || is_some (finite.get own.securities (256 * high + low))
-may_concern own payload = false
-
--- an entry of the directory has the stock
-abbrev pub enters : OneStock → StockDirectory → Bool
-enters (Locate locate) x = x.header.locate == locate
-enters (Named name) x = bytes_eq (before_spaces x.entry.stock) name.now
-
--- the locate of a header, if there is one, is in the directory of the market
-abbrev pub is_located : Content → Option Header → Bool
-is_located own None = false
-is_located own (Some h) = is_some (finite.get own.securities h.locate)
-
--- the message is about a locate that has the stock, or that gets it
-abbrev pub concerns : OneStock → Content → Message → Bool
-concerns stock own (is.StockDirectory x) = enters stock x
-concerns stock own message = is_located own (header message)
 
 -- The market applies a message, and this tells whether the best prices of the stock changed; or it refuses the message; or memory runs out
 -- for the market of the stock.

@@ -2,4 +2,5 @@ pub mod Timed
 pub mod Series
 pub mod Changes
 pub mod ChangedPrices
+pub mod Own
 pub mod Following

@@ -1,5 +1,5 @@
 -- The books at several times of a day file: for each time the output and the result of `book` for the part of the file before it.
-use Rattle.std.specs.Prelude.{◌≡◌, ℕ, zero, suc, ◌*◌, ◌/◌, ◌≤◌, ◌⊎◌, ⊤, Bool, true, false, List, [], ◌∷◌, Option, None, Result, Ok, Err, MatchResult}
+use Rattle.std.specs.Prelude.{◌≡◌, ℕ, zero, suc, ◌*◌, ◌/◌, ◌≤◌, ◌⊎◌, ⊤, Bool, true, false, List, [], ◌∷◌, Option, None, Some, Result, Ok, Err, MatchResult}
 use Rattle.std.specs.Bool.{MatchBool}
 use Rattle.itch_frame.specs.Reading.{Reading}
 use Rattle.itch_frame.specs.declared.tally.Failures.{Failures}
@@ -7,14 +7,17 @@ use Rattle.itch_day.specs.Limits.{counted}
 use Rattle.itch_day.specs.declared.limit.Limit.{Limit}
 use Rattle.itch_day.specs.declared.marked.Marked.{Marked}
 use Rattle.itch_day.specs.declared.stop.PartStop.{PartStop}
-use Rattle.itch_day.specs.declared.stop.PartStop.TheVariants.{End, Late}
+use Rattle.itch_day.specs.declared.stop.PartStop.TheVariants as part
 use Rattle.itch_market.specs.Content.{Content}
 use Rattle.itch_market.specs.Wanted.{Wanted}
+use Rattle.itch_market.specs.Takings.{reason_of}
 use Rattle.itch_market.specs.declared.refused.Refused.{Refused}
+use Rattle.itch_market.specs.declared.stop.Stop.{Stop}
+use Rattle.itch_market.specs.declared.stop.Stop.TheVariants.{End}
 use Rattle.itch_commands.specs.Books.{AreListed, IsUnlisted, ReadsListed, wanted_by}
 use Rattle.itch_commands.specs.Files.{ReadsFile}
 use Rattle.itch_commands.specs.Outputs.{Outputs, WritesText}
-use Rattle.itch_commands.specs.Points.{Stands, up_to}
+use Rattle.itch_commands.specs.Points.{ReadsOn, ReadsUntil, Stands, up_to}
 use Rattle.itch_commands.specs.Readings.{ReadsDay}
 use Rattle.itch_commands.specs.Stocks.{IsStockFault, ReadsStocks, are_known, has_one_of, names_of}
 use Rattle.itch_commands.specs.declared.fault.Source.TheVariants.{Only}
@@ -107,10 +110,31 @@ module _ {W : Type 0} (contents : W → Option (List ℕ)) (failed_writes : W �
   ListsAfter zero request set market time old result new = (result ≡ Ok true) × (new ≡ old)
   ListsAfter (suc count) request set market time old result new = ListsMarket request set market time old result new
 
-  abbrev pub ListsBegun : BookRequest → Option Wanted → Marked Content → ℕ → W → Result Bool ToolFault → W → Type 0
-  ListsBegun request set marked = ListsAfter marked.mark.count request set marked.sink
+-- the market of a point, after this number of messages
+pub record IsAt (marked : Marked Content) (m : Content) (count : ℕ) : Type 0 where
+  pub market : marked.sink ≡ m
+  pub counted : marked.mark.count ≡ count
+
+-- this holds if the reading stops at a time, or at the end of the file
+abbrev pub UnlessStopped : Option Stop → Type 0 → Type 0
+UnlessStopped None p = p
+UnlessStopped (Some End) p = p
+UnlessStopped (Some stop) p = ⊤
 
 module _ {R : Type 0} (remaining : R → Option (List ℕ)) (failed_reads : R → Failures) where
+  -- the reading of a part stopped for this reason, with this market after that number of messages
+  abbrev pub StopsSo : Limit → Reading R → Reading R → Option Stop → Content → ℕ → Type 0
+  StopsSo limit first now why m count =
+      (stop : PartStop Refused) × (reason_of stop ≡ why)
+      × ((marked : Marked Content) × Stands remaining failed_reads limit first now marked stop × IsAt marked m count)
+
+  -- the outcome of reading on up to a time, or to the end of the file
+  abbrev pub ReadsTime : ℕ → Reading R → Reading R → Result Bool ToolFault → Content → ℕ → Type 0
+  ReadsTime time first now result m count = (marked : Marked Content) × ReadsUntil remaining failed_reads time first now result marked × IsAt marked m count
+
+  abbrev pub ReadsRest : Reading R → Reading R → Result ℕ ToolFault → Content → ℕ → Type 0
+  ReadsRest first now result m count = (marked : Marked Content) × ReadsOn remaining failed_reads (counted None) first now result marked × IsAt marked m count
+
   -- at the end of the file its directory must have each selected locate and stock
   abbrev pub AtEnd : BookRequest → Option Wanted → Reading R → Result Bool ToolFault → Type 0
   AtEnd request set first result =
@@ -135,7 +159,12 @@ module _ {R W : Type 0} (remaining : R → Option (List ℕ)) (failed_reads : R 
   ListsOn request set first time now marked old result new =
       AtTime request set first time old result new
       × MatchBool (continues result)
-      ((stop : PartStop Refused) × ((stop ≡ Late) ⊎ (stop ≡ End)) × Stands remaining failed_reads (up_to time) first now marked stop) ⊤
+      ((stop : PartStop Refused) × ((stop ≡ part.Late) ⊎ (stop ≡ part.End)) × Stands remaining failed_reads (up_to time) first now marked stop) ⊤
+
+  -- the same, with the market and the number of messages afterwards
+  abbrev pub ListsThere : BookRequest → Option Wanted → Reading R → ℕ → Reading R → Content → ℕ → W → Result Bool ToolFault → W → Type 0
+  ListsThere request set first time now m count old result new =
+      (marked : Marked Content) × ListsOn request set first time now marked old result new × IsAt marked m count
 
   -- `book` at a time before which the part has this many messages; nothing if it has none
   abbrev pub AtTimeAfter : ℕ → BookRequest → Option Wanted → Reading R → ℕ → W → Result Bool ToolFault → W → Type 0
@@ -148,8 +177,8 @@ module _ {R W : Type 0} (remaining : R → Option (List ℕ)) (failed_reads : R 
   AtNext request set first step multiple zero old result new = AtEnd remaining failed_reads request set first result × (new ≡ old)
   AtNext request set first step multiple (suc more) old result new =
       ((fault : ToolFault) × (now : Reading R) × (result ≡ Err fault) × ReadsDay remaining failed_reads Only (up_to (multiple * step)) first now (Err fault) × (new ≡ old))
-      ⊎ (((now : Reading R) × (marked : Marked Content) × Stands remaining failed_reads (up_to (multiple * step)) first now marked End × AtEnd remaining failed_reads request set first result × (new ≡ old))
-      ⊎ ((now : Reading R) × (marked : Marked Content) × Stands remaining failed_reads (up_to (multiple * step)) first now marked Late
+      ⊎ (((now : Reading R) × (marked : Marked Content) × Stands remaining failed_reads (up_to (multiple * step)) first now marked part.End × AtEnd remaining failed_reads request set first result × (new ≡ old))
+      ⊎ ((now : Reading R) × (marked : Marked Content) × Stands remaining failed_reads (up_to (multiple * step)) first now marked part.Late
       × ((mid : W) × (answer : Result Bool ToolFault) × AtTimeAfter marked.mark.count request set first (multiple * step) old answer mid
       × MatchBool (continues answer) (AtNext request set first step (suc multiple) more mid result new) ((result ≡ answer) × (new ≡ mid)))))
 

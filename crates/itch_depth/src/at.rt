@@ -1,22 +1,25 @@
 //! The books at given times.
-ghost use Rattle.std.specs.Prelude.{Some};
+ghost use Rattle.std.specs.Prelude.{◌≡◌, Some, true};
 ghost use Rattle.std.specs.Option.{option_copied};
 ghost use Rattle.itch_day.specs.Parts.{GoesOnTo};
 ghost use Rattle.itch_day.specs.declared.limit.Limit.{Limit as AnyLimit};
 ghost use Rattle.itch_day.specs.declared.stop.PartStop.{PartStop as AnyStop};
 ghost use Rattle.itch_day.specs.declared.stop.PartStop.TheVariants.{Full};
+ghost use Rattle.itch_day.specs.declared.marked.Marked.{Marked};
 ghost use Rattle.itch_frame.specs.Reading.{Reading};
+ghost use Rattle.itch_market.specs.Content.{Content as AnyMarket};
 ghost use Rattle.itch_market.specs.declared.refused.Refused.{Refused as AnyRefused};
 ghost use Rattle.itch_commands.specs.Points.{Stands, up_to};
-ghost use Rattle.itch_depth.specs.Series.{Ascend, AtEach, AtTime, ListsOn, TitlesBefore};
+ghost use Rattle.itch_depth.specs.Own.{Fits, IsApart, Keeps};
+ghost use Rattle.itch_depth.specs.Series.{Ascend, AtEach, AtTime, IsAt, ListsThere, TitlesBefore, continues};
 ghost use Rattle.itch_depth.specs.Timed.{timed_head};
 
-use crate::listing::{continues, list_market};
+use crate::listing::continues;
+use crate::pass::{OwnLocates, TimedPass};
 use crate::request::BookRequest;
 use crate::timed::timed_head;
 use itch_book::OrderBook;
-use itch_commands::snap::Pass;
-use itch_commands::{ToolFault, write_text};
+use itch_commands::{Book, Selection, ToolFault, write_text};
 use itch_frame::{BlockReader, CountedRead, CountedWrite};
 use itch_market::LocateSet;
 use std::alloc::Allocator;
@@ -38,8 +41,28 @@ pub fn books_at<R: CountedRead + Drop, A: Allocator, B: OrderBook, W: CountedWri
         (AtEach (AtTime R.remaining R.failures W.contents W.failures request.entry (option_copied only.entry) reader) times.now) out.old result out.new }
 {
     write_text(timed_head(request.form).as_bytes(), out)?;
-    let mut pass: Pass<R, A, B> = Pass::new(alloc, reader);
+    let locates = own_locates(times, request.selection, only);
+    if locates.are_none() {
+        let mut pass: TimedPass<'_, R, A, B> = TimedPass::new(alloc, locates, reader);
+        return list_each(alloc, request, only, times, &mut pass, out);
+    }
+    let mut pass: TimedPass<'_, R, A, Book<B::Alloc>> = TimedPass::new(alloc, locates, reader);
     list_each(alloc, request, only, times, &mut pass, out)
+}
+
+// Returns the locates whose books are kept apart.
+fn own_locates<'a, A: Allocator>(
+    times: &[u64],
+    selection: Selection<'a>,
+    only: Option<&'a LocateSet<A>>,
+) -> OwnLocates<'a, A>
+    ensures { Fits result selection.entry (option_copied only.entry) }
+{
+    // For one time it takes less time to sort all orders once.
+    if times.len() == 1 {
+        return OwnLocates::none();
+    }
+    OwnLocates::of(selection, only)
 }
 
 // Writes the books at each of these times.
@@ -48,11 +71,14 @@ fn list_each<R: CountedRead, A: Allocator, B: OrderBook, W: CountedWrite>(
     request: BookRequest<'_>,
     only: Option<&LocateSet<B::Alloc>>,
     times: &[u64],
-    pass: &mut Pass<R, A, B>,
+    pass: &mut TimedPass<'_, R, A, B>,
     out: &mut W,
 ) -> Result<bool, ToolFault>
-    ensures { (first : Reading R) → Stands R.remaining R.failures (record { after = Some 0; until = Some 0 }) first pass.old.reader pass.old.marked Full
-        → Ascend times.now
+    requires apart { IsApart pass.old.markets.locates pass.old.markets.market pass.old.markets.own }
+    requires fits { Fits pass.old.markets.locates request.selection (option_copied only) }
+    ensures { (first : Reading R) → (marked : Marked AnyMarket)
+        → Stands R.remaining R.failures (record { after = Some 0; until = Some 0 }) first pass.old.reader marked Full
+        → IsAt marked pass.old.markets.market pass.old.count → Ascend times.now
         → AtEach (AtTime R.remaining R.failures W.contents W.failures request.entry (option_copied only.entry) first) times.now out.old result out.new }
 {
     let mut answer = Ok(true);
@@ -71,14 +97,18 @@ fn list_at<R: CountedRead, A: Allocator, B: OrderBook, W: CountedWrite>(
     request: BookRequest<'_>,
     only: Option<&LocateSet<B::Alloc>>,
     time: u64,
-    pass: &mut Pass<R, A, B>,
+    pass: &mut TimedPass<'_, R, A, B>,
     out: &mut W,
 ) -> Result<bool, ToolFault>
-    ensures { (first : Reading R) → (before : AnyLimit) → (stop : AnyStop AnyRefused)
-        → Stands R.remaining R.failures before first pass.old.reader pass.old.marked stop
-        → GoesOnTo before stop pass.old.marked.mark.count (up_to time)
-        → ListsOn R.remaining R.failures W.contents W.failures request.entry (option_copied only.entry) first time pass.new.reader pass.new.marked out.old result out.new }
+    requires apart { IsApart pass.old.markets.locates pass.old.markets.market pass.old.markets.own }
+    requires fits { Fits pass.old.markets.locates request.selection (option_copied only) }
+    ensures lists { (first : Reading R) → (before : AnyLimit) → (stop : AnyStop AnyRefused) → (marked : Marked AnyMarket)
+        → Stands R.remaining R.failures before first pass.old.reader marked stop → IsAt marked pass.old.markets.market pass.old.count
+        → GoesOnTo before stop marked.mark.count (up_to time)
+        → ListsThere R.remaining R.failures W.contents W.failures request.entry (option_copied only.entry) first time pass.new.reader pass.new.markets.market pass.new.count out.old result out.new }
+    ensures apart { continues result ≡ true → IsApart pass.new.markets.locates pass.new.markets.market pass.new.markets.own }
+    ensures kept { Keeps pass.old.markets.locates pass.new.markets.locates }
 {
     pass.read_until(time)?;
-    list_market(alloc, pass.market(), request, only, time, out)
+    pass.list(alloc, request, only, time, out)
 }

@@ -5,19 +5,22 @@ ghost use Rattle.itch_frame.specs.Reading.{Reading};
 ghost use Rattle.itch_day.specs.Limits.{counted};
 ghost use Rattle.itch_day.specs.Parts.{GoesOnTo};
 ghost use Rattle.itch_day.specs.declared.limit.Limit.{Limit as AnyLimit};
+ghost use Rattle.itch_day.specs.declared.marked.Marked.{Marked};
 ghost use Rattle.itch_day.specs.declared.stop.PartStop.{PartStop as AnyStop};
 ghost use Rattle.itch_day.specs.declared.stop.PartStop.TheVariants.{Full};
+ghost use Rattle.itch_market.specs.Content.{Content as AnyMarket};
 ghost use Rattle.itch_market.specs.declared.refused.Refused.{Refused as AnyRefused};
 ghost use Rattle.itch_commands.specs.Points.{Stands};
-ghost use Rattle.itch_depth.specs.Series.{AtEnd, AtMultiples, ListsBegun, TitlesBefore};
+ghost use Rattle.itch_depth.specs.Own.{Fits, IsApart};
+ghost use Rattle.itch_depth.specs.Series.{AtEnd, AtMultiples, IsAt, ListsAfter, TitlesBefore};
 ghost use Rattle.itch_depth.specs.Timed.{timed_head};
 
-use crate::listing::{check_listed, continues, list_market};
+use crate::listing::continues;
+use crate::pass::{OwnLocates, TimedPass};
 use crate::request::BookRequest;
 use crate::timed::timed_head;
 use itch_book::OrderBook;
-use itch_commands::snap::Pass;
-use itch_commands::{Limit, ToolFault, write_text};
+use itch_commands::{Book, ToolFault, write_text};
 use itch_frame::{BlockReader, CountedRead, CountedWrite};
 use itch_market::LocateSet;
 use std::alloc::Allocator;
@@ -42,8 +45,14 @@ pub fn books_every<R: CountedRead + Drop, A: Allocator, B: OrderBook, W: Counted
         (AtMultiples R.remaining R.failures W.contents W.failures request.entry (option_copied only.entry) reader step) out.old result out.new }
 {
     write_text(timed_head(request.form).as_bytes(), out)?;
-    let mut pass: Pass<R, A, B> = Pass::new(alloc, reader);
-    list_every(alloc, request, only, step.max(1), &mut pass, out)
+    let step = step.max(1);
+    let locates = OwnLocates::of(request.selection, only);
+    if locates.are_none() {
+        let mut pass: TimedPass<'_, R, A, B> = TimedPass::new(alloc, locates, reader);
+        return list_every(alloc, request, only, step, &mut pass, out);
+    }
+    let mut pass: TimedPass<'_, R, A, Book<B::Alloc>> = TimedPass::new(alloc, locates, reader);
+    list_every(alloc, request, only, step, &mut pass, out)
 }
 
 // Writes the books at each multiple.
@@ -52,11 +61,15 @@ fn list_every<R: CountedRead, A: Allocator, B: OrderBook, W: CountedWrite>(
     request: BookRequest<'_>,
     only: Option<&LocateSet<B::Alloc>>,
     step: u64,
-    pass: &mut Pass<R, A, B>,
+    pass: &mut TimedPass<'_, R, A, B>,
     out: &mut W,
 ) -> Result<bool, ToolFault>
-    requires { 0 < step }
-    ensures { (first : Reading R) → Stands R.remaining R.failures (record { after = Some 0; until = Some 0 }) first pass.old.reader pass.old.marked Full
+    requires step { 0 < step }
+    requires apart { IsApart pass.old.markets.locates pass.old.markets.market pass.old.markets.own }
+    requires fits { Fits pass.old.markets.locates request.selection (option_copied only) }
+    ensures { (first : Reading R) → (marked : Marked AnyMarket)
+        → Stands R.remaining R.failures (record { after = Some 0; until = Some 0 }) first pass.old.reader marked Full
+        → IsAt marked pass.old.markets.market pass.old.count
         → AtMultiples R.remaining R.failures W.contents W.failures request.entry (option_copied only.entry) first step out.old result out.new }
 {
     for multiple in 1..=LATEST / step {
@@ -77,14 +90,16 @@ fn finish<R: CountedRead, A: Allocator, B: OrderBook>(
     alloc: B::Alloc,
     request: BookRequest<'_>,
     only: Option<&LocateSet<B::Alloc>>,
-    pass: &mut Pass<R, A, B>,
+    pass: &mut TimedPass<'_, R, A, B>,
 ) -> Result<bool, ToolFault>
-    ensures { (first : Reading R) → (before : AnyLimit) → (stop : AnyStop AnyRefused)
-        → Stands R.remaining R.failures before first pass.old.reader pass.old.marked stop → GoesOnTo before stop pass.old.marked.mark.count (counted None)
+    requires { IsApart pass.old.markets.locates pass.old.markets.market pass.old.markets.own }
+    ensures { (first : Reading R) → (before : AnyLimit) → (stop : AnyStop AnyRefused) → (marked : Marked AnyMarket)
+        → Stands R.remaining R.failures before first pass.old.reader marked stop → IsAt marked pass.old.markets.market pass.old.count
+        → GoesOnTo before stop marked.mark.count (counted None)
         → AtEnd R.remaining R.failures request.entry (option_copied only.entry) first result }
 {
-    pass.read_to(Limit::whole())?;
-    check_listed(alloc, pass.market(), request.selection, only)?;
+    let _count = pass.read_rest()?;
+    pass.check(alloc, request, only)?;
     Ok(true)
 }
 
@@ -94,13 +109,15 @@ fn list_begun<R: CountedRead, A: Allocator, B: OrderBook, W: CountedWrite>(
     request: BookRequest<'_>,
     only: Option<&LocateSet<B::Alloc>>,
     time: u64,
-    pass: &Pass<R, A, B>,
+    pass: &TimedPass<'_, R, A, B>,
     out: &mut W,
 ) -> Result<bool, ToolFault>
-    ensures { ListsBegun W.contents W.failures request.entry (option_copied only.entry) pass.now.marked time out.old result out.new }
+    requires apart { IsApart pass.now.markets.locates pass.now.markets.market pass.now.markets.own }
+    requires fits { Fits pass.now.markets.locates request.selection (option_copied only) }
+    ensures { ListsAfter W.contents W.failures pass.now.count request.entry (option_copied only.entry) pass.now.markets.market time out.old result out.new }
 {
-    if pass.mark().count == 0 {
+    if pass.count() == 0 {
         return Ok(true);
     }
-    list_market(alloc, pass.market(), request, only, time, out)
+    pass.list(alloc, request, only, time, out)
 }

@@ -2,7 +2,8 @@
 //!
 //! [`books_at`] and [`books_every`] write for each time what `book` writes for the part of the file before it, with the time at the
 //! beginning of each line. [`book_changes`] writes the best prices of one stock after each message that changes them. All work over any
-//! book of orders. The definitions are in `specs/Timed.antt`, the lines, in `specs/Series.antt`, the times, and in `specs/Changes.antt` and
+//! book of orders; the books of selected locates at several times, and those after each change, are in a market of their own. The definitions
+//! are in `specs/Timed.antt`, the lines, in `specs/Series.antt`, the times, in `specs/Own.antt`, that market, and in `specs/Changes.antt` and
 //! `specs/Following.antt`, the changes.
 //!
 //! ```
@@ -16,6 +17,8 @@ mod changes;
 mod every;
 pub mod laws;
 mod listing;
+mod own;
+mod pass;
 mod request;
 mod timed;
 

@@ -1,5 +1,5 @@
 //! The market of a day, and the book of one stock in it.
-ghost use Rattle.std.specs.Prelude.{◌≡◌, List, IfOk, None};
+ghost use Rattle.std.specs.Prelude.{◌≡◌, List, IfOk, None, Some};
 ghost use Rattle.itch_market.specs.Content.{Content as AnyMarket, empty, laid};
 ghost use Rattle.itch_market.specs.Effects.{effect};
 ghost use Rattle.itch_market.specs.GoodMarkets.{IsGood};
@@ -9,12 +9,14 @@ ghost use Rattle.itch_book.specs.declared.order.Order.{Order as AnyOrder};
 ghost use Rattle.itch_depth.specs.Changes.{best_at, lines_of};
 ghost use Rattle.itch_depth.specs.ChangedPrices.{AreSameElsewhere};
 ghost use Rattle.itch_depth.specs.declared.changes.request.ChangesRequest.{ChangesRequest as AnyRequest};
-ghost use Rattle.itch_depth.specs.Following.{FollowsOne, IsFollowing, PassesOne, Renews, WritesLines, concerns, enters, found_by, may_concern};
+ghost use Rattle.itch_depth.specs.Following.{FollowsOne, IsFollowing, PassesOne, Renews, WritesLines, found_by, wants};
+ghost use Rattle.itch_depth.specs.Own.{concerns, may_concern};
 
 use super::best::Best;
 use super::changed_price::{ChangedPrice, changed_price};
 use super::lines::{Change, write_change};
 use super::request::{ChangesRequest, OneStock};
+use crate::own::{is_located, may_concern};
 use itch_book::{IndexedBook, OrderBook};
 use itch_codec::{Message, StockDirectory};
 use itch_commands::ToolFault;
@@ -66,13 +68,7 @@ impl<B: OrderBook> Followed<B> {
     pub fn may_concern(&self, payload: &[u8]) -> bool
         ensures { result ≡ may_concern self.now.own payload.now }
     {
-        match payload {
-            [kind, high, low, ..] => {
-                let locate = u16::from_be_bytes([*high, *low]);
-                *kind == b'R' || self.own.security(locate).is_some()
-            }
-            _ => false,
-        }
+        may_concern(&self.own, payload)
     }
 
     /// Applies a message, and returns whether the best prices of the stock have changed. After a fault nothing more can be followed.
@@ -159,14 +155,11 @@ impl<B: OrderBook> Followed<B> {
 
     // Returns whether a message is about a locate that has the stock, or that gets it.
     fn concerns(&self, stock: OneStock<'_>, message: &Message<'_>) -> bool
-        ensures { result ≡ concerns stock.entry self.now.own message.now }
+        ensures { result ≡ concerns (wants stock.entry) self.now.own message.now }
     {
         match message {
             Message::StockDirectory(x) => enters(stock, x),
-            _ => match message.header() {
-                Some(header) => self.own.security(header.locate).is_some(),
-                None => false,
-            },
+            _ => is_located(&self.own, message),
         }
     }
 
@@ -217,7 +210,7 @@ impl<B: OrderBook> Followed<B> {
 
 // Returns whether an entry of the directory has the stock.
 fn enters(stock: OneStock<'_>, x: &StockDirectory) -> bool
-    ensures { result ≡ enters stock.entry x.now }
+    ensures { result ≡ wants stock.entry x.now.header.locate (Some x.now.entry.stock) }
 {
     match stock {
         OneStock::Locate(locate) => x.header.locate == locate,

@@ -4,7 +4,7 @@ use Rattle.itch_day.specs.Sinks.{OffersPayload}
 use Rattle.itch_market.specs.Takings.{TakesMessage}
 use Rattle.itch_depth.specs.declared.changes.sink.ChangeLines.{ChangeLines}
 use Rattle.itch_depth.specs.Changes.{change}
-use Rattle.itch_depth.specs.Following.{may_concern}
+use Rattle.itch_depth.specs.Own.{may_concern}
 use Rattle.itch_depth.proofs.FollowedDays.{Follows}
 use Rattle.itch_depth.proofs.FollowedMessages.{offered, writes_none}
 use Rattle.itch_depth.proofs.OtherPayloads.{passed_over}
