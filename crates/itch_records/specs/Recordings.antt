@@ -1,5 +1,6 @@
 -- The record of a feed as a writer.
 use Rattle.std.specs.Prelude.{◌≡◌, ℕ, List, [], Option, None}
+use Rattle.std.specs.Io.KnownBytes.{Keeps}
 use Rattle.std.specs.Io.Buffered.{writer_buffer, writer_contents}
 use Rattle.itch_frame.specs.declared.tally.Failures.{Failures}
 use Rattle.itch_records.specs.declared.recording.Recording.{Recording}
@@ -19,3 +20,11 @@ failures_of (File file failures added) = failures
 abbrev pub IsFlushed : {F : Type 0} → Recording F → Type 0
 IsFlushed (Nowhere failures) = Unit {0}
 IsFlushed (File file failures added) = writer_buffer file ≡ []
+
+-- the same record, with the same bytes, or none as before
+abbrev pub IsSame : {F : Type 0} → (F → Option (List ℕ)) → Recording F → Recording F → Type 0
+IsSame contents (Nowhere failures) (Nowhere later) = later ≡ failures
+IsSame contents (Nowhere failures) (File file later added) = ⊥
+IsSame contents (File file failures added) (Nowhere later) = ⊥
+IsSame contents (File file failures added) (File written later more) =
+    Keeps (writer_contents contents file) (writer_contents contents written) × (later ≡ failures) × (more ≡ added)

@@ -23,7 +23,7 @@ pub use fault::{DayFault, Detail, LiveFault, Names, Owned, RecordFault};
 pub use ready::{Ready, is_caught_up};
 pub use record::{Record, RecordLoss, RecordPlace, RecordWords, SyncTime};
 pub use recording::Recording;
-pub use replay::{Replay, next_stop};
+pub use replay::{Replay, Replaying, next_stop};
 pub use resuming::{Replayed, at_the_first, newest};
 pub use saving::{RecordPart, Saver, SnapshotWords};
 pub use step::{Step, rejection_ends, step_of};

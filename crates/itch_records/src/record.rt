@@ -2,7 +2,7 @@
 
 use crate::fault::{LiveFault, Owned, RecordFault};
 use crate::recording::Recording;
-use crate::replay::Replay;
+use crate::replay::{Replay, Replaying};
 use crate::session_file::{read_session, write_session};
 use crate::step::record_fault;
 use crate::watch::{FileChange, Seen, change_of};
@@ -148,7 +148,7 @@ impl Record {
         match &self.kept {
             Some(kept) if kept.opened.length > 0 => {
                 let file = open_again(rt, kept.path.as_str())?;
-                Ok(Some(Replay::after(rt.alloc(), file, mark)?))
+                Ok(Some(Replaying::after(rt.alloc(), file, mark)?))
             }
             _ => Ok(None),
         }

@@ -1,6 +1,6 @@
 //! The record of a feed: a day file, or none.
 ghost use Rattle.std.specs.Prelude.{OnOk};
-ghost use Rattle.itch_records.specs.Recordings.{contents_of, failures_of, IsFlushed};
+ghost use Rattle.itch_records.specs.Recordings.{contents_of, failures_of, IsFlushed, IsSame};
 
 use itch_frame::CountedWrite;
 use itch_frame::tally::Failures;
@@ -35,7 +35,8 @@ impl<F: Write + Drop> Recording<F> {
     ///
     /// The system's error if this fails.
     pub fn flush(&mut self) -> io::Result<()>
-        ensures { OnOk result (IsFlushed self.new) }
+        ensures flushed { OnOk result (IsFlushed self.new) }
+        ensures same { IsSame F.contents self.old self.new }
     {
         match self {
             Recording::Nowhere(_) => Ok(()),

@@ -1,13 +1,16 @@
 //! Replays the messages of a record in parts, before more are added.
-ghost use Rattle.std.specs.Prelude.{◌≡◌};
+ghost use Rattle.std.specs.Prelude.{◌≡◌, ℕ, ◌+◌, List, IfOk};
+ghost use Rattle.itch_day.specs.Marks.{later, mark_past, time_at};
+ghost use Rattle.itch_day.specs.Sinks.{Decodes};
 ghost use Rattle.itch_records.specs.Readiness.{next_stop};
+ghost use Rattle.itch_records.specs.Replays.{IsRead, Replays};
 
 use crate::fault::{LiveFault, RecordFault};
 use crate::step::stop_of;
 use itch_book::OrderBook;
 use itch_codec::{CodecFault, MOST_MESSAGES, Message};
 use itch_day::{Limit, Mark, PartStop, Sink, read_part};
-use itch_frame::{BlockReader, Buffered, FrameFault};
+use itch_frame::{BlockReader, Buffered, CountedRead, FrameFault};
 use itch_join::{JoinFault, Live};
 use itch_live::Follower;
 use itch_market::{Refusal, ReplayEnd, Stop};
@@ -43,13 +46,16 @@ struct RecordSink<'x, B: OrderBook> {
 }
 
 impl<'x, B: OrderBook> Sink for RecordSink<'x, B> {
-    ghost use Rattle.std.specs.Prelude.{◌≡◌};
+    ghost use Rattle.std.specs.Prelude.{◌≡◌, ◌+◌};
+    ghost use Rattle.itch_day.specs.Marks.{mark_past};
+    ghost use Rattle.itch_records.specs.Replays.{TakesRecorded};
 
     type Fault = Stop;
 
-    ghost is_ready = { λ _ _. Unit {0} };
+    ghost is_ready = { λ s number. number ≡ s.mark.count + 1 };
 
-    ghost takes = { λ s number payload t. t.follower.ghost_name ≡ s.follower.ghost_name };
+    ghost takes = { λ s number payload t. (t.follower.ghost_name ≡ s.follower.ghost_name) × TakesRecorded s.follower.now number payload t.follower.now
+        × (t.mark ≡ mark_past s.mark payload) };
 
     ghost refuses = { λ s number payload why t. t.follower.ghost_name ≡ s.follower.ghost_name };
 
@@ -61,7 +67,7 @@ impl<'x, B: OrderBook> Sink for RecordSink<'x, B> {
     ) -> Result<(), Stop> {
         match self.follower.replay(number, payload, message) {
             Ok(Live::Applied { .. }) => {
-                self.mark = mark_after(self.mark, number, payload, message);
+                self.mark = mark_past(self.mark, number, payload, message);
                 Ok(())
             }
             Err(JoinFault::Halted { cause, .. }) => Err(stop_of(cause)),
@@ -83,34 +89,58 @@ impl<'x, B: OrderBook> Sink for RecordSink<'x, B> {
 }
 
 // Returns the mark after the message with this number, which follows the messages of a mark.
-fn mark_after(
+fn mark_past(
     mark: Mark,
     number: u64,
     payload: &[u8],
     message: &Result<Message<'_>, CodecFault>,
-) -> Mark {
-    let time = match message {
-        Ok(message) => message.time(),
-        Err(_fault) => None,
-    };
+) -> Mark
+    requires next { number ≡ mark.count + 1 }
+    requires decoded { Decodes payload.now message.now }
+    ensures { result ≡ mark_past mark payload.now }
+{
     let size = (payload.len() as u64).saturating_add(2);
     Mark {
         count: number,
         offset: mark.offset.saturating_add(size),
-        latest: mark.latest.max(time),
+        latest: later(mark.latest, time_of(message)),
+    }
+}
+
+// Returns the time of a decoded message, if it has one.
+fn time_of(message: &Result<Message<'_>, CodecFault>) -> Option<u64>
+    ensures { (payload : List ℕ) → Decodes payload message.now → result ≡ time_at payload }
+{
+    match message {
+        Ok(message) => message.time(),
+        Err(_fault) => None,
+    }
+}
+
+// Returns the later of two times, each of which may be missing.
+fn later(before: Option<u64>, time: Option<u64>) -> Option<u64>
+    ensures { result ≡ later before time }
+{
+    match (before, time) {
+        (Some(before), Some(time)) => Some(before.max(time)),
+        (Some(before), None) => Some(before),
+        (None, time) => time,
     }
 }
 
 /// The messages of a record that were not replayed yet: those that `check` counts, up to the end of the file, a block of length 0 or an
 /// incomplete block.
 #[derive(Drop)]
-pub struct Replay {
-    blocks: BlockReader<Buffered<File>, Global>,
+pub struct Replaying<S: CountedRead + Drop> {
+    blocks: BlockReader<S, Global>,
     // The messages that were replayed.
     mark: Mark,
 }
 
-impl Replay {
+/// Those of a file.
+pub type Replay = Replaying<Buffered<File>>;
+
+impl Replaying<Buffered<File>> {
     /// Creates a replay of a record, starting after the messages of a mark.
     ///
     /// # Errors
@@ -127,18 +157,23 @@ impl Replay {
         let Ok(buffered) = BufReader::with_capacity(alloc, PIECE, file) else {
             return Err(LiveFault::Session(SessionFault::OutOfMemory));
         };
-        Ok(Replay {
+        Ok(Replaying {
             blocks: BlockReader::new(alloc, Buffered::new(buffered))?,
             mark,
         })
     }
+}
 
+impl<S: CountedRead + Drop> Replaying<S> {
     /// Returns the mark of the messages replayed so far: their number, the size of their blocks in bytes, and the latest timestamp.
-    pub fn mark(&self) -> Mark {
+    pub fn mark(&self) -> Mark
+        ensures { result ≡ self.now.mark }
+    {
         self.mark
     }
 
-    /// Continues the replay up to message `most` of the record, and returns whether more may follow.
+    /// Continues the replay up to message `most` of the record, and returns whether more may follow. The follower has applied each message
+    /// of the record up to there, in order and once.
     ///
     /// # Errors
     ///
@@ -147,7 +182,9 @@ impl Replay {
         &mut self,
         follower: &mut Follower<B>,
         most: u64,
-    ) -> Result<bool, LiveFault> {
+    ) -> Result<bool, LiveFault>
+        ensures { IfOk result (λ _. Replays S.remaining self.old.blocks self.new.blocks self.old.mark self.new.mark follower.old follower.new) }
+    {
         let mut count = self.mark.count;
         if count > MOST_MESSAGES {
             return Err(refused(count, Stop::TooManyMessages));
@@ -159,15 +196,20 @@ impl Replay {
         let limit = Limit::counted(Some(most));
         let stop = read_part(&mut self.blocks, &mut count, &mut recorded, limit);
         self.mark = recorded.mark;
-        match stop {
-            PartStop::Full => Ok(true),
-            PartStop::Late | PartStop::End | PartStop::Frame(FrameFault::Truncated { .. }) => {
-                Ok(false)
-            }
-            PartStop::Frame(fault) => Err(refused(count, Stop::Frame(fault))),
-            PartStop::TooMany => Err(refused(count, Stop::TooManyMessages)),
-            PartStop::Refused(stop) => Err(refused(count, stop)),
-        }
+        is_more(stop, count)
+    }
+}
+
+// Returns whether more may follow after a part of a record, or the fault at which the part of `count` messages stopped.
+fn is_more(stop: PartStop<Stop>, count: u64) -> Result<bool, LiveFault>
+    ensures { IfOk result (λ _. IsRead stop) }
+{
+    match stop {
+        PartStop::Full => Ok(true),
+        PartStop::Late | PartStop::End | PartStop::Frame(FrameFault::Truncated { .. }) => Ok(false),
+        PartStop::Frame(fault) => Err(refused(count, Stop::Frame(fault))),
+        PartStop::TooMany => Err(refused(count, Stop::TooManyMessages)),
+        PartStop::Refused(stop) => Err(refused(count, stop)),
     }
 }
 

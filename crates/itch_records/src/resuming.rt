@@ -1,8 +1,13 @@
 //! Where a live server begins: before the first message, or with the newest snapshot in its folder that fits the record.
+ghost use Rattle.std.specs.Prelude.{◌≡◌, None, Some, Ok};
+ghost use Rattle.itch_join.specs.States.{new};
+ghost use Rattle.itch_market.specs.Content.{empty};
 
 use crate::fault::LiveFault;
+use crate::snapshot_folder::snapshot_path;
 use itch_book::OrderBook;
 use itch_checkpoints::{Checkpoint, Unfit, fingerprint_before, nearest, why_unfit};
+use itch_codec::{Encoder, Message, Seq};
 use itch_day::{Limit, Mark};
 use itch_frame::{BlockReader, Buffered};
 use itch_join::Joiner;
@@ -18,19 +23,26 @@ use std::fs::{self, File};
 use std::io::{self, BufReader, ErrorKind};
 use std::rt::Files;
 
-/// The End of Snapshot of a market without messages.
-const NOTHING_BEFORE: &[u8] = b"G                   1";
-
 /// The number of unsuitable snapshots that are skipped. After that, the complete record is replayed.
 const MOST_UNFIT: usize = 16;
 
-/// Gives a joiner the market before the first message.
+/// Gives a joiner the market before the first message. A new joiner takes it, without memory.
 ///
 /// # Errors
 ///
-/// [`SessionFault::OutOfMemory`] if memory is refused.
-pub fn at_the_first<B: OrderBook>(joiner: &mut Joiner<B>) -> Result<(), SessionFault> {
-    match joiner.snapshot(NOTHING_BEFORE) {
+/// [`SessionFault::OutOfMemory`] if the joiner is not new.
+pub fn at_the_first<B: OrderBook>(joiner: &mut Joiner<B>) -> Result<(), SessionFault>
+    ensures first { joiner.old.state ≡ new → (result ≡ Ok tt) × (joiner.new.state.joined ≡ Some (record { next = 1; market = empty })) × (joiner.new.state.halt ≡ None) }
+    ensures cap { joiner.new.cap ≡ joiner.old.cap }
+    ensures set { joiner.new.set ≡ joiner.old.set }
+{
+    let Some(next) = Seq::new(1) else {
+        unreachable!()
+    };
+    let end = Message::End { next };
+    let mut encoder = Encoder::new();
+    let payload = encoder.encode(&end);
+    match joiner.snapshot(payload) {
         Ok(_) => Ok(()),
         Err(_) => Err(SessionFault::OutOfMemory),
     }
@@ -174,9 +186,8 @@ fn joined<R: Files<File = File> + AllocGlobal, B: OrderBook<Alloc = Global>>(
     messages: u64,
 ) -> Result<Joiner<B>, Unusable> {
     let alloc = rt.alloc();
-    let path = match format!(in alloc; "{folder}/{messages}.snap") {
-        Ok(path) => path,
-        Err(_) => return Err(Unusable::OutOfMemory),
+    let Ok(path) = snapshot_path(alloc, folder, messages) else {
+        return Err(Unusable::OutOfMemory);
     };
     let file = fs::open(rt, path.as_str())?;
     let Ok(buffered) = BufReader::with_capacity(alloc, PIECE, file) else {

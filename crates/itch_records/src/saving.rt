@@ -1,12 +1,14 @@
 //! Snapshots of the current market in files of a folder.
-ghost use Rattle.std.specs.Prelude.{◌≡◌, ◌<◌, ◌^◌, length, OnOk};
+ghost use Rattle.std.specs.Prelude.{◌≡◌, ◌<◌, ◌^◌, ◌++◌, length, IfOk, OnOk};
+ghost use Rattle.std.specs.Io.KnownBytes.{Appends};
+ghost use Rattle.itch_snapshot.specs.Bytes.{canon, closing};
 ghost use Rattle.itch_snapshot.specs.Snapshot.{snap};
-ghost use Rattle.itch_records.specs.Recordings.{IsFlushed};
+ghost use Rattle.itch_records.specs.Recordings.{IsFlushed, IsSame};
 ghost use Rattle.itch_records.specs.Savings.{is_wanted};
 
 use crate::fault::{LiveFault, Owned};
 use crate::recording::Recording;
-use crate::snapshot_folder::{KeptLines, clean, keep_lines, list, remove};
+use crate::snapshot_folder::{KeptLines, clean, keep_lines, list, remove, snapshot_path};
 use itch_book::OrderBook;
 use itch_checkpoints::fingerprint_before;
 use itch_codec::{GREATEST_SEQ, Seq};
@@ -18,9 +20,10 @@ use itch_sessions::log::entry::{LogEvent, LogLevel, write_number, write_shown, w
 use itch_sessions::log::form::LogForm;
 use itch_sessions::sessions::{PIECE, Sending, write_closed};
 use itch_snapshot::snapshot_len;
+use std::alloc::Global;
 use std::fmt::{self, Display, Formatter};
 use std::fs::{self, File, TryLockError};
-use std::io::{self, BufWriter, ErrorKind};
+use std::io::{self, BufWriter, ErrorKind, Write};
 use std::rt::Files;
 
 /// The interval in milliseconds at which missed snapshots are reported.
@@ -218,15 +221,21 @@ impl Saver {
     /// # Errors
     ///
     /// The system's error if the record cannot be flushed. It must contain each message of the snapshot.
-    pub fn save<R: Files<File = File> + Eprint + AllocGlobal, B: OrderBook>(
+    pub fn save<R, F, B>(
         &mut self,
         log: &mut Log<'_, R>,
         market: &Market<B>,
         next: u64,
         now_ms: u64,
-        recording: &mut Recording<File>,
+        recording: &mut Recording<F>,
         part: Option<RecordPart<'_>>,
-    ) -> io::Result<()> {
+    ) -> io::Result<()>
+    where
+        R: Files<File = File> + Eprint + AllocGlobal,
+        F: Write + Drop,
+        B: OrderBook,
+        ensures { IsSame F.contents recording.old recording.new }
+    {
         let rt = log.runtime();
         let written = match save(rt, self.folder.as_str(), market, next, recording) {
             Ok(()) => self.enter(rt, next.saturating_sub(1), part),
@@ -364,30 +373,35 @@ impl From<SessionFault> for Unsaved {
 }
 
 // Writes the snapshot of the market before this number. The record is flushed first, so that it contains each message of the snapshot.
-fn save<R: Files<File = File> + AllocGlobal, B: OrderBook>(
+fn save<R: Files<File = File> + AllocGlobal, F: Write + Drop, B: OrderBook>(
     rt: &R,
     folder: &str,
     market: &Market<B>,
     next: u64,
-    recording: &mut Recording<File>,
+    recording: &mut Recording<F>,
 ) -> Result<(), Unsaved>
-    ensures { OnOk result (IsFlushed recording.new) }
+    ensures flushed { OnOk result (IsFlushed recording.new) }
+    ensures same { IsSame F.contents recording.old recording.new }
 {
     if let Err(error) = recording.flush() {
         return Err(Unsaved::Record(error));
     }
-    write_snapshot(rt, folder, market, next)?;
+    write_snapshot(rt, folder, market, next, recording)?;
     Ok(())
 }
 
 // Writes the snapshot of the market before this number, in canonical form, to a temporary file, which is renamed when it is on disk. So a
-// file with the final name is complete.
-fn write_snapshot<R: Files<File = File> + AllocGlobal, B: OrderBook>(
+// file with the final name is complete. By then nothing of the record may be held back.
+fn write_snapshot<R: Files<File = File> + AllocGlobal, F: Write + Drop, B: OrderBook>(
     rt: &R,
     folder: &str,
     market: &Market<B>,
     next: u64,
-) -> Result<(), SessionFault> {
+    recording: &Recording<F>,
+) -> Result<(), SessionFault>
+    requires { IsFlushed recording.now }
+{
+    let _recording = recording;
     let messages = next.saturating_sub(1);
     let Some(next) = Seq::new(next) else {
         return Err(SessionFault::TooMany);
@@ -395,7 +409,7 @@ fn write_snapshot<R: Files<File = File> + AllocGlobal, B: OrderBook>(
     if snapshot_len(market) >= u128::from(GREATEST_SEQ) {
         return Err(SessionFault::TooMany);
     }
-    let path = format!(in rt.alloc(); "{folder}/{messages}.snap")?;
+    let path = snapshot_path(rt.alloc(), folder, messages)?;
     let beside = format!(in rt.alloc(); "{path}.part")?;
     let written = match write_file(rt, beside.as_str(), market, next) {
         Ok(()) => fs::rename(rt, beside.as_str(), path.as_str()).map_err(folder_fault),
@@ -408,6 +422,7 @@ fn write_snapshot<R: Files<File = File> + AllocGlobal, B: OrderBook>(
     written
 }
 
+// Writes the snapshot of a market to a new file, and waits until it is on disk.
 fn write_file<R: Files<File = File> + AllocGlobal, B: OrderBook>(
     rt: &R,
     path: &str,
@@ -420,7 +435,25 @@ fn write_file<R: Files<File = File> + AllocGlobal, B: OrderBook>(
         Ok(file) => file,
         Err(error) => return Err(folder_fault(error)),
     };
-    let Ok(buffered) = BufWriter::with_capacity(rt.alloc(), PIECE, file) else {
+    let written = write_whole(rt.alloc(), file, market, next)?;
+    match written.sync_all() {
+        Ok(()) => Ok(()),
+        Err(error) => Err(folder_fault(error)),
+    }
+}
+
+// Writes the snapshot of a market to a file, and returns the file, which then holds each byte of it.
+#[tactic(auto, using(crate::proofs::Written::written))]
+fn write_whole<F: Write + Drop, B: OrderBook>(
+    alloc: Global,
+    file: F,
+    market: &Market<B>,
+    next: Seq,
+) -> Result<F, SessionFault>
+    requires { length (snap market.now) < 10 ^ 19 }
+    ensures { IfOk result (λ written. Appends (F.contents file) (F.contents written) (canon market.now ++ closing next)) }
+{
+    let Ok(buffered) = BufWriter::with_capacity(alloc, PIECE, file) else {
         return Err(SessionFault::OutOfMemory);
     };
     let mut out = Sending::new(buffered);
@@ -429,21 +462,9 @@ fn write_file<R: Files<File = File> + AllocGlobal, B: OrderBook>(
         Err(SessionFault::Write(error)) => return Err(folder_fault(error)),
         Err(fault) => return Err(fault),
     }
-    match out.flush() {
-        Ok(()) => sync(rt, path),
-        Err(error) => Err(folder_fault(error)),
-    }
-}
-
-// Waits until a file is on disk.
-fn sync<R: Files<File = File>>(rt: &R, path: &str) -> Result<(), SessionFault> {
-    let file = match fs::open(rt, path) {
-        Ok(file) => file,
-        Err(error) => return Err(folder_fault(error)),
-    };
-    match file.sync_all() {
-        Ok(()) => Ok(()),
-        Err(error) => Err(folder_fault(error)),
+    match out.into_inner().into_inner() {
+        Ok(written) => Ok(written),
+        Err(failed) => Err(folder_fault(failed.into_error())),
     }
 }
 

@@ -1,8 +1,11 @@
 //! The files in a folder of snapshots: one for each snapshot, and their index.
+ghost use Rattle.std.specs.Prelude.{◌≡◌, IfOk};
+ghost use Rattle.std.specs.String.{string_bytes};
+ghost use Rattle.itch_records.specs.Savings.{path_of};
 
 use itch_checkpoints::{Checkpoint, Fingerprint, IndexReader, Latest, index_line};
 use itch_day::Mark;
-use std::alloc::Global;
+use std::alloc::{AllocError, Global};
 use std::fs::{self, File, OpenOptions};
 use std::io::{self, BufRead, BufReader, BufWriter, ErrorKind, Write};
 use std::rt::Files;
@@ -48,6 +51,13 @@ fn number_of(digits: &[u8]) -> Option<u64> {
     digits.parse().ok()
 }
 
+/// Returns the path of the snapshot of this number of messages in a folder.
+pub fn snapshot_path(alloc: Global, folder: &str, messages: u64) -> Result<String, AllocError>
+    ensures { IfOk result (λ path. string_bytes path ≡ path_of folder.now messages) }
+{
+    format!(in alloc; "{folder}/{messages}.snap")
+}
+
 /// Removes temporary files, and returns the number of messages of each snapshot in the folder, in ascending order.
 ///
 /// # Errors
@@ -90,7 +100,7 @@ fn remove_part<R: Files + AllocGlobal>(rt: &R, folder: &str, name: &[u8]) -> io:
 ///
 /// The system's error if it cannot be removed.
 pub fn remove<R: Files + AllocGlobal>(rt: &R, folder: &str, messages: u64) -> io::Result<()> {
-    let path = format!(in rt.alloc(); "{folder}/{messages}.snap")?;
+    let path = snapshot_path(rt.alloc(), folder, messages)?;
     match fs::remove_file(rt, path.as_str()) {
         Err(error) if matches!(error.kind(), ErrorKind::NotFound) => Ok(()),
         removed => removed,
