@@ -1,15 +1,18 @@
 -- The place of a playback after more messages.
-use Rattle.std.proofs.Common.{◌≡◌, ◌⊎◌, ℕ, ◌+◌, ◌-◌, Bool, true, false, List, [], ◌∷◌, ◌++◌, length, Option, Some, Ok, refl, sym, ap, subst, ◌∙◌, inl, inr, arith, length-append}
+use Rattle.std.proofs.Common.{◌≡◌, ℕ, ◌+◌, ◌-◌, ◌^◌, Bool, true, false, List, [], ◌∷◌, ◌++◌, length, Option, Some, Result, Ok, Err, refl, sym, ap, subst, ◌∙◌, inl, inr, arith, length-append}
 use Rattle.std.specs.Prelude.{slice_get}
 use Rattle.std.specs.Borrow.{Bor}
 use Rattle.std.specs.Io.KnownBytes.{Consumes}
 use Rattle.std.proofs.KnownBytes.{Consumes-trans}
 use Rattle.itch_frame.specs.Blocks.{blocks, IsFull}
-use Rattle.itch_frame.specs.Passing.{PassedOver}
+use Rattle.itch_frame.specs.Passing.{PassedOver, PassesMessages}
 use Rattle.itch_frame.specs.Reading.{Reading, bytes_left, NextMessage}
+use Rattle.itch_frame.specs.declared.fault.FrameFault.{FrameFault}
 use Rattle.itch_frame.specs.declared.tally.Failures.{Failures}
 use Rattle.itch_frame.proofs.BlockLemmas.{blocks-append, consumed_more, each-append, each-push}
-use Rattle.itch_clients.specs.Playbacks.{IsAt, MovesTo, Stands}
+use Rattle.itch_market.specs.declared.stop.Stop.TheVariants.{Frame}
+use Rattle.itch_sessions.specs.declared.session_fault.SessionFault.TheVariants.{Stopped, TooMany}
+use Rattle.itch_clients.specs.Playbacks.{Counts, IsAt, MovesTo, Stands}
 
 -- the last of some payloads and one more
 last_of : (payloads : List (List ℕ)) (payload : List ℕ) → slice_get (payloads ++ payload ∷ []) (length payloads) ≡ Some payload
@@ -17,6 +20,24 @@ last_of [] payload = refl
 last_of (first ∷ payloads) payload = last_of payloads payload
 
 module _ {R : Type 0} (remaining : R → Option (List ℕ)) (failures : R → Failures) where
+  -- the messages were counted up to their end
+  pub counts_all : (first now : Reading R) (most count : ℕ) (result : Result Bool FrameFault) → PassesMessages remaining failures most first count result now → result ≡ Ok false
+      → Counts remaining failures first (Ok count)
+  counts_all first now most count result passes is =
+      let over = subst (λ r. PassesMessages remaining failures most first count r now) is passes in (over.1.0, now, over.1.1, over.1.2)
+
+  -- there are more of them
+  pub counts_more : (first now : Reading R) (most count : ℕ) (result : Result Bool FrameFault) → PassesMessages remaining failures most first count result now → result ≡ Ok true
+      → most ≡ 2 ^ 64 - 1 → Counts remaining failures first (Err TooMany)
+  counts_more first now most count result passes is all =
+      let over = subst (λ r. PassesMessages remaining failures most first count r now) is passes in (now, subst (λ n. PassedOver remaining failures first n now) (over.0 ∙ all) over.1)
+
+  -- one of them cannot be read
+  pub counts_some : (first now : Reading R) (most count : ℕ) (result : Result Bool FrameFault) (fault : FrameFault) → PassesMessages remaining failures most first count result now → result ≡ Err fault
+      → Counts remaining failures first (Err (Stopped (record { count = count; stop = Frame fault })))
+  counts_some first now most count result fault passes is =
+      let over = subst (λ r. PassesMessages remaining failures most first count r now) is passes in (over.1.0, now, over.1.1, over.1.2)
+
   passed : (first : Reading R) (number : ℕ) (message : List ℕ) (now : Reading R) → Stands remaining failures first number message now → PassedOver remaining failures first number now
   passed first number message now (inl at) = at.passed
   passed first number message now (inr rest) = rest.0

@@ -1,5 +1,5 @@
 -- The messages that a client of a played file is passed in.
-use Rattle.std.specs.Prelude.{◌≡◌, ℕ, ◌-◌, ◌<◌, Bool, true, List, length, Option, None, Some, Result, Ok, Err}
+use Rattle.std.specs.Prelude.{◌≡◌, ℕ, ◌+◌, ◌-◌, ◌<◌, ◌^◌, min, Bool, true, List, [], ◌∷◌, length, Option, None, Some, Result, Ok, Err}
 use Rattle.itch_frame.specs.Reading.{Reading}
 use Rattle.itch_frame.specs.declared.tally.Failures.{Failures}
 use Rattle.itch_live.specs.Players.{Player, wanted, played}
@@ -20,10 +20,9 @@ abbrev pub is_due_from : PlayStart → Pace → ℕ → ℕ → ℕ → Bool
 is_due_from start pace number time now = is_due pace (now - start.at_ms) (number - start.number) (time - start.time)
 
 module _ {R : Type 0} (remaining : R → Option (List ℕ)) (failures : R → Failures) where
-  -- a client is passed in the message that it wants: that of the file with this number, which is due
-  pub record PassesIn (first : Reading R) (pace : Pace) (now : ℕ) (old : Player) (start : Option PlayStart) (reader : Reading R) (new : Player) : Type 0 where
+  -- a client is passed in this message, which it wants: that of the file with this number, which is due
+  pub record PassesIn (first : Reading R) (pace : Pace) (now : ℕ) (old : Player) (start : Option PlayStart) (reader : Reading R) (message : List ℕ) (new : Player) : Type 0 where
     pub number : ℕ
-    pub message : List ℕ
     pub since : PlayStart
     pub is_wanted : wanted old ≡ Some number
     pub of_file : IsAt remaining failures first number message reader
@@ -34,6 +33,16 @@ module _ {R : Type 0} (remaining : R → Option (List ℕ)) (failures : R → Fa
 
   -- the next message is passed in, or none is
   abbrev pub PlaysNext : Reading R → Pace → ℕ → Result (Option Played) SessionFault → Player → Option PlayStart → Reading R → Player → Type 0
-  PlaysNext first pace now (Ok None) old start reader new = PassesIn first pace now old start reader new
+  PlaysNext first pace now (Ok None) old start reader new = (message : List ℕ) × PassesIn first pace now old start reader message new
   PlaysNext first pace now (Ok (Some why)) old start reader new = new ≡ old
   PlaysNext first pace now (Err fault) old start reader new = new ≡ old
+
+  -- these messages are passed in, one after another; the latest comes first
+  abbrev pub ArePassedIn : Reading R → Pace → ℕ → Player → List (List ℕ) → Player → Type 0
+  ArePassedIn first pace now old [] new = new ≡ old
+  ArePassedIn first pace now old (message ∷ past) new =
+      (mid : Player) × (start : Option PlayStart) × (reader : Reading R) × ArePassedIn first pace now old past mid × PassesIn first pace now mid start reader message new
+
+  -- some messages are passed in, and are counted
+  abbrev pub PlaysOn : Reading R → Pace → ℕ → Player → ℕ → ℕ → Player → Type 0
+  PlaysOn first pace now old before count new = (past : List (List ℕ)) × ArePassedIn first pace now old past new × (count ≡ min (before + length past) (2 ^ 64 - 1))

@@ -2,7 +2,7 @@
 ghost use Rattle.std.specs.Prelude.{◌≡◌, ◌+◌, ◌<◌, ◌^◌, [], true, OnOk};
 ghost use Rattle.itch_frame.specs.Reading.{Reading};
 ghost use Rattle.itch_clients.specs.Paces.{timestamp};
-ghost use Rattle.itch_clients.specs.Playbacks.{MovesTo, Stands};
+ghost use Rattle.itch_clients.specs.Playbacks.{Counts, MovesTo, Stands};
 
 use crate::pace::timestamp;
 use itch_frame::{BlockReader, Buffered, CountedRead};
@@ -60,7 +60,9 @@ impl<S: CountedRead + Drop> Playback<S> {
     ///
     /// [`SessionFault::Stopped`] if the file cannot be read, or ends within a message; [`SessionFault::TooMany`] if it has `u64::MAX` messages
     /// or more.
-    pub fn count(self) -> Result<u64, SessionFault> {
+    pub fn count(self) -> Result<u64, SessionFault>
+        ensures { Counts S.remaining S.failures self.blocks result }
+    {
         let mut playback = self;
         match playback.blocks.pass_messages(u64::MAX) {
             (count, Ok(false)) => Ok(count),
@@ -174,6 +176,8 @@ fn open_again<R: Files>(rt: &R, path: &str) -> io::Result<R::File> {
     fs::open(rt, path)
 }
 
-fn stopped(count: u64, stop: Stop) -> SessionFault {
+fn stopped(count: u64, stop: Stop) -> SessionFault
+    ensures { result ≡ SessionFault.Stopped (record { count = count; stop = stop }) }
+{
     SessionFault::Stopped(ReplayEnd { count, stop })
 }
