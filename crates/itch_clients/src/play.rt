@@ -5,7 +5,7 @@ use crate::playback::Playback;
 use crate::player_side::{PlayerSide, hand_on};
 use crate::reception::{Arrival, Reception};
 use itch_codec::{Alpha, Seq};
-use itch_frame::CountedWrite;
+use itch_frame::{Buffered, CountedRead, CountedWrite};
 use itch_live::Player;
 use itch_sessions::log::Log;
 use itch_sessions::log::form::LogForm;
@@ -16,7 +16,6 @@ use itch_sessions::{
 use mio::Token;
 use std::alloc::{AllocError, Global};
 use std::fs::File;
-use std::io::Read;
 use std::net::{Net, SocketAddr};
 use std::rt::{Clock, Files};
 
@@ -92,7 +91,7 @@ struct Players<'a, R: Clock> {
     turns: Turns<'a, R>,
     callers: Callers,
     reception: Reception,
-    clients: Vec<Option<PlayerSide<File>>>,
+    clients: Vec<Option<PlayerSide<Buffered<File>>>>,
     seated: Seated,
     spare: Spare,
     // The number of connections that have ended.
@@ -214,7 +213,7 @@ where
     }
 
     // Puts a client at a place, or frees the place, which closes the connection.
-    fn set(&mut self, place: usize, client: Option<PlayerSide<File>>) {
+    fn set(&mut self, place: usize, client: Option<PlayerSide<Buffered<File>>>) {
         if let Some(seat) = self.clients.get_mut(place) {
             *seat = client;
         }
@@ -226,7 +225,7 @@ where
         arrival: Arrival,
         place: usize,
         now_ms: u64,
-    ) -> Result<PlayerSide<File>, SessionFault> {
+    ) -> Result<PlayerSide<Buffered<File>>, SessionFault> {
         let playback = Playback::open(self.rt, self.playing.path)?;
         let total = self.end.value() - 1;
         let Arrival {
@@ -286,7 +285,9 @@ where
 }
 
 // Returns free places.
-fn no_clients<F: Read + Drop>(alloc: Global) -> Result<Vec<Option<PlayerSide<F>>>, AllocError> {
+fn no_clients<S: CountedRead + Drop>(
+    alloc: Global,
+) -> Result<Vec<Option<PlayerSide<S>>>, AllocError> {
     let mut clients = Vec::with_capacity(alloc, CLIENTS)?;
     for _place in 0..CLIENTS {
         clients.push(None)?;

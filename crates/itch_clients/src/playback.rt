@@ -1,7 +1,11 @@
 //! A day file that is played to one client, with its own reader.
+ghost use Rattle.std.specs.Prelude.{◌≡◌, ◌+◌, ◌<◌, ◌^◌, [], true, OnOk};
+ghost use Rattle.itch_frame.specs.Reading.{Reading};
+ghost use Rattle.itch_clients.specs.Paces.{timestamp};
+ghost use Rattle.itch_clients.specs.Playbacks.{MovesTo, Stands};
 
 use crate::pace::timestamp;
-use itch_frame::{BlockReader, Buffered};
+use itch_frame::{BlockReader, Buffered, CountedRead};
 use itch_market::{ReplayEnd, Stop};
 use itch_sessions::SessionFault;
 use itch_sessions::sessions::PIECE;
@@ -12,19 +16,19 @@ use std::rt::Files;
 
 /// The messages of a day file, one after another.
 #[derive(Drop)]
-pub struct Playback<F: Read + Drop> {
-    blocks: BlockReader<Buffered<F, Global>, Global>,
-    // The current message and its number, which is 0 before the first one.
-    message: Vec<u8>,
+pub struct Playback<S: CountedRead + Drop> {
+    blocks: BlockReader<S, Global>,
+    // The number of messages so far, and the last of them, which is empty if it was skipped.
     number: u64,
+    message: Vec<u8>,
 }
 
-impl<F: Read + Drop> Playback<F> {
+impl<F: Read + Drop> Playback<Buffered<F>> {
     /// Opens the file at a path, before its first message. A pipe or a device is refused, because each client reads the file from its beginning.
     pub fn open<R: Files<File = F> + AllocGlobal>(
         rt: &R,
         path: &str,
-    ) -> Result<Playback<F>, SessionFault> {
+    ) -> Result<Playback<Buffered<F>>, SessionFault> {
         let alloc = rt.alloc();
         let file = match open_again(rt, path) {
             Ok(file) => file,
@@ -33,22 +37,34 @@ impl<F: Read + Drop> Playback<F> {
         let Ok(buffered) = BufReader::with_capacity(alloc, PIECE, file) else {
             return Err(SessionFault::OutOfMemory);
         };
-        Ok(Playback {
-            blocks: BlockReader::new(alloc, Buffered::new(buffered))?,
-            message: Vec::new(alloc),
+        let blocks = BlockReader::new(alloc, Buffered::new(buffered))?;
+        Ok(Playback::new(alloc, blocks))
+    }
+}
+
+impl<S: CountedRead + Drop> Playback<S> {
+    /// Creates a playback of a file that is read from here on, before its first message.
+    pub fn new(alloc: Global, blocks: BlockReader<S, Global>) -> Playback<S>
+        ensures { Stands S.remaining S.failures blocks result.number result.message.items result.blocks }
+    {
+        Playback {
+            blocks,
             number: 0,
-        })
+            message: Vec::new(alloc),
+        }
     }
 
     /// Returns the number of messages from here on.
     ///
     /// # Errors
     ///
-    /// [`SessionFault::Stopped`] if the file cannot be read, or ends within a message.
+    /// [`SessionFault::Stopped`] if the file cannot be read, or ends within a message; [`SessionFault::TooMany`] if it has `u64::MAX` messages
+    /// or more.
     pub fn count(self) -> Result<u64, SessionFault> {
         let mut playback = self;
         match playback.blocks.pass_messages(u64::MAX) {
-            (count, Ok(_)) => Ok(count),
+            (count, Ok(false)) => Ok(count),
+            (_, Ok(true)) => Err(SessionFault::TooMany),
             (count, Err(fault)) => Err(stopped(count, Stop::Frame(fault))),
         }
     }
@@ -58,19 +74,55 @@ impl<F: Read + Drop> Playback<F> {
     /// # Errors
     ///
     /// [`SessionFault::Stopped`] if the file cannot be read, or ends before the message; [`SessionFault::OutOfMemory`] if memory is refused.
-    pub fn move_to(&mut self, number: u64, most: usize) -> Result<bool, SessionFault> {
+    pub fn move_to(&mut self, number: u64, most: usize) -> Result<bool, SessionFault>
+        ensures { (first : Reading S) → Stands S.remaining S.failures first self.old.number self.old.message.items self.old.blocks
+            → MovesTo S.remaining S.failures first number result self.new.number self.new.message.items self.new.blocks }
+    {
         let before = number.saturating_sub(1);
-        if self.number < before {
-            self.pass_over((before - self.number).min(most as u64))?;
+        self.pass_to(before, most as u64)?;
+        self.read_after(before)?;
+        Ok(self.is_at(number))
+    }
+
+    // Returns whether the current message has this number.
+    fn is_at(&self, number: u64) -> bool
+        ensures { result ≡ true → (self.now.number ≡ number) × (self.now.message.items ≡ [] → ⊥) }
+    {
+        self.number == number && !self.message.is_empty()
+    }
+
+    // Skips the messages up to this number, but no more than `most`.
+    fn pass_to(&mut self, number: u64, most: u64) -> Result<(), SessionFault>
+        ensures { (first : Reading S) → Stands S.remaining S.failures first self.old.number self.old.message.items self.old.blocks
+            → OnOk result (Stands S.remaining S.failures first self.new.number self.new.message.items self.new.blocks) }
+    {
+        if self.number < number {
+            self.pass_over((number - self.number).min(most))
+        } else {
+            Ok(())
         }
-        if self.number == before {
-            self.take_next()?;
+    }
+
+    // Makes the next message the current one, if it is the one after this number.
+    fn read_after(&mut self, number: u64) -> Result<(), SessionFault>
+        requires { number + 1 < 2 ^ 64 }
+        ensures { (first : Reading S) → Stands S.remaining S.failures first self.old.number self.old.message.items self.old.blocks
+            → OnOk result (Stands S.remaining S.failures first self.new.number self.new.message.items self.new.blocks) }
+    {
+        if self.number == number {
+            self.take_next()
+        } else {
+            Ok(())
         }
-        Ok(self.number == number)
     }
 
     // Skips `most` messages.
-    fn pass_over(&mut self, most: u64) -> Result<(), SessionFault> {
+    fn pass_over(&mut self, most: u64) -> Result<(), SessionFault>
+        requires { self.old.number + most < 2 ^ 64 }
+        ensures { (first : Reading S) → Stands S.remaining S.failures first self.old.number self.old.message.items self.old.blocks
+            → OnOk result (Stands S.remaining S.failures first self.new.number self.new.message.items self.new.blocks) }
+    {
+        self.message.clear();
         let (count, passed) = self.blocks.pass_messages(most);
         self.number = self.number.saturating_add(count);
         match passed {
@@ -81,7 +133,11 @@ impl<F: Read + Drop> Playback<F> {
     }
 
     // Makes the next message the current one.
-    fn take_next(&mut self) -> Result<(), SessionFault> {
+    fn take_next(&mut self) -> Result<(), SessionFault>
+        requires { self.old.number + 1 < 2 ^ 64 }
+        ensures { (first : Reading S) → Stands S.remaining S.failures first self.old.number self.old.message.items self.old.blocks
+            → OnOk result (Stands S.remaining S.failures first self.new.number self.new.message.items self.new.blocks) }
+    {
         match self.blocks.next_message() {
             Ok(Some(payload)) => {
                 self.message.clear();
@@ -95,12 +151,16 @@ impl<F: Read + Drop> Playback<F> {
     }
 
     /// Returns the current message.
-    pub fn message(&self) -> &[u8] {
+    pub fn message(&self) -> &[u8]
+        ensures { result.now ≡ self.now.message.items }
+    {
         self.message.as_slice()
     }
 
     /// Returns its timestamp.
-    pub fn time(&self) -> u64 {
+    pub fn time(&self) -> u64
+        ensures { result ≡ timestamp self.now.message.items }
+    {
         timestamp(self.message.as_slice())
     }
 }

@@ -1,12 +1,16 @@
 //! A client to which a day file is played.
+ghost use Rattle.std.specs.Prelude.{◌≡◌, Some, OnOk};
+ghost use Rattle.itch_frame.specs.Reading.{Reading};
+ghost use Rattle.itch_clients.specs.Playbacks.{Stands};
+ghost use Rattle.itch_clients.specs.Playings.{PlaysNext, is_due_from, start_of};
 
 use crate::pace::{Pace, is_due};
 use crate::playback::Playback;
+use itch_frame::CountedRead;
 use itch_live::{Gone, Player};
 use itch_sessions::{Departure, SessionFault, SocketLink, Who, departure_of};
 use mio::event::Event;
 use std::alloc::Global;
-use std::io::Read;
 
 /// The most messages played to one client per turn.
 const MESSAGES: usize = 4_096;
@@ -38,19 +42,19 @@ enum Played {
 
 /// A client to which a day file is played.
 #[derive(Drop)]
-pub struct PlayerSide<F: Read + Drop> {
+pub struct PlayerSide<S: CountedRead + Drop> {
     link: SocketLink,
     player: Player<Global>,
-    playback: Playback<F>,
+    playback: Playback<S>,
     start: Option<PlayStart>,
     // The number of messages that were passed in, and the outcome of the last turn.
     count: u64,
     played: Played,
 }
 
-impl<F: Read + Drop> PlayerSide<F> {
+impl<S: CountedRead + Drop> PlayerSide<S> {
     /// Creates a client that has connected.
-    pub fn new(link: SocketLink, player: Player<Global>, playback: Playback<F>) -> PlayerSide<F> {
+    pub fn new(link: SocketLink, player: Player<Global>, playback: Playback<S>) -> PlayerSide<S> {
         PlayerSide {
             link,
             player,
@@ -106,21 +110,10 @@ impl<F: Read + Drop> PlayerSide<F> {
     // Passes in the messages that are due.
     fn play(&mut self, pace: Pace, now_ms: u64) -> Result<Played, SessionFault> {
         for _ in 0..MESSAGES {
-            let Some(number) = self.player.wanted() else {
-                return Ok(Played::Due);
-            };
-            if !self.playback.move_to(number, MESSAGES)? {
-                return Ok(Played::Due);
+            let (player, playback) = (&mut self.player, &mut self.playback);
+            if let Some(why) = play_next(player, playback, &mut self.start, pace, now_ms)? {
+                return Ok(why);
             }
-            let time = self.playback.time();
-            if !is_due_from(&mut self.start, pace, number, time, now_ms) {
-                return Ok(Played::Early);
-            }
-            let message = self.playback.message();
-            if message.len() > LONGEST {
-                return Err(SessionFault::TooMany);
-            }
-            self.player.play(message, now_ms);
             self.count = self.count.saturating_add(1);
         }
         Ok(Played::Due)
@@ -175,19 +168,54 @@ pub fn hand_on(player: &mut Player<Global>, piece: &[u8], now_ms: u64) {
     }
 }
 
-// Returns whether a message is due, counted from the first message that was played, which is always due.
+// Passes in the message that a client wants, and returns `None`; or returns why none is passed in: the client wants none, the file must first
+// be read on to it, or it is not due yet.
+fn play_next<S: CountedRead + Drop>(
+    player: &mut Player<Global>,
+    playback: &mut Playback<S>,
+    start: &mut Option<PlayStart>,
+    pace: Pace,
+    now_ms: u64,
+) -> Result<Option<Played>, SessionFault>
+    ensures plays { (first : Reading S) → Stands S.remaining S.failures first playback.old.number playback.old.message.items playback.old.blocks
+        → PlaysNext S.remaining S.failures first pace now_ms result player.old start.new playback.new.blocks player.new }
+    ensures stands { (first : Reading S) → Stands S.remaining S.failures first playback.old.number playback.old.message.items playback.old.blocks
+        → OnOk result (Stands S.remaining S.failures first playback.new.number playback.new.message.items playback.new.blocks) }
+{
+    let Some(number) = player.wanted() else {
+        return Ok(Some(Played::Due));
+    };
+    if !playback.move_to(number, MESSAGES)? {
+        return Ok(Some(Played::Due));
+    }
+    if !is_due_from(start, pace, number, playback.time(), now_ms) {
+        return Ok(Some(Played::Early));
+    }
+    let message = playback.message();
+    if message.len() > LONGEST {
+        return Err(SessionFault::TooMany);
+    }
+    player.play(message, now_ms);
+    Ok(None)
+}
+
+// Returns whether a message is due, counted from the first message that was read, which is always due.
 fn is_due_from(
     start: &mut Option<PlayStart>,
     pace: Pace,
     number: u64,
     time: u64,
     now_ms: u64,
-) -> bool {
-    let first = *start.get_or_insert(PlayStart {
+) -> bool
+    ensures start { start.new ≡ Some (start_of start.old number time now_ms) }
+    ensures due { result ≡ is_due_from (start_of start.old number time now_ms) pace number time now_ms }
+{
+    let first = start.unwrap_or(PlayStart {
         number,
         time,
         at_ms: now_ms,
     });
+    *start = Some(first);
     is_due(
         pace,
         now_ms.saturating_sub(first.at_ms),
