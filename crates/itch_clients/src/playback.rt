@@ -1,8 +1,8 @@
 //! A day file that is played to one client, with its own reader.
-ghost use Rattle.std.specs.Prelude.{◌≡◌, ◌+◌, ◌<◌, ◌^◌, [], true, OnOk};
+ghost use Rattle.std.specs.Prelude.{◌≡◌, ◌≢◌, ◌+◌, ◌-◌, ◌<◌, ◌≤◌, ◌^◌, ◌⊎◌, min, [], true, false, OnOk, Ok};
 ghost use Rattle.itch_frame.specs.Reading.{Reading};
 ghost use Rattle.itch_clients.specs.Paces.{timestamp};
-ghost use Rattle.itch_clients.specs.Playbacks.{MovesTo, Stands};
+ghost use Rattle.itch_clients.specs.Playbacks.{Counts, GoesOn, MovesTo, Stands};
 
 use crate::pace::timestamp;
 use itch_frame::{BlockReader, Buffered, CountedRead};
@@ -60,7 +60,9 @@ impl<S: CountedRead + Drop> Playback<S> {
     ///
     /// [`SessionFault::Stopped`] if the file cannot be read, or ends within a message; [`SessionFault::TooMany`] if it has `u64::MAX` messages
     /// or more.
-    pub fn count(self) -> Result<u64, SessionFault> {
+    pub fn count(self) -> Result<u64, SessionFault>
+        ensures { Counts S.remaining S.failures self.blocks result }
+    {
         let mut playback = self;
         match playback.blocks.pass_messages(u64::MAX) {
             (count, Ok(false)) => Ok(count),
@@ -75,8 +77,9 @@ impl<S: CountedRead + Drop> Playback<S> {
     ///
     /// [`SessionFault::Stopped`] if the file cannot be read, or ends before the message; [`SessionFault::OutOfMemory`] if memory is refused.
     pub fn move_to(&mut self, number: u64, most: usize) -> Result<bool, SessionFault>
-        ensures { (first : Reading S) → Stands S.remaining S.failures first self.old.number self.old.message.items self.old.blocks
+        ensures moves { (first : Reading S) → Stands S.remaining S.failures first self.old.number self.old.message.items self.old.blocks
             → MovesTo S.remaining S.failures first number result self.new.number self.new.message.items self.new.blocks }
+        ensures far { result ≡ Ok false → (number ≤ self.old.number) ⊎ (self.new.number ≡ self.old.number + most) }
     {
         let before = number.saturating_sub(1);
         self.pass_to(before, most as u64)?;
@@ -86,15 +89,17 @@ impl<S: CountedRead + Drop> Playback<S> {
 
     // Returns whether the current message has this number.
     fn is_at(&self, number: u64) -> bool
-        ensures { result ≡ true → (self.now.number ≡ number) × (self.now.message.items ≡ [] → ⊥) }
+        ensures current { result ≡ true → (self.now.number ≡ number) × (self.now.message.items ≢ []) }
+        ensures other { result ≡ false → (self.now.number ≢ number) ⊎ (self.now.message.items ≡ []) }
     {
         self.number == number && !self.message.is_empty()
     }
 
     // Skips the messages up to this number, but no more than `most`.
     fn pass_to(&mut self, number: u64, most: u64) -> Result<(), SessionFault>
-        ensures { (first : Reading S) → Stands S.remaining S.failures first self.old.number self.old.message.items self.old.blocks
-            → OnOk result (Stands S.remaining S.failures first self.new.number self.new.message.items self.new.blocks) }
+        ensures moves { (first : Reading S) → Stands S.remaining S.failures first self.old.number self.old.message.items self.old.blocks
+            → GoesOn S.remaining S.failures first result self.new.number self.new.message.items self.new.blocks }
+        ensures number { OnOk result (self.new.number ≡ self.old.number + min (number - self.old.number) most) }
     {
         if self.number < number {
             self.pass_over((number - self.number).min(most))
@@ -106,8 +111,10 @@ impl<S: CountedRead + Drop> Playback<S> {
     // Makes the next message the current one, if it is the one after this number.
     fn read_after(&mut self, number: u64) -> Result<(), SessionFault>
         requires { number + 1 < 2 ^ 64 }
-        ensures { (first : Reading S) → Stands S.remaining S.failures first self.old.number self.old.message.items self.old.blocks
-            → OnOk result (Stands S.remaining S.failures first self.new.number self.new.message.items self.new.blocks) }
+        ensures moves { (first : Reading S) → Stands S.remaining S.failures first self.old.number self.old.message.items self.old.blocks
+            → GoesOn S.remaining S.failures first result self.new.number self.new.message.items self.new.blocks }
+        ensures next { self.old.number ≡ number → OnOk result ((self.new.number ≡ number + 1) × (self.new.message.items ≢ [])) }
+        ensures other { self.old.number ≢ number → OnOk result (self.new.number ≡ self.old.number) }
     {
         if self.number == number {
             self.take_next()
@@ -119,8 +126,9 @@ impl<S: CountedRead + Drop> Playback<S> {
     // Skips `most` messages.
     fn pass_over(&mut self, most: u64) -> Result<(), SessionFault>
         requires { self.old.number + most < 2 ^ 64 }
-        ensures { (first : Reading S) → Stands S.remaining S.failures first self.old.number self.old.message.items self.old.blocks
-            → OnOk result (Stands S.remaining S.failures first self.new.number self.new.message.items self.new.blocks) }
+        ensures moves { (first : Reading S) → Stands S.remaining S.failures first self.old.number self.old.message.items self.old.blocks
+            → GoesOn S.remaining S.failures first result self.new.number self.new.message.items self.new.blocks }
+        ensures number { OnOk result (self.new.number ≡ self.old.number + most) }
     {
         self.message.clear();
         let (count, passed) = self.blocks.pass_messages(most);
@@ -135,8 +143,9 @@ impl<S: CountedRead + Drop> Playback<S> {
     // Makes the next message the current one.
     fn take_next(&mut self) -> Result<(), SessionFault>
         requires { self.old.number + 1 < 2 ^ 64 }
-        ensures { (first : Reading S) → Stands S.remaining S.failures first self.old.number self.old.message.items self.old.blocks
-            → OnOk result (Stands S.remaining S.failures first self.new.number self.new.message.items self.new.blocks) }
+        ensures moves { (first : Reading S) → Stands S.remaining S.failures first self.old.number self.old.message.items self.old.blocks
+            → GoesOn S.remaining S.failures first result self.new.number self.new.message.items self.new.blocks }
+        ensures number { OnOk result ((self.new.number ≡ self.old.number + 1) × (self.new.message.items ≢ [])) }
     {
         match self.blocks.next_message() {
             Ok(Some(payload)) => {
@@ -174,6 +183,8 @@ fn open_again<R: Files>(rt: &R, path: &str) -> io::Result<R::File> {
     fs::open(rt, path)
 }
 
-fn stopped(count: u64, stop: Stop) -> SessionFault {
+fn stopped(count: u64, stop: Stop) -> SessionFault
+    ensures { result ≡ SessionFault.Stopped (record { count = count; stop = stop }) }
+{
     SessionFault::Stopped(ReplayEnd { count, stop })
 }
