@@ -2,7 +2,7 @@
 ghost use Rattle.std.specs.Prelude.{◌≡◌, Some, OnOk};
 ghost use Rattle.itch_frame.specs.Reading.{Reading};
 ghost use Rattle.itch_clients.specs.Playbacks.{Stands};
-ghost use Rattle.itch_clients.specs.Playings.{PlaysNext, is_due_from, start_of};
+ghost use Rattle.itch_clients.specs.Playings.{PlaysNext, PlaysOn, is_due_from, start_of};
 
 use crate::pace::{Pace, is_due};
 use crate::playback::Playback;
@@ -108,15 +108,13 @@ impl<S: CountedRead + Drop> PlayerSide<S> {
     }
 
     // Passes in the messages that are due.
-    fn play(&mut self, pace: Pace, now_ms: u64) -> Result<Played, SessionFault> {
-        for _ in 0..MESSAGES {
-            let (player, playback) = (&mut self.player, &mut self.playback);
-            if let Some(why) = play_next(player, playback, &mut self.start, pace, now_ms)? {
-                return Ok(why);
-            }
-            self.count = self.count.saturating_add(1);
-        }
-        Ok(Played::Due)
+    fn play(&mut self, pace: Pace, now_ms: u64) -> Result<Played, SessionFault>
+        ensures { (first : Reading S) → Stands S.remaining S.failures first self.old.playback.number self.old.playback.message.items self.old.playback.blocks
+            → PlaysOn S.remaining S.failures first pace now_ms self.old.player self.old.count self.new.count self.new.player }
+    {
+        let (player, playback) = (&mut self.player, &mut self.playback);
+        let (start, count) = (&mut self.start, &mut self.count);
+        play_on(player, playback, start, count, pace, now_ms)
     }
 
     // Writes pending bytes, up to `SHARE`. When the client has received everything, the sending half of the connection is shut down.
@@ -168,6 +166,27 @@ pub fn hand_on(player: &mut Player<Global>, piece: &[u8], now_ms: u64) {
     }
 }
 
+// Passes in the messages that are due, and counts them.
+fn play_on<S: CountedRead + Drop>(
+    player: &mut Player<Global>,
+    playback: &mut Playback<S>,
+    start: &mut Option<PlayStart>,
+    count: &mut u64,
+    pace: Pace,
+    now_ms: u64,
+) -> Result<Played, SessionFault>
+    ensures { (first : Reading S) → Stands S.remaining S.failures first playback.old.number playback.old.message.items playback.old.blocks
+        → PlaysOn S.remaining S.failures first pace now_ms player.old count.old count.new player.new }
+{
+    for _ in 0..MESSAGES {
+        if let Some(why) = play_next(player, playback, start, pace, now_ms)? {
+            return Ok(why);
+        }
+        *count = count.saturating_add(1);
+    }
+    Ok(Played::Due)
+}
+
 // Passes in the message that a client wants, and returns `None`; or returns why none is passed in: the client wants none, the file must first
 // be read on to it, or it is not due yet.
 fn play_next<S: CountedRead + Drop>(
@@ -178,7 +197,7 @@ fn play_next<S: CountedRead + Drop>(
     now_ms: u64,
 ) -> Result<Option<Played>, SessionFault>
     ensures plays { (first : Reading S) → Stands S.remaining S.failures first playback.old.number playback.old.message.items playback.old.blocks
-        → PlaysNext S.remaining S.failures first pace now_ms result player.old start.new playback.new.blocks player.new }
+        → PlaysNext S.remaining S.failures first pace now_ms result player.old playback.old.number start.new playback.new.number playback.new.blocks player.new }
     ensures stands { (first : Reading S) → Stands S.remaining S.failures first playback.old.number playback.old.message.items playback.old.blocks
         → OnOk result (Stands S.remaining S.failures first playback.new.number playback.new.message.items playback.new.blocks) }
 {
