@@ -1,5 +1,5 @@
 -- The place of a playback after more messages.
-use Rattle.std.proofs.Common.{◌≡◌, ◌⊎◌, ℕ, ◌+◌, ◌-◌, ◌^◌, Bool, true, false, List, [], ◌∷◌, ◌++◌, length, Option, None, Some, Ok, Err, refl, sym, ap, subst, ◌∙◌, inl, inr, arith, length-append}
+use Rattle.std.proofs.Common.{◌≡◌, ℕ, ◌+◌, ◌-◌, ◌^◌, Bool, true, false, List, [], ◌∷◌, ◌++◌, length, Option, None, Some, Ok, Err, refl, sym, ap, subst, ◌∙◌, inl, inr, arith, length-append}
 use Rattle.std.specs.Prelude.{slice_get}
 use Rattle.std.specs.Borrow.{Bor}
 use Rattle.std.specs.Io.KnownBytes.{Consumes}
@@ -22,7 +22,7 @@ last_of (first ∷ payloads) payload = last_of payloads payload
 module _ {R : Type 0} (remaining : R → Option (List ℕ)) (failures : R → Failures) where
   -- the messages were counted up to their end
   pub counts_all : (first now : Reading R) (most count : ℕ) → PassesMessages remaining failures most first count (Ok false) now → Counts remaining failures first (Ok count)
-  counts_all first now most count passes = (passes.1.0, now, passes.1.1.0, passes.1.1.1)
+  counts_all first now most count passes = (passes.1.0, now, passes.1.1, passes.1.2)
 
   -- there are more of them
   pub counts_more : (first now : Reading R) (most count : ℕ) → PassesMessages remaining failures most first count (Ok true) now → most ≡ 2 ^ 64 - 1 → Counts remaining failures first (Err TooMany)
@@ -31,7 +31,7 @@ module _ {R : Type 0} (remaining : R → Option (List ℕ)) (failures : R → Fa
   -- one of them cannot be read
   pub counts_some : (first now : Reading R) (most count : ℕ) (fault : FrameFault) → PassesMessages remaining failures most first count (Err fault) now
       → Counts remaining failures first (Err (Stopped (record { count = count; stop = stop.Frame fault })))
-  counts_some first now most count fault passes = (now, passes.1.0, passes.1.1.0, passes.1.1.1)
+  counts_some first now most count fault passes = (now, passes.1.0, passes.1.1, passes.1.2)
 
   passed : (first : Reading R) (number : ℕ) (message : List ℕ) (now : Reading R) → Stands remaining failures first number message now → PassedOver remaining failures first number now
   passed first number message now (inl at) = at.passed
@@ -58,13 +58,13 @@ module _ {R : Type 0} (remaining : R → Option (List ℕ)) (failures : R → Fa
   pub ends_on : (first mid now : Reading R) (number most count total : ℕ) (message : List ℕ) → Stands remaining failures first number message mid → PassesMessages remaining failures most mid count (Ok false) now
       → total ≡ number + count → FailsBy remaining failures first (Stopped (record { count = total; stop = stop.End })) now
   ends_on first mid now number most count total message stands passes is =
-      (passes.1.0, passed_both first mid passes.1.0 number count total (passed first number message mid stands) passes.1.1.0 is, passes.1.1.1)
+      (passes.1.0, passed_both first mid passes.1.0 number count total (passed first number message mid stands) passes.1.1 is, passes.1.2)
 
   -- one of them cannot be read
   pub fails_on : (first mid now : Reading R) (number most count total : ℕ) (message : List ℕ) (fault : FrameFault) → Stands remaining failures first number message mid
       → PassesMessages remaining failures most mid count (Err fault) now → total ≡ number + count → FailsBy remaining failures first (Stopped (record { count = total; stop = stop.Frame fault })) now
   fails_on first mid now number most count total message fault stands passes is =
-      (passes.1.0, passed_both first mid passes.1.0 number count total (passed first number message mid stands) passes.1.1.0 is, passes.1.1.1)
+      (passes.1.0, passed_both first mid passes.1.0 number count total (passed first number message mid stands) passes.1.1 is, passes.1.2)
 
   -- there is no next message
   pub ends_here : (first mid now : Reading R) (number : ℕ) (message : List ℕ) → Stands remaining failures first number message mid → NextMessage remaining failures mid (Ok None) now

@@ -1,5 +1,5 @@
 -- The place of a playback in its file.
-use Rattle.std.specs.Prelude.{◌≡◌, ◌⊎◌, ℕ, ◌-◌, ◌^◌, ⊤, ⊥, Bool, true, false, List, [], Option, Some, Result, Ok, Err, slice_get}
+use Rattle.std.specs.Prelude.{◌≡◌, ◌⊎◌, ℕ, ◌-◌, ◌^◌, ⊤, Bool, true, false, List, [], Option, Some, Result, Ok, Err, slice_get}
 use Rattle.itch_frame.specs.Passing.{PassedOver, PassesMessage}
 use Rattle.itch_frame.specs.Reading.{Reading}
 use Rattle.itch_frame.specs.declared.tally.Failures.{Failures}
