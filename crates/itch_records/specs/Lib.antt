@@ -4,5 +4,6 @@ pub mod Readiness
 pub mod Recordings
 pub mod Replays
 pub mod Savings
+pub mod SnapshotFolders
 pub mod Steps
 pub mod Watching

@@ -5,6 +5,7 @@ ghost use Rattle.itch_snapshot.specs.Bytes.{canon, closing};
 ghost use Rattle.itch_snapshot.specs.Snapshot.{snap};
 ghost use Rattle.itch_records.specs.Recordings.{IsFlushed, IsSame};
 ghost use Rattle.itch_records.specs.Savings.{is_wanted};
+ghost use Rattle.itch_records.specs.SnapshotFolders.{newest};
 
 use crate::fault::{LiveFault, Owned};
 use crate::recording::Recording;
@@ -281,15 +282,14 @@ impl Saver {
     }
 
     // Removes the oldest snapshots until only the requested number is left. If one cannot be removed, it is tried again after the next snapshot.
-    fn remove_oldest<R: Files<File = File> + AllocGlobal>(&mut self, rt: &R) -> io::Result<()> {
+    fn remove_oldest<R: Files<File = File> + AllocGlobal>(&mut self, rt: &R) -> io::Result<()>
+        ensures { OnOk result (self.new.files.items ≡ newest self.old.keep self.old.files.items) }
+    {
         let Some(keep) = self.keep else {
             return Ok(());
         };
-        let keep = usize::try_from(keep).unwrap_or(usize::MAX);
-        for _ in keep..self.files.len() {
-            let Some(&oldest) = self.files.first() else {
-                break;
-            };
+        while self.files.len() as u64 > keep {
+            let oldest = self.files[0];
             keep_lines(rt, self.folder.as_str(), KeptLines::AllBut(oldest))?;
             remove(rt, self.folder.as_str(), oldest)?;
             let _ = self.files.remove(0);

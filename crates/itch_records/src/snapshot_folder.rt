@@ -2,6 +2,7 @@
 ghost use Rattle.std.specs.Prelude.{◌≡◌, IfOk};
 ghost use Rattle.std.specs.String.{string_bytes};
 ghost use Rattle.itch_records.specs.Savings.{path_of};
+ghost use Rattle.itch_records.specs.SnapshotFolders.{is_kept, whole_line};
 
 use itch_checkpoints::{Checkpoint, Fingerprint, IndexReader, Latest, index_line};
 use itch_day::Mark;
@@ -145,7 +146,9 @@ pub enum KeptLines {
 }
 
 impl KeptLines {
-    fn has(self, count: u64) -> bool {
+    fn has(self, count: u64) -> bool
+        ensures { result ≡ is_kept self count }
+    {
         match self {
             KeptLines::UpTo(most) => count <= most,
             KeptLines::AllBut(removed) => count != removed,
@@ -208,7 +211,9 @@ fn write_kept<R: Files<File = File> + AllocGlobal>(
 }
 
 // Returns the data in the line of a snapshot of all locates, if it is complete.
-fn whole(checkpoint: &Checkpoint) -> Option<(Mark, Fingerprint)> {
+fn whole(checkpoint: &Checkpoint) -> Option<(Mark, Fingerprint)>
+    ensures { result ≡ whole_line checkpoint.now.count checkpoint.now.offset checkpoint.now.latest checkpoint.now.fingerprint checkpoint.now.only }
+{
     let Latest::Known(latest) = checkpoint.latest else {
         return None;
     };
