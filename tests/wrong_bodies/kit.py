@@ -6,7 +6,6 @@ import os
 import shutil
 import subprocess
 import sys
-from pathlib import Path
 
 # The memory of a check over the result of another one, as a part of that of a check from nothing.
 MEMORY_OVER = 0.6
@@ -52,17 +51,6 @@ def link_or_copy(source, to):
         os.link(source, to)
     except OSError:
         shutil.copy2(source, to)
-
-
-def linked(folder, to):
-    """Makes a copy of a folder that shares its files with it."""
-    shutil.copytree(folder, to, copy_function=link_or_copy)
-
-
-def listing(folder):
-    """Returns the files below a folder, with their lengths and the times of their last changes."""
-    files = sorted(it for it in Path(folder).rglob("*") if it.is_file())
-    return {str(it.relative_to(folder)): (it.stat().st_size, it.stat().st_mtime_ns) for it in files}
 
 
 def must_fail(crate, edit, words):

@@ -8,7 +8,7 @@ from dataclasses import dataclass
 
 from checking import Checker, only, own_failure, reached_the_prover
 from edits import Round, rounds_of
-from kit import MEMORY_OVER, linked, listing, must_fail, rt
+from kit import MEMORY_OVER, must_fail, rt
 
 ONE_JOB = ["--jobs", "1"]
 # The number of lines of a crate that take about as long to check as one edit of it. A round with more edits begins earlier.
@@ -67,7 +67,7 @@ def by_itself(crate, edit):
 def copy_of(seed, name):
     """Yields a copy of the seed, next to it, for one check."""
     over = f"{os.path.dirname(seed)}/{name}"
-    linked(seed, over)
+    shutil.copytree(seed, over)
     try:
         yield over
     finally:
@@ -85,7 +85,6 @@ class Tries:
         self.rounds, self.rest = rounds_of(edits, crate.folder)
         self.room = tempfile.TemporaryDirectory(prefix=f"edits-{crate.name}-")
         self.seed = None
-        self.files = {}
         self.unknown = ""
 
     def tasks(self, end):
@@ -108,7 +107,6 @@ class Tries:
         ran = self.checker.checked(self.crate, {}, ["--jobs", str(jobs), *only(functions)], seed)
         if ran.returncode == 0:
             self.seed = seed
-            self.files = listing(seed)
         self.unknown = next(iter(UNKNOWN.findall(ran.stdout)), "")
 
     def try_round(self, label, together):
@@ -122,9 +120,6 @@ class Tries:
     def end(self, rounds):
         """Returns the outcomes of all edits after the rounds. Edits that were not clearly refused are tried alone."""
         found = {edit: it for outcomes in rounds for edit, it in outcomes.items()}
-        # (the copies share files with the seed, which a check replaces but does not modify)
-        if self.seed and listing(self.seed) != self.files:
-            found, self.seed = {}, None
         tried = [found.get(it) or self.alone(it) for it in self.edits]
         self.room.cleanup()
         return tried
