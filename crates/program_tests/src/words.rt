@@ -110,11 +110,12 @@ fn requests_are_read(rt: HostRuntime) -> TestResult {
     Ok(())
 }
 
-const POINTS: [&str; 4] = [
-    "snap --to out day.itch => file: Some(\"day.itch\"), points: At([Limit { after: None, until: None }]), only: None, folder: \"out\", progress: false",
-    "snap --to out --after 0,007,999999999999 => file: None, points: At([Limit { after: Some(0), until: None }, Limit { after: Some(7), until: None }, Limit { after: Some(999999999999), until: None }]), only: None, folder: \"out\", progress: false",
-    "snap - --to=out --until 9,10:30 --only 1-3 => file: None, points: At([Limit { after: None, until: Some(9) }, Limit { after: None, until: Some(37800000000000) }]), only: Some(\"1-3\"), folder: \"out\", progress: false",
-    "snap day.itch --every 0010 --progress --to - => file: Some(\"day.itch\"), points: Every(10), only: None, folder: \"-\", progress: true",
+const POINTS: [&str; 5] = [
+    "snap --to out day.itch => file: Some(\"day.itch\"), points: At([Limit { after: None, until: None }]), selection: All, folder: \"out\", progress: false",
+    "snap --to out --after 0,007,999999999999 => file: None, points: At([Limit { after: Some(0), until: None }, Limit { after: Some(7), until: None }, Limit { after: Some(999999999999), until: None }]), selection: All, folder: \"out\", progress: false",
+    "snap - --to=out --until 9,10:30 --only 1-3 => file: None, points: At([Limit { after: None, until: Some(9) }, Limit { after: None, until: Some(37800000000000) }]), selection: Locates(\"1-3\"), folder: \"out\", progress: false",
+    "snap --to out --stock AAPL day.itch => file: Some(\"day.itch\"), points: At([Limit { after: None, until: None }]), selection: Stocks(\"AAPL\"), folder: \"out\", progress: false",
+    "snap day.itch --every 0010 --progress --to - => file: Some(\"day.itch\"), points: Every(10), selection: All, folder: \"-\", progress: true",
 ];
 
 #[test]
