@@ -3,7 +3,7 @@ message."""
 from __future__ import annotations
 
 import ctypes as c
-from typing import Any, Iterator, List, NamedTuple, Tuple
+from typing import Any, Iterator, List, NamedTuple, Sequence, Tuple
 
 from . import _library
 from ._buffers import NOWHERE, bytes_of, locates_of
@@ -35,6 +35,12 @@ class Batch(NamedTuple):
     def numbers(self, place: int) -> List[int]:
         """Returns one number of each row: at place 0 that of the message, at 1 the offset of its payload, at 2 its timestamp."""
         return self.rows.cast("Q")[place:self.count * WORDS:WORDS].tolist()
+
+    def sequence(self) -> Sequence[int]:
+        """Returns the number of each message: a range, which takes less time than a list, if no message between them is left out."""
+        words = self.rows.cast("Q")
+        first, last = words[0], words[(self.count - 1) * WORDS]
+        return range(first, last + 1) if last - first == self.count - 1 else self.numbers(0)
 
     def kinds(self) -> bytes:
         """Returns the type of each message."""

@@ -2,7 +2,8 @@
 from __future__ import annotations
 
 import struct
-from typing import TYPE_CHECKING, Any, Callable, Dict
+from itertools import chain, repeat
+from typing import TYPE_CHECKING, Any, Callable, Dict, Iterator, List
 
 from .kinds import LAYOUTS, EndOfSnapshot, Message, Undecoded
 from .messages import fault_of
@@ -40,24 +41,48 @@ class Codes(Texts):
         return self.kept(raw, raw.decode("latin-1"))
 
 
-def _decoder(cls: Any, layout: str) -> Callable[[ReadableBuffer, int, int, int], Any]:
-    """Returns a function that decodes a payload of a type, given the bytes that contain it, its offset, its number and its timestamp."""
+# How the code of a decoder spells a field, by the last letter of its layout.
+SPELLED = {"S": "texts[{}]", "s": "codes[{}]", "c": "codes[{}]", "B": "sides[{}]"}
+# The types with a header, beginning with the most frequent ones of a day.
+LETTERS = dict.fromkeys([*"ADUEXFCPQ", *LAYOUTS])
+STRUCTS = {letter: struct.Struct(HEADER + LAYOUTS[letter][1].replace(" ", "").replace("S", "s").replace("B", "c")) for letter in LETTERS}
+
+
+def _steps(letter: str, last: str) -> List[str]:
+    """Returns the code that decodes the payload of a type: `data` from `at` on, with the message's `number` and its timestamp `ns`."""
+    cls, layout = LAYOUTS[letter]
     kinds = layout.split()
-    unpack = struct.Struct(f"{HEADER}{layout.replace(' ', '').replace('S', 's').replace('B', 'c')}").unpack_from
-    texts, codes, sides = Texts(), Codes(), {b"B": "B", b"S": "S"}
-    spelled = {"S": "texts[{}]", "s": "codes[{}]", "c": "codes[{}]", "B": "sides[{}]"}
     names = [f"field{at}" for at in range(len(kinds))]
-    values = ", ".join(spelled.get(kind[-1], "{}").format(name) for kind, name in zip(kinds, names))
-    code = (f"def decode(data, at, number, ns):\n    locate, tracking, {', '.join(names)} = unpack(data, at)\n"
-            f"    return new(cls, (number, locate, tracking, ns, {values}))\n")
-    made: Dict[str, Any] = {"unpack": unpack, "texts": texts, "codes": codes, "sides": sides, "new": tuple.__new__, "cls": cls}
-    exec(code, made)  # as namedtuple and dataclass do: a call per field would take longer than everything else
+    values = ", ".join(SPELLED.get(kind[-1], "{}").format(name) for kind, name in zip(kinds, names))
+    return [f"locate, tracking, {', '.join(names)} = unpack_{letter}(data, at)",
+            f"{last} new({cls.__name__}, (number, locate, tracking, ns, {values}))"]
+
+
+def _compiled(lines: List[str]) -> Any:
+    """Returns the function with this code, as namedtuple and dataclass do: a call per field would take longer than everything else."""
+    made: Dict[str, Any] = {"texts": Texts(), "codes": Codes(), "sides": {b"B": "B", b"S": "S"}, "new": tuple.__new__}
+    made.update({f"unpack_{letter}": layout.unpack_from for letter, layout in STRUCTS.items()}, **{cls.__name__: cls for cls, _ in LAYOUTS.values()})
+    exec("\n".join(lines), made)
     return made["decode"]
 
 
+def _decoder(letter: str) -> Callable[[ReadableBuffer, int, int, int], Any]:
+    """Returns a function that decodes a payload of a type."""
+    return _compiled(["def decode(data, at, number, ns):", *(f"    {it}" for it in _steps(letter, "return"))])
+
+
+def _decoder_of_rows() -> Callable[..., Iterator[Message]]:
+    """Returns a generator that decodes payloads of all types, given their types, places, numbers and timestamps. `other` decodes those that have no
+    header. A call per message would take longer than the comparisons."""
+    lines = ["def decode(data, kinds, places, numbers, times, other):", "    for kind, at, number, ns in zip(kinds, places, numbers, times):"]
+    for word, letter in zip(chain(["if"], repeat("elif")), LETTERS):
+        lines += [f"        {word} kind == {ord(letter)}:", *(f"            {it}" for it in _steps(letter, "yield"))]
+    return _compiled([*lines, "        else:", "            yield other(kind, at, number)"])
+
+
 # The length and the decoder of payloads, keyed by the byte of the type.
-DECODERS = {ord(letter): (struct.calcsize(f"{HEADER}{layout.replace(' ', '').replace('S', 's').replace('B', 'c')}"), _decoder(cls, layout))
-            for letter, (cls, layout) in LAYOUTS.items()}
+DECODERS = {ord(letter): (layout.size, _decoder(letter)) for letter, layout in STRUCTS.items()}
+decoded_rows = _decoder_of_rows()
 
 
 def decoded(data: memoryview, at: int, end: int, number: int) -> Message:

@@ -3,12 +3,12 @@ from __future__ import annotations
 
 import struct
 from itertools import chain, repeat
-from typing import Any, Callable, Iterable, Iterator, List, NamedTuple, Optional, Set, Tuple, Union
+from typing import Iterable, Iterator, NamedTuple, Optional, Set, Tuple, Union
 
 from . import _rows
 from ._buffers import locate_of, locates_of
 from ._rows import PAYLOAD, SIZE, Batch, Piece
-from .decoding import DECODERS, END_SIZE, HEADER_SIZE
+from .decoding import DECODERS, END_SIZE, HEADER_SIZE, decoded_rows
 from .kinds import EndOfSnapshot, Message, Undecoded
 from .tables import Stock
 from .times import Time, first_at, nanoseconds
@@ -17,7 +17,7 @@ from .times import Time, first_at, nanoseconds
 LOCATE, TIME = struct.Struct(">H"), struct.Struct(">HI")
 # The length of a block, and the offset in the blocks of a row's payload.
 LENGTH, OFFSET = struct.Struct(">H"), struct.Struct("=Q")
-DIRECTORY = ord("R")
+DIRECTORY, END = ord("R"), ord("G")
 # The types of TotalView-ITCH 5.0, and End of Snapshot.
 TYPES = {chr(kind) for kind in DECODERS} | set("VWKJINOG")
 # Every possible type byte, beginning with the most frequent ones of a day.
@@ -121,26 +121,17 @@ def messages(blocks: memoryview, types: Optional[bytes], stocks: Optional[Stocks
 
 def _decoded(batch: Batch, types: bytes) -> Iterator[Message]:
     """Yields the messages of rows, which have these types."""
-    decode, rows, places = _decoders(batch), batch.rows, range(PAYLOAD, PAYLOAD + batch.count * SIZE, SIZE)
-    if len(types) == 1:
-        return map(decode[types[0]], repeat(rows), places, batch.numbers(0), batch.numbers(2))
-    return (decode[kind](rows, at, number, ns) for kind, at, number, ns in zip(batch.kinds(), places, batch.numbers(0), batch.numbers(2)))
 
-
-def _decoders(batch: Batch) -> List[Callable[[memoryview, int, int, int], Message]]:
-    """Returns a decoder for rows of each type, which takes the rows, the offset of the payload there, its number and its timestamp."""
-
-    def other(rows: memoryview, at: int, number: int, ns: int) -> Undecoded:
-        begin, = OFFSET.unpack_from(rows, at - PAYLOAD + OFFSET.size)
+    def other(kind: int, at: int, number: int) -> Union[EndOfSnapshot, Undecoded]:
+        if kind == END:
+            return EndOfSnapshot(number, int(bytes(batch.rows[at + 1:at + END_SIZE])))
+        begin, = OFFSET.unpack_from(batch.rows, at - PAYLOAD + OFFSET.size)
         size, = LENGTH.unpack_from(batch.blocks, begin - 2)
         return Undecoded(number, bytes(batch.blocks[begin:begin + size]))
 
-    found: List[Any] = [other] * 256
-    for kind, (_, decode) in DECODERS.items():
-        found[kind] = decode
-    found[ord("G")] = _end
-    return found
-
-
-def _end(rows: memoryview, at: int, number: int, ns: int) -> EndOfSnapshot:
-    return EndOfSnapshot(number, int(bytes(rows[at + 1:at + END_SIZE])))
+    # (unpacking from the bytes themselves is faster than from a view of them)
+    data, places = batch.rows.obj, range(PAYLOAD, PAYLOAD + batch.count * SIZE, SIZE)
+    numbers, times = batch.sequence(), batch.numbers(2)
+    if len(types) == 1 and types[0] in DECODERS:
+        return map(DECODERS[types[0]][1], repeat(data), places, numbers, times)
+    return decoded_rows(data, batch.kinds(), places, numbers, times, other)

@@ -172,6 +172,9 @@ def each_allocation_is_refused_in_pieces(program):
 
 
 def refusals(command, perform, piece, first):
+    """A settled book that is refused memory for its hints does without them, and the command ends as it does otherwise: twice at most, since `compare`
+    has two books."""
+    unnoticed = 0
     for count in range(64):
         ending = perform(f"memory:{first + count}", piece)
         if not ending.failed:
@@ -179,7 +182,9 @@ def refusals(command, perform, piece, first):
             if count < command.memory:
                 yield f"{command.words}, pieces of {piece}: {count} allocations"
             return
-        if (ending.status, ending.output) != (4, b"") or not OUT_OF_MEMORY.fullmatch(ending.error):
+        if unnoticed < 2 and ending[1:] == command.unfailed()[1:]:
+            unnoticed += 1
+        elif (ending.status, ending.output) != (4, b"") or not OUT_OF_MEMORY.fullmatch(ending.error):
             yield f"{command.words}, pieces of {piece}, allocation {count}: {ending}"
     yield f"{command.words}, pieces of {piece}: more than 64 allocations"
 

@@ -5,14 +5,20 @@ RUNS lists the runs: functions that take the program and yield the differences f
 import contextlib
 import fcntl
 import hashlib
+import itertools
 import json
 import os
+import random
 import tempfile
 from pathlib import Path
 
 import failing
 import large
 from common import differs, ended, ended_in, file, first_unmet, split
+from costs import work
+from infos import RandomDay
+from living import folder_with
+from ranges import blocks_of
 
 DAY = file("START_STAMPED AAPL_STAMPED BUY_1_STAMPED")
 # After each number of its messages: the snapshot, and the line of the index.
@@ -43,6 +49,8 @@ POINTS = {
     "--every 3": [3],
     "--every 999999999999": [3],
 }
+# The number of random days.
+DAYS = 60
 USAGE_FAULTS = [
     "--after 1,2",
     "--until 1,2",
@@ -111,6 +119,49 @@ def each_snapshot_is_what_a_run_of_its_own_writes(program):
             yield from differs(words, found.pop("index.jsonl"), index_of(index))
             alone = {f"{count}.snap": ended_in(folder, program, "snap", "day.itch", "--after", str(count), *words)[1] for count in counts}
             yield from differs(words, found, alone)
+
+
+def each_partial_snapshot_of_a_random_day_is_what_a_run_of_its_own_writes(program):
+    """The days have system events, all kinds of trading states, halts and positions, and orders of five locates."""
+    for seed in range(DAYS):
+        payloads, rng = RandomDay(seed).payloads, random.Random(seed)
+        locates = ",".join(map(str, rng.sample((0, 1, 2, 3, 7, 65535), rng.randint(1, 4))))
+        stocks = sorted({it[11:19].decode().rstrip(" ") for it in payloads if it[:1] == b"R"})
+        stocks = [it for it in stocks if it and "," not in it]
+        words = ["--stock", rng.choice(stocks)] if stocks and seed % 3 == 0 else ["--only", locates]
+        with folder_of(blocks_of(payloads)) as folder:
+            status = snap(folder, program, " ".join(("--every", "7", *words)))[0]
+            counts = sorted({*range(7, len(payloads), 7), len(payloads)})
+            alone = {count: ended_in(folder, program, "snap", "day.itch", "--after", str(count), *words) for count in counts}
+            refused = next((at for at, count in enumerate(counts) if alone[count][0]), len(counts))
+            yield from differs(f"{seed} {words}", status, alone[counts[refused]][0] if refused < len(counts) else 0)
+            found = written(folder)
+            del found["index.jsonl"]
+            yield from differs(f"{seed} {words}", found, {f"{count}.snap": alone[count][1] for count in counts[:refused]})
+
+
+def an_order_of_another_locate_that_breaks_a_rule_is_refused(program):
+    """The order is at a locate that the snapshots do not have."""
+    day = file("START_STAMPED AAPL_STAMPED BUY_1_STAMPED BUY_1_STAMPED")
+    for words in "--after 2,4", "--every 2", "--until 3,10:30":
+        for only in "7", "2-65535":
+            with folder_of(day) as folder:
+                got = snap(folder, program, f"{words} --only {only}")
+                yield from differs(words, got, (1, b"", ended_in(folder, program, "check", "day.itch")[2]))
+                alone = ended_in(folder, program, "snap", "day.itch", "--after", "2", "--only", only)[1]
+                yield from differs(words, {**written(folder), "index.jsonl": b""}, {"index.jsonl": b"", "2.snap": alone})
+
+
+def a_point_costs_what_its_snapshot_costs(program):
+    """Nearly all orders are of another locate than the snapshots. The limit leaves room for the fingerprint of each point, and for the list of
+    the stocks' locates: sorting all live orders at each point takes 30 times as much as one snapshot of all locates."""
+    orders = [large.block(b"A", 1 + (at % 1000 == 0), at.to_bytes(8, "big") + b"B\0\0\0d" + large.stock(1 + (at % 1000 == 0)) + bytes(4)) for at in range(40_000)]
+    with folder_with(day=b"".join((large.entry(1), large.entry(2), *orders))) as folder:
+        whole = work(program, "snap", folder / "day")
+        for words in ("--only", "2"), ("--stock", "S0000002"):
+            points = work(program, "snap", folder / "day", "--to", folder / "out", "--every", "400", *words)
+            if points > 16 * whole:
+                yield f"{words[0]}: {points} for 101 points, and {whole} for one snapshot of all locates"
 
 
 def a_message_at_a_time_is_in_the_next_snapshot(program):
@@ -237,26 +288,29 @@ def other_points_are_a_usage_fault(program):
 
 
 def each_allocation_and_write_fails_in_turn(program):
+    """Without memory for a market of the locates alone, the snapshots are taken from the complete one."""
     statuses = {"memory": 4, "write": 3}
     with folder_of(DAY) as folder, tempfile.TemporaryDirectory() as apart:
         shim, failed = failing.build_shim(apart), Path(apart) / "a call failed"
-        for kind, status in statuses.items():
+        for words, kind in itertools.product(("--after 1,3", "--after 2,3 --only 1", "--after 2,3 --stock AAPL"), statuses):
             def fails(nth):
                 failed.unlink(missing_ok=True)
                 for name in os.listdir(folder / "out"):
                     (folder / "out" / name).unlink()
-                got = snap(folder, program, "--after 1,3", LD_PRELOAD=str(shim), FAIL=f"{kind}:{nth}", FAILED=str(failed))
+                got = snap(folder, program, words, LD_PRELOAD=str(shim), FAIL=f"{kind}:{nth}", FAILED=str(failed))
                 return got, failed.exists()
 
+            fails(0)
+            wanted = written(folder)
             for nth in range(1, first_unmet(lambda nth: fails(nth)[1])):
                 (ends, output, error), _ = fails(nth)
                 found = written(folder)
-                if ends == 0 and found == files_of([1, 3]):
+                if ends == 0 and found == wanted:
                     continue
                 lines = found.pop("index.jsonl", b"")
-                whole = all(data == files_of([1, 3]).get(name) for name, data in found.items())
-                if (ends, output) != (status, b"") or not whole or not index_of([LINES[1], LINES[3]]).startswith(lines):
-                    yield f"{kind} {nth}: {ends}, {output}, {error}, {found}, {lines}"
+                whole = all(data == wanted.get(name) for name, data in found.items())
+                if (ends, output) != (statuses[kind], b"") or not whole or not wanted["index.jsonl"].startswith(lines):
+                    yield f"{words}, {kind} {nth}: {ends}, {output}, {error}, {found}, {lines}"
 
 
 RUNS = [
@@ -265,6 +319,9 @@ RUNS = [
     a_stock_that_the_directory_lacks_at_a_point_is_named,
     each_point_has_its_snapshot,
     each_snapshot_is_what_a_run_of_its_own_writes,
+    each_partial_snapshot_of_a_random_day_is_what_a_run_of_its_own_writes,
+    an_order_of_another_locate_that_breaks_a_rule_is_refused,
+    a_point_costs_what_its_snapshot_costs,
     a_message_at_a_time_is_in_the_next_snapshot,
     an_empty_file_has_one_snapshot,
     what_comes_after_the_last_point_is_not_read,

@@ -1,7 +1,7 @@
 //! Parts of a day, read one after another.
 use crate::equal::{Host, TestResult, same, same_in};
 use itch_codec::{CodecFault, MOST_MESSAGES, Message};
-use itch_day::{Limit, Mark, Marked, PartStop, Sink, read_further, read_part};
+use itch_day::{DayCursor, Limit, PartStop, Sink, Tracked, read_further, read_part};
 use itch_frame::{BlockReader, Buffered, FrameFault};
 use std::io::BufReader;
 use test_doubles::PieceReader;
@@ -277,30 +277,30 @@ fn nothing_is_lost_whichever_read_fails(rt: HostRuntime) -> TestResult {
     Ok(())
 }
 
-// Returns the mark after the messages before a time.
-fn mark_at(reader: &mut Blocks<'_>, until: u64) -> Mark {
+// Returns the cursor after the messages before a time.
+fn cursor_at(reader: &mut Blocks<'_>, until: u64) -> DayCursor {
     let sink = Picky::refusing(0);
-    let mark = Mark::new();
-    let mut marked = Marked { sink, mark };
+    let cursor = DayCursor::new();
+    let mut tracked = Tracked { sink, cursor };
     let mut count = 0;
     let limit = Limit {
         after: None,
         until: Some(until),
     };
-    let _stop = read_part(reader, &mut count, &mut marked, limit);
-    marked.mark
+    let _stop = read_part(reader, &mut count, &mut tracked, limit);
+    tracked.cursor
 }
 
 #[test]
-fn a_mark_is_past_what_was_taken(rt: HostRuntime) -> TestResult {
+fn a_cursor_is_past_what_was_taken(rt: HostRuntime) -> TestResult {
     for (until, count, latest) in [(1, 0, None), (3, 2, Some(2)), (9, 5, Some(4))] {
         let mut reader = BlockReader::new(rt.alloc(), PieceReader::new(DAY, 9, None))?;
-        let mark = Mark {
+        let cursor = DayCursor {
             count,
             offset: 14 * count,
             latest,
         };
-        same_in(&rt, until, mark_at(&mut reader, until), mark);
+        same_in(&rt, until, cursor_at(&mut reader, until), cursor);
     }
     Ok(())
 }

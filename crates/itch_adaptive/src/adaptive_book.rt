@@ -156,7 +156,6 @@ impl<S: OrderBook, T: OrderBook<Alloc = S::Alloc>> OrderBook for AdaptiveBook<S,
         }
     }
 
-    // Unlike in other books, this may allocate memory.
     fn settle(&mut self) {
         let changes = replace(&mut self.changes, 0);
         if changes == 0 {

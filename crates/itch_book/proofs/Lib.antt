@@ -18,7 +18,7 @@ pub mod ReadLemmas
 pub mod IndexLemmas
 pub mod IndexSteps
 pub mod RisingLemmas
-pub mod NearLemmas
+pub mod SideLevelLemmas
 pub mod SideLemmas
 pub mod CountLemmas
 pub mod PutLemmas
@@ -43,6 +43,7 @@ pub mod LeastLemmas
 pub mod TotalLemmas
 pub mod LineLemmas
 pub mod BetweenLemmas
+pub mod PartLemmas
 pub mod NextLemmas
 pub mod SwapLemmas
 pub mod PageReads

@@ -9,10 +9,10 @@ use Rattle.std.proofs.lemmas.List.Sums.{position_or_len_is}
 use Rattle.std.proofs.lemmas.Option.{slice_get_read, slice_get_past}
 use Rattle.itch_codec.specs.declared.orders.Side.{Side}
 use Rattle.itch_codec.specs.declared.orders.Side.TheVariants.{Buy, Sell}
-use Rattle.itch_book.specs.declared.near.Level.{Level}
+use Rattle.itch_book.specs.declared.level_lines.Level.{Level}
 use Rattle.itch_book.specs.Orders.{is_better, is_worse}
 use Rattle.itch_book.specs.Indexed.{IsNextOr}
-use Rattle.itch_book.specs.Near.{queue_in, IsRising}
+use Rattle.itch_book.specs.SideLevels.{queue_in, IsRising}
 use Rattle.itch_book.proofs.Lists.{by_test, All-weaker_rec}
 
 -- a better price is a different price

@@ -7,7 +7,7 @@ pub mod Link
 pub mod Links
 pub mod Queued
 pub mod Indexed
-pub mod Near
+pub mod SideLevels
 pub mod Settled
 pub mod Referred
 pub mod Credit

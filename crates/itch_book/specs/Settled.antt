@@ -72,6 +72,24 @@ pub record Held : Type 0 where
   pub orders : List Order
   pub is_settled : Bool
 
+-- the order is of this locate
+abbrev pub is_of_locate : ℕ → Arrived → Bool
+is_of_locate locate x = is_in locate x.order
+
+-- the order is of a lower locate
+abbrev pub is_lower : ℕ → Arrived → Bool
+is_lower locate x = nat_lt x.order.locate locate
+
+-- the order is of a higher locate
+abbrev pub is_higher : ℕ → Arrived → Bool
+is_higher locate x = nat_lt locate x.order.locate
+
+-- the locate of the wanted orders
+abbrev pub locate_of : Wanted → ℕ
+locate_of (In locate) = locate
+locate_of (Next locate side last) = locate
+locate_of (After y) = y.order.locate
+
 -- the order is wanted
 abbrev pub wants : Wanted → Arrived → Bool
 wants (In locate) x = is_in locate x.order

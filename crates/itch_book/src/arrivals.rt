@@ -7,8 +7,8 @@ ghost use Rattle.itch_book.specs.Orders.{get, is_in, is_of, after, next_price, l
 ghost use Rattle.itch_book.specs.Settled.{comes_before, its_order, settled, wants, IsLineOr};
 ghost use Rattle.itch_book.specs.TakenShares.{IsLeft};
 
-use crate::arrived::{Arrived, Wanted, its_order};
-use crate::line::{first_in_line, level_in_line, next_in_line, stands_at};
+use crate::arrived::{Arrived, Wanted, its_order, locate_of};
+use crate::line::{first_in_part, level_in_line, next_in_line, part_of, stands_at};
 use crate::order::{Order, Placed, Taken, order_of, unplaced};
 use crate::references::{References, cut, known, least, put, swap, total_of, write};
 use itch_codec::Side;
@@ -153,7 +153,10 @@ impl<A: Allocator + Copy> Arrivals<A> {
         ensures { result ≡ level_total self.now.orders locate side price }
     {
         match self.references.line_if(self.is_settled) {
-            Some(line) => level_in_line(line, locate, side, price),
+            Some(line) => {
+                let part = part_of(line, locate, self.references.hint(locate));
+                level_in_line(part.orders, locate, side, price)
+            }
             None => total_of(&self.references, locate, side, price),
         }
     }
@@ -265,7 +268,11 @@ fn sought<'a, A: Allocator>(
     ensures { option_map (λ p. p.order.now) result ≡ option_map its_order (find (wants wanted) (in_order comes_before (values_of references.now.entries))) }
 {
     match line {
-        Some(line) => first_in_line(line, wanted),
+        Some(line) => {
+            let locate = locate_of(&wanted);
+            let part = part_of(line, locate, references.hint(locate));
+            first_in_part(part.orders, part.start, wanted)
+        }
         None => unplaced(its_order(least(references, wanted))),
     }
 }

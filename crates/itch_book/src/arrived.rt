@@ -1,7 +1,7 @@
 //! Orders with their arrival numbers, and their positions in snapshot order.
 ghost use Rattle.std.specs.Prelude.{◌≡◌, ◌<◌, ◌^◌, option_map};
 ghost use Rattle.std.specs.Option.{option_copied};
-ghost use Rattle.itch_book.specs.Settled.{comes_before, price_rank, rank, its_order, wants, is_from, begins, sooner, HasRank};
+ghost use Rattle.itch_book.specs.Settled.{comes_before, price_rank, rank, its_order, locate_of, wants, is_from, begins, sooner, HasRank};
 
 use crate::order::Order;
 use crate::priority::{is_of, is_worse};
@@ -52,6 +52,17 @@ pub(crate) fn comes_before(one: &Arrived, other: &Arrived) -> bool
 {
     // A single comparison without a branch, since a sort executes this for each pair.
     rank(*one) < rank(*other)
+}
+
+// Returns the locate of the wanted orders.
+pub(crate) fn locate_of(wanted: &Wanted) -> u16
+    ensures { result ≡ locate_of wanted.now }
+{
+    match *wanted {
+        Wanted::In(locate) => locate,
+        Wanted::Next(locate, _, _) => locate,
+        Wanted::After(this) => this.order.locate,
+    }
 }
 
 // Returns whether an order is wanted.

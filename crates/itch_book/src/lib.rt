@@ -2,8 +2,8 @@
 //!
 //! An [`OrderBook`] adds, takes, deletes and replaces orders, and returns the best order of a side, the next price and the total of a price
 //! level. Its contracts refer only to the list of live orders, so they are the same for every book. [`ListBook`] stores exactly that list.
-//! Use [`IndexedBook`] by default; [`SettledBook`] is faster if you only look at the final state. Only adding and replacing allocate memory;
-//! if an allocation fails, the book does not change. `laws` states the properties of all books, and `table` is the map that the last two
+//! Use [`IndexedBook`] by default; [`SettledBook`] is faster if you only look at the final state. Only `add`, `replace` and `settle` allocate
+//! memory; if an allocation fails, no order changes. `laws` states the properties of all books, and `table` is the map that the last two
 //! books use to find an order by its reference.
 //!
 //! ```
@@ -19,20 +19,21 @@ mod arrivals;
 mod arrived;
 mod book;
 mod changes;
+mod hints;
 mod index;
 mod indexed_book;
-mod ladder;
 pub mod laws;
+mod level_lines;
 mod line;
 mod link;
 mod list_book;
-mod near;
 mod order;
 mod prices;
 mod priority;
 mod queues;
 mod references;
 mod settled_book;
+mod side_levels;
 pub mod table;
 mod tree;
 

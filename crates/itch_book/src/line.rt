@@ -1,25 +1,80 @@
 //! A line: orders in snapshot order, which are found by binary search, or from one to the next.
-ghost use Rattle.std.specs.Prelude.{◌≡◌, ◌+◌, ◌<◌, ◌↔◌, IsTrue, IsSomeAnd, IfSome, length, drop, map, find, option_map, slice_get};
+ghost use Rattle.std.specs.Prelude.{◌≡◌, ◌+◌, ◌<◌, ◌≤◌, ◌^◌, ◌↔◌, IsTrue, IsSomeAnd, IfSome, length, take, drop, map, find, option_map, slice_get};
+ghost use Rattle.std.specs.List.{filter, list_all};
 ghost use Rattle.itch_book.specs.StableLists.{IsInOrder};
 ghost use Rattle.itch_book.specs.Orders.{is_in, level_total};
-ghost use Rattle.itch_book.specs.Settled.{comes_before, its_order, wants};
+ghost use Rattle.itch_book.specs.Settled.{comes_before, its_order, is_of_locate, is_lower, is_higher, wants};
 
 use crate::arrived::{Arrived, Wanted, begins, wants};
 use crate::order::{Order, Placed};
 use crate::priority::{is_level, stands_before};
 use itch_codec::Side;
+use std::ops::Range;
 
-// Returns the first wanted order.
-pub(crate) fn first_in_line(line: &[Arrived], wanted: Wanted) -> Option<Placed<'_>>
+/// A part of a line, which begins at a place.
+#[derive(Clone, Copy)]
+pub(crate) struct Part<'a> {
+    pub(crate) start: usize,
+    pub(crate) orders: &'a [Arrived],
+}
+
+// Returns a part of a line that contains all orders of a locate: the part that a hint gives, if it contains them, and otherwise the line.
+pub(crate) fn part_of(line: &[Arrived], locate: u16, hint: Range<usize>) -> Part<'_>
     requires { IsInOrder comes_before line.now }
-    ensures { option_map (λ p. p.order.now) result ≡ option_map its_order (find (wants wanted) line.now) }
+    ensures order { IsInOrder comes_before result.orders.now }
+    ensures all { filter (is_of_locate locate) result.orders.now ≡ filter (is_of_locate locate) line.now }
+    ensures within { result.start + length result.orders.now ≤ length line.now }
 {
-    let place = line.partition_point(|one| !begins(&wanted, one));
-    let one = line.get(place)?;
+    let Range { start, end } = hint;
+    if start <= end && end <= line.len() {
+        if all_lower_before(line, start, locate) && all_higher_from(line, end, locate) {
+            return Part {
+                start,
+                orders: &line[start..end],
+            };
+        }
+    }
+    Part {
+        start: 0,
+        orders: line,
+    }
+}
+
+// Returns whether all orders before a place are of lower locates.
+fn all_lower_before(line: &[Arrived], place: usize, locate: u16) -> bool
+    requires order { IsInOrder comes_before line.now }
+    requires within { place ≤ length line.now }
+    ensures { result ≡ list_all (is_lower locate) (take place line.now) }
+{
+    if place == 0 {
+        return true;
+    }
+    line[place - 1].order.locate < locate
+}
+
+// Returns whether all orders from a place on are of higher locates.
+fn all_higher_from(line: &[Arrived], place: usize, locate: u16) -> bool
+    requires { IsInOrder comes_before line.now }
+    ensures { result ≡ list_all (is_higher locate) (drop place line.now) }
+{
+    match line.get(place) {
+        Some(one) => one.order.locate > locate,
+        None => true,
+    }
+}
+
+// Returns the first wanted order of the part of a line that begins at a place.
+pub(crate) fn first_in_part(orders: &[Arrived], start: usize, wanted: Wanted) -> Option<Placed<'_>>
+    requires order { IsInOrder comes_before orders.now }
+    requires within { start + length orders.now < 2 ^ 64 }
+    ensures { option_map (λ p. p.order.now) result ≡ option_map its_order (find (wants wanted) orders.now) }
+{
+    let place = orders.partition_point(|one| !begins(&wanted, one));
+    let one = orders.get(place)?;
     if wants(&wanted, one) {
         Some(Placed {
             order: &one.order,
-            place,
+            place: start + place,
         })
     } else {
         None

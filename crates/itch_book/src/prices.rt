@@ -5,11 +5,11 @@ ghost use Rattle.itch_codec.specs.declared.orders.Side.{Side};
 ghost use Rattle.itch_book.specs.Links.{at_key};
 ghost use Rattle.itch_book.specs.Queued.{Opens, keys_at};
 ghost use Rattle.itch_book.specs.Indexed.{queue_of_side, is_there, place_cmp, IsNextOr, AreApart};
-ghost use Rattle.itch_book.specs.Near.{queue_on, levels_on, IsLadder};
+ghost use Rattle.itch_book.specs.SideLevels.{queue_on, levels_on, IsSideLevels};
 
-use crate::ladder::{Ladder, cut_on, next_on, no_levels, put_on, queue_on};
-use crate::near::{Level, line_of};
+use crate::level_lines::{Level, line_of};
 use crate::queues::Queues;
+use crate::side_levels::{SideLevels, cut_on, next_on, no_levels, put_on, queue_on};
 use itch_codec::Side;
 use std::alloc::{AllocError, Allocator, Global};
 use std::marker::Model;
@@ -17,27 +17,27 @@ use std::marker::Model;
 /// The queue of each price level.
 #[derive(Drop)]
 pub(crate) struct Prices<A: Allocator = Global> {
-    bids: Ladder<A>,
-    asks: Ladder<A>,
+    bids: SideLevels<A>,
+    asks: SideLevels<A>,
 }
 
 impl<A: Allocator> Model for Prices<A> {
     ghost use Rattle.itch_codec.specs.declared.orders.Side.TheVariants.{Buy, Sell};
-    ghost use Rattle.itch_book.specs.Near.{Priced, levels_on, IsLadder};
+    ghost use Rattle.itch_book.specs.SideLevels.{Priced, levels_on, IsSideLevels};
 
     ghost Value = { Priced };
 
     ghost view = { λ p. record { bids = levels_on p.bids; asks = levels_on p.asks } };
 
-    ghost invariant = { λ p. IsLadder Buy p.bids × IsLadder Sell p.asks };
+    ghost invariant = { λ p. IsSideLevels Buy p.bids × IsSideLevels Sell p.asks };
 }
 
 impl<A: Allocator> Prices<A> {
     /// Returns the levels in the line of a locate and side.
     pub(crate) fn line(&self, locate: u16, side: Side) -> &[Level] {
         match side {
-            Side::Buy => line_of(&self.bids.near, locate),
-            Side::Sell => line_of(&self.asks.near, locate),
+            Side::Buy => line_of(&self.bids.lines, locate),
+            Side::Sell => line_of(&self.asks.lines, locate),
         }
     }
 }
@@ -127,25 +127,25 @@ impl<A: Allocator + Copy> Prices<A> {
 
 // Returns the queue at a place, and opens it if there is none. If an allocation fails, nothing changes.
 fn level_on<A: Allocator + Copy>(
-    ladder: &mut Ladder<A>,
+    side_levels: &mut SideLevels<A>,
     queues: &mut Queues<A>,
     side: Side,
     locate: u16,
     price: u32,
 ) -> Result<usize, AllocError>
-    requires ladder { IsLadder side ladder.old }
+    requires side_levels { IsSideLevels side side_levels.old }
     requires room { 0 < queues.old.queue_room }
-    ensures ladder { IsLadder side ladder.new }
-    ensures known { (q : ℕ) → queue_on ladder.old locate price ≡ Some q → (result ≡ Ok q) × (levels_on ladder.new ≡ levels_on ladder.old) × (queues.new ≡ queues.old) }
-    ensures opened { queue_on ladder.old locate price ≡ None → IfOk result (λ q. Opens q queues.old queues.new) }
-    ensures placed { queue_on ladder.old locate price ≡ None → IfOk result (λ q. (l p : ℕ) → queue_on ladder.new l p ≡ cond (is_at (place_cmp (locate, price)) (l, p)) (Some q) (queue_on ladder.old l p)) }
-    ensures kept { OnErr result ((levels_on ladder.new ≡ levels_on ladder.old) × (queues.new ≡ queues.old)) }
+    ensures side_levels { IsSideLevels side side_levels.new }
+    ensures known { (q : ℕ) → queue_on side_levels.old locate price ≡ Some q → (result ≡ Ok q) × (levels_on side_levels.new ≡ levels_on side_levels.old) × (queues.new ≡ queues.old) }
+    ensures opened { queue_on side_levels.old locate price ≡ None → IfOk result (λ q. Opens q queues.old queues.new) }
+    ensures placed { queue_on side_levels.old locate price ≡ None → IfOk result (λ q. (l p : ℕ) → queue_on side_levels.new l p ≡ cond (is_at (place_cmp (locate, price)) (l, p)) (Some q) (queue_on side_levels.old l p)) }
+    ensures kept { OnErr result ((levels_on side_levels.new ≡ levels_on side_levels.old) × (queues.new ≡ queues.old)) }
 {
-    if let Some(queue) = queue_on(ladder, side, locate, price) {
+    if let Some(queue) = queue_on(side_levels, side, locate, price) {
         return Ok(queue);
     }
     let queue = queues.next_queue();
-    put_on(ladder, side, locate, Level { price, queue })?;
+    put_on(side_levels, side, locate, Level { price, queue })?;
     queues.open();
     Ok(queue)
 }

@@ -11,6 +11,7 @@ ghost use Rattle.itch_book.specs.Table.{at};
 
 use crate::ahead::{AHEAD, MANY, links_of};
 use crate::arrived::{Arrived, Wanted, comes_before, sooner, wants};
+use crate::hints::Hints;
 use crate::line::{stands_at, total_in};
 use crate::order::Placed;
 use crate::table::Table;
@@ -19,6 +20,7 @@ use std::alloc::{AllocError, Allocator, Global};
 use std::cmp::Ordering;
 use std::marker::Model;
 use std::mem::size_of;
+use std::ops::Range;
 
 // Two orders fit into a cache line of 64 bytes.
 const _: () = prove!(size_of::<Arrived>() == 32);
@@ -31,6 +33,8 @@ const _: () = prove!(size_of::<Arrived>() == 32);
 pub(crate) struct References<A: Allocator = Global> {
     places: Table<A>,
     orders: Vec<Arrived, A>,
+    // Where the orders of each locate were after the last `settle`.
+    hints: Hints<A>,
     // The data last read ahead. Nothing uses it, but the compiler may omit a read whose result is not stored.
     seen: u64,
 }
@@ -55,6 +59,7 @@ impl<A: Allocator> References<A> {
         References {
             places: Table::new(alloc),
             orders: Vec::new(alloc),
+            hints: Hints::new(alloc),
             seen: 0,
         }
     }
@@ -111,6 +116,11 @@ impl<A: Allocator> References<A> {
         }
     }
 
+    /// Returns where the orders of a locate probably are in the sorted line.
+    pub(crate) fn hint(&self, locate: u16) -> Range<usize> {
+        self.hints.hint(locate, self.orders.len())
+    }
+
     /// Sorts the orders into snapshot order in place.
     pub(crate) fn settle(&mut self)
         requires { IsApart (values_of self.old.entries) }
@@ -119,6 +129,7 @@ impl<A: Allocator> References<A> {
     {
         sort(&mut self.orders);
         write_places(&mut self.places, &self.orders);
+        self.hints.write(&self.orders);
     }
 }
 

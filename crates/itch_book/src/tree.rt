@@ -55,7 +55,7 @@ fn lowest<A: Allocator>(places: &Places<A>, locate: u16, last: Option<u32>) -> O
 }
 
 /// Returns the best price of a locate, or the best one worse than the last, and its queue.
-pub(crate) fn next_far<A: Allocator>(
+pub(crate) fn next_in_tree<A: Allocator>(
     places: &Places<A>,
     side: Side,
     locate: u16,

@@ -2,7 +2,7 @@
 
 use crate::fingerprint::Fingerprint;
 use crate::latest::Latest;
-use itch_day::{Limit, Mark};
+use itch_day::{DayCursor, Limit};
 use serde_json::Value;
 use std::alloc::{AllocError, Global};
 
@@ -32,9 +32,9 @@ impl Checkpoint {
         }
     }
 
-    /// Returns the mark of its messages, if the checkpoint can be used for a point of the day.
-    pub fn mark(&self, point: Limit) -> Option<Mark> {
-        self.latest.mark(self.count, self.offset, point)
+    /// Returns the cursor of its messages, if the checkpoint can be used for a point of the day.
+    pub fn cursor(&self, point: Limit) -> Option<DayCursor> {
+        self.latest.cursor(self.count, self.offset, point)
     }
 
     /// Returns the checkpoint of a line, if the line describes one. The last line may be incomplete.

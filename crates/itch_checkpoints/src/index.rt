@@ -2,7 +2,7 @@
 
 use crate::checkpoint::Checkpoint;
 use crate::lines::Lines;
-use itch_day::{Limit, Mark};
+use itch_day::{DayCursor, Limit};
 use std::alloc::Global;
 use std::io::{self, BufRead};
 
@@ -43,15 +43,15 @@ impl<R: BufRead> IndexReader<R> {
 pub fn nearest<R: BufRead + Drop>(alloc: Global, index: R, point: Limit) -> io::Result<Checkpoint> {
     let mut reader = IndexReader::new(alloc, index);
     let mut nearest = Checkpoint::beginning();
-    let mut mark = Mark::new();
+    let mut cursor = DayCursor::new();
     for _ in 0..u64::MAX {
         let Some(checkpoint) = reader.next()? else {
             break;
         };
-        if let Some(found) = checkpoint.mark(point)
-            && found.is_nearer(&mark, point)
+        if let Some(found) = checkpoint.cursor(point)
+            && found.is_nearer(&cursor, point)
         {
-            mark = found;
+            cursor = found;
             nearest = checkpoint;
         }
     }

@@ -1,48 +1,48 @@
 //! The line of a snapshot in the index of its folder.
 ghost use Rattle.std.specs.Prelude.{◌≡◌, ◌++◌, decimal, IfOk, OnOk, option_map};
-ghost use Rattle.itch_checkpoints.specs.IndexLines.{digits_part, index_line, list_part, mark_part, number_or_null, place_part};
+ghost use Rattle.itch_checkpoints.specs.IndexLines.{digits_part, index_line, list_part, cursor_part, number_or_null, place_part};
 
 use crate::fingerprint::Fingerprint;
-use itch_day::Mark;
+use itch_day::DayCursor;
 use itoa::Buffer;
 use std::alloc::{AllocError, Allocator};
 
-/// Returns the line of the snapshot after the messages of a mark: a JSON object with the number of messages, the offset of the next message
+/// Returns the line of the snapshot after the messages before a cursor: a JSON object with the number of messages, the offset of the next message
 /// in the day file, their latest timestamp, the name of the snapshot's file, the fingerprint of the day file before the offset, and the list
 /// of the snapshot's locates, if it contains only some.
 pub fn index_line<A: Allocator>(
     alloc: A,
-    mark: Mark,
+    cursor: DayCursor,
     fingerprint: Fingerprint,
     only: Option<&str>,
 ) -> Result<Vec<u8, A>, AllocError>
-    ensures { IfOk result (λ line. line.items ≡ index_line mark fingerprint (option_map (λ list. list.now) only.entry)) }
+    ensures { IfOk result (λ line. line.items ≡ index_line cursor fingerprint (option_map (λ list. list.now) only.entry)) }
 {
     let mut line = Vec::new(alloc);
-    push_mark(&mut line, mark)?;
+    push_cursor(&mut line, cursor)?;
     push_fingerprint(&mut line, fingerprint)?;
     push_list(&mut line, only)?;
     line.extend_from_slice(b"}\n")?;
     Ok(line)
 }
 
-fn push_mark<A: Allocator>(line: &mut Vec<u8, A>, mark: Mark) -> Result<(), AllocError>
-    ensures { OnOk result (line.new.items ≡ line.old.items ++ mark_part mark) }
+fn push_cursor<A: Allocator>(line: &mut Vec<u8, A>, cursor: DayCursor) -> Result<(), AllocError>
+    ensures { OnOk result (line.new.items ≡ line.old.items ++ cursor_part cursor) }
 {
-    push_place(line, mark)?;
-    push_field(line, b",\"file\":\"", mark.count)?;
+    push_place(line, cursor)?;
+    push_field(line, b",\"file\":\"", cursor.count)?;
     line.extend_from_slice(b".snap\"")?;
     Ok(())
 }
 
-/// Appends the beginning of the line of a mark: the number of messages, the offset of the next one, and the latest timestamp.
-pub fn push_place<A: Allocator>(line: &mut Vec<u8, A>, mark: Mark) -> Result<(), AllocError>
-    ensures { OnOk result (line.new.items ≡ line.old.items ++ place_part mark) }
+/// Appends the beginning of the line of a cursor: the number of messages, the offset of the next one, and the latest timestamp.
+pub fn push_place<A: Allocator>(line: &mut Vec<u8, A>, cursor: DayCursor) -> Result<(), AllocError>
+    ensures { OnOk result (line.new.items ≡ line.old.items ++ place_part cursor) }
 {
-    push_field(line, b"{\"messages\":", mark.count)?;
-    push_field(line, b",\"offset\":", mark.offset)?;
+    push_field(line, b"{\"messages\":", cursor.count)?;
+    push_field(line, b",\"offset\":", cursor.offset)?;
     line.extend_from_slice(b",\"timestamp\":")?;
-    push_or_null(line, mark.latest)?;
+    push_or_null(line, cursor.latest)?;
     Ok(())
 }
 

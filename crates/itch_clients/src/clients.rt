@@ -4,9 +4,9 @@ use crate::client::{ClientSide, hand_on};
 use crate::reception::{Arrival, Reception};
 use crate::room::SnapshotRoom;
 use itch_book::OrderBook;
-use itch_live::{Desk, longest_snapshot};
+use itch_live::{LiveServer, longest_snapshot};
 use itch_sessions::sessions::PIECE;
-use itch_sessions::{Departure, Happening, Seated};
+use itch_sessions::{Happening, SessionOutcome, SlotAddresses};
 use itch_snapshot::snapshot_len;
 use mio::Registry;
 use mio::event::Event;
@@ -18,11 +18,11 @@ const ROOM_MS: u64 = 500;
 /// The interval in milliseconds at which writing to full sockets is tried.
 const TRY_MS: u64 = 100;
 
-/// The connections of a desk's clients, one at each of its places.
+/// The connections of a server's clients, one at each of its places.
 #[derive(Drop)]
 pub struct Clients {
-    seats: Vec<Option<ClientSide>>,
-    seated: Seated,
+    slots: Vec<Option<ClientSide>>,
+    addresses: SlotAddresses,
     // The most clients from one address.
     per_address: usize,
     // The limit of the snapshots in bytes.
@@ -53,8 +53,8 @@ impl Clients {
         first_token: usize,
     ) -> Result<Clients, AllocError> {
         Ok(Clients {
-            seats: free_seats(alloc, places)?,
-            seated: Seated::new(alloc, places)?,
+            slots: free_slots(alloc, places)?,
+            addresses: SlotAddresses::new(alloc, places)?,
             per_address,
             room,
             first_token,
@@ -72,11 +72,11 @@ impl Clients {
     }
 
     /// Returns the number of clients that wait for a snapshot, and of those that receive one.
-    pub fn counts<B: OrderBook>(&self, desk: &Desk<B>) -> (u64, u64) {
+    pub fn counts<B: OrderBook>(&self, live_server: &LiveServer<B>) -> (u64, u64) {
         let (mut waiting, mut served) = (0u64, 0u64);
-        for place in 0..self.seats.len() {
-            match desk.guest(place) {
-                Some(guest) if guest.is_waiting() => waiting = waiting.saturating_add(1),
+        for place in 0..self.slots.len() {
+            match live_server.client(place) {
+                Some(state) if state.is_waiting() => waiting = waiting.saturating_add(1),
                 Some(_) => served = served.saturating_add(1),
                 None => {}
             }
@@ -86,7 +86,7 @@ impl Clients {
 
     /// Returns whether there are no clients.
     pub fn is_empty(&self) -> bool {
-        self.seats.iter().all(|seat| seat.is_none())
+        self.slots.iter().all(|slot| slot.is_none())
     }
 
     /// Returns the buffer into which bytes from connections are read.
@@ -95,14 +95,14 @@ impl Clients {
     }
 
     fn has_room(&self) -> bool {
-        self.seats.iter().any(|seat| seat.is_none())
+        self.slots.iter().any(|slot| slot.is_none())
     }
 
     /// Returns whether there may be bytes to read, or room to write pending ones, without waiting for another event.
-    pub fn is_busy<B: OrderBook>(&self, desk: &Desk<B>) -> bool {
-        for (place, seat) in self.seats.iter().enumerate() {
-            if let Some(client) = seat
-                && client.is_busy(desk, place)
+    pub fn is_busy<B: OrderBook>(&self, live_server: &LiveServer<B>) -> bool {
+        for (place, slot) in self.slots.iter().enumerate() {
+            if let Some(client) = slot
+                && client.is_busy(live_server, place)
             {
                 return true;
             }
@@ -111,44 +111,44 @@ impl Clients {
     }
 
     /// Returns whether bytes are pending for any client, whether or not its socket accepts them now.
-    pub fn is_telling<B: OrderBook>(&self, desk: &Desk<B>) -> bool {
-        (0..self.seats.len()).any(|place| !desk.pending(place).is_empty())
+    pub fn is_telling<B: OrderBook>(&self, live_server: &LiveServer<B>) -> bool {
+        (0..self.slots.len()).any(|place| !live_server.pending(place).is_empty())
     }
 
     /// Records that the socket with this number is ready.
     pub fn note(&mut self, token: usize, event: &Event) {
         let place = token.saturating_sub(self.first_token);
-        if let Some(Some(client)) = self.seats.get_mut(place) {
+        if let Some(Some(client)) = self.slots.get_mut(place) {
             client.note(event);
         }
     }
 
     /// Gives places to clients with valid logins, in the order of their arrival, while there are free ones.
-    pub fn seat<B: OrderBook>(
+    pub fn slot<B: OrderBook>(
         &mut self,
         reception: &mut Reception,
         registry: &Registry,
-        desk: &mut Desk<B>,
+        live_server: &mut LiveServer<B>,
         now_ms: u64,
     ) {
-        for _ in 0..self.seats.len() {
+        for _ in 0..self.slots.len() {
             if !self.has_room() {
                 return;
             }
-            let Some(arrival) = reception.next_arrival(&self.seated, self.per_address) else {
+            let Some(arrival) = reception.next_arrival(&self.addresses, self.per_address) else {
                 return;
             };
-            self.seat_one(arrival, reception, registry, desk, now_ms);
+            self.admit_one(arrival, reception, registry, live_server, now_ms);
         }
     }
 
     // Gives a client a place. The client is rejected if its memory is refused, or if its socket cannot be registered.
-    fn seat_one<B: OrderBook>(
+    fn admit_one<B: OrderBook>(
         &mut self,
         arrival: Arrival,
         reception: &mut Reception,
         registry: &Registry,
-        desk: &mut Desk<B>,
+        live_server: &mut LiveServer<B>,
         now_ms: u64,
     ) {
         let Arrival {
@@ -158,60 +158,60 @@ impl Clients {
             words,
         } = arrival;
         let mut link = link;
-        let Ok(Some(place)) = desk.admit(config, now_ms) else {
-            return reception.write_down(&link.who(), Departure::Fault);
+        let Ok(Some(place)) = live_server.admit(config, now_ms) else {
+            return reception.write_down(&link.who(), SessionOutcome::Fault);
         };
         if link
             .move_to(registry, place.saturating_add(self.first_token))
             .is_err()
         {
-            desk.leave(place);
-            return reception.write_down(&link.who(), Departure::Fault);
+            live_server.leave(place);
+            return reception.write_down(&link.who(), SessionOutcome::Fault);
         }
-        hand_on(desk, place, words.as_slice(), now_ms);
+        hand_on(live_server, place, words.as_slice(), now_ms);
         self.set(place, Some(ClientSide::new(link)));
-        self.seated.set(place, Some(address));
+        self.addresses.set(place, Some(address));
     }
 
     // Puts a client at a place, or frees the place, which closes the connection.
     fn set(&mut self, place: usize, client: Option<ClientSide>) {
-        if let Some(seat) = self.seats.get_mut(place) {
-            *seat = client;
+        if let Some(slot) = self.slots.get_mut(place) {
+            *slot = client;
         }
     }
 
-    /// Passes the bytes from all clients to the desk.
-    pub fn hear<B: OrderBook>(&mut self, desk: &mut Desk<B>, now_ms: u64) {
-        for (place, seat) in self.seats.iter_mut().enumerate() {
-            if let Some(client) = seat {
-                client.hear(desk, place, now_ms, self.buffer.as_mut_slice());
+    /// Passes the bytes from all clients to the server.
+    pub fn hear<B: OrderBook>(&mut self, live_server: &mut LiveServer<B>, now_ms: u64) {
+        for (place, slot) in self.slots.iter_mut().enumerate() {
+            if let Some(client) = slot {
+                client.hear(live_server, place, now_ms, self.buffer.as_mut_slice());
             }
         }
     }
 
     /// Answers waiting clients with the snapshot of the current market. If there is no room for it in addition to the others, or its memory
     /// is refused, they continue to wait.
-    pub fn answer<B: OrderBook>(&mut self, desk: &mut Desk<B>, now_ms: u64) {
-        let follower = desk.follower();
+    pub fn answer<B: OrderBook>(&mut self, live_server: &mut LiveServer<B>, now_ms: u64) {
+        let follower = live_server.follower();
         let (Some(next), Some(market)) = (follower.next(), follower.market()) else {
             return;
         };
         let messages = u64::try_from(snapshot_len(market)).unwrap_or(u64::MAX);
         let limit = self.room.limit(longest_snapshot(market));
-        let kept = desk.snapshot_bytes();
+        let kept = live_server.snapshot_bytes();
         // Even if it ends with an error, some clients were answered.
-        let _ = desk.answer(limit, now_ms);
-        if desk.snapshot_bytes() > kept {
+        let _ = live_server.answer(limit, now_ms);
+        if live_server.snapshot_bytes() > kept {
             self.encoded = self.encoded.saturating_add(1);
         }
-        self.note_answers(desk, next, messages.saturating_add(1), now_ms);
+        self.note_answers(live_server, next, messages.saturating_add(1), now_ms);
     }
 
     /// Returns whether any client waits for a snapshot.
-    pub fn any_waits<B: OrderBook>(&self, desk: &Desk<B>) -> bool {
-        for place in 0..self.seats.len() {
-            if let Some(guest) = desk.guest(place)
-                && guest.is_waiting()
+    pub fn any_waits<B: OrderBook>(&self, live_server: &LiveServer<B>) -> bool {
+        for place in 0..self.slots.len() {
+            if let Some(state) = live_server.client(place)
+                && state.is_waiting()
             {
                 return true;
             }
@@ -220,8 +220,8 @@ impl Clients {
     }
 
     /// Returns whether any client waits for a snapshot. If none does, perhaps because it has left, the waiting time starts again.
-    pub fn somebody_waits<B: OrderBook>(&mut self, desk: &Desk<B>) -> bool {
-        let waits = self.any_waits(desk);
+    pub fn somebody_waits<B: OrderBook>(&mut self, live_server: &LiveServer<B>) -> bool {
+        let waits = self.any_waits(live_server);
         if !waits {
             self.crowded_ms = None;
         }
@@ -229,10 +229,16 @@ impl Clients {
     }
 
     // Records for its line that a client receives the snapshot with this number, and the number of its packets.
-    fn note_answers<B: OrderBook>(&mut self, desk: &Desk<B>, next: u64, packets: u64, now_ms: u64) {
-        for (place, seat) in self.seats.iter_mut().enumerate() {
-            if let (Some(client), Some(guest)) = (seat, desk.guest(place))
-                && guest.snapshot() == Some(next)
+    fn note_answers<B: OrderBook>(
+        &mut self,
+        live_server: &LiveServer<B>,
+        next: u64,
+        packets: u64,
+        now_ms: u64,
+    ) {
+        for (place, slot) in self.slots.iter_mut().enumerate() {
+            if let (Some(client), Some(state)) = (slot, live_server.client(place))
+                && state.snapshot() == Some(next)
             {
                 client.note_answer(next, packets, now_ms);
             }
@@ -245,10 +251,10 @@ impl Clients {
     pub fn make_room<B: OrderBook>(
         &mut self,
         reception: &mut Reception,
-        desk: &mut Desk<B>,
+        live_server: &mut LiveServer<B>,
         now_ms: u64,
     ) {
-        if !self.somebody_waits(desk) {
+        if !self.somebody_waits(live_server) {
             return;
         }
         let since_ms = *self.crowded_ms.get_or_insert(now_ms);
@@ -258,9 +264,9 @@ impl Clients {
         let Some(snapshot) = self.slowest(now_ms) else {
             return;
         };
-        for place in 0..self.seats.len() {
+        for place in 0..self.slots.len() {
             if self.is_slow_at(place, snapshot, now_ms) {
-                self.free(place, Departure::Slowest, reception, desk);
+                self.free(place, SessionOutcome::Slowest, reception, live_server);
             }
         }
     }
@@ -268,8 +274,8 @@ impl Clients {
     // Returns the number of the snapshot of the client that has been slow for longest.
     fn slowest(&self, now_ms: u64) -> Option<u64> {
         let mut found: Option<(u64, u64)> = None;
-        for seat in self.seats.iter() {
-            if let Some(client) = seat
+        for slot in self.slots.iter() {
+            if let Some(client) = slot
                 && let Some((snapshot, since_ms)) = client.slow_since(now_ms)
                 && found.is_none_or(|(_, first_ms)| since_ms < first_ms)
             {
@@ -281,7 +287,7 @@ impl Clients {
 
     // Returns whether the client at a place receives this snapshot slowly.
     fn is_slow_at(&self, place: usize, snapshot: u64, now_ms: u64) -> bool {
-        match self.seats.get(place) {
+        match self.slots.get(place) {
             Some(Some(client)) => match client.slow_since(now_ms) {
                 Some((taken, _)) => taken == snapshot,
                 None => false,
@@ -295,20 +301,20 @@ impl Clients {
     pub fn tell<B: OrderBook>(
         &mut self,
         reception: &mut Reception,
-        desk: &mut Desk<B>,
+        live_server: &mut LiveServer<B>,
         now_ms: u64,
     ) {
         let tries = now_ms.saturating_sub(self.tried_ms) >= TRY_MS;
         if tries {
             self.tried_ms = now_ms;
         }
-        for (place, seat) in self.seats.iter_mut().enumerate() {
-            if let Some(client) = seat {
+        for (place, slot) in self.slots.iter_mut().enumerate() {
+            if let Some(client) = slot {
                 if tries {
                     client.try_to_write();
                 }
                 let had_none = client.has_none();
-                let sent = client.tell(desk, place, now_ms);
+                let sent = client.tell(live_server, place, now_ms);
                 if had_none && !client.has_none() {
                     reception.happens(&client.who(), Happening::FirstByte);
                 }
@@ -323,39 +329,47 @@ impl Clients {
         &mut self,
         reception: &mut Reception,
         registry: &Registry,
-        desk: &mut Desk<B>,
+        live_server: &mut LiveServer<B>,
         now_ms: u64,
     ) {
-        desk.tick(now_ms);
-        for place in 0..self.seats.len() {
-            if let Some(departure) = self.served_at(place) {
-                self.see_off(place, departure, reception, registry, now_ms);
-                desk.leave(place);
-            } else if let Some(departure) = self.departure(desk, place) {
-                self.free(place, departure, reception, desk);
+        live_server.tick(now_ms);
+        for place in 0..self.slots.len() {
+            if let Some(outcome) = self.served_at(place) {
+                self.see_off(place, outcome, reception, registry, now_ms);
+                live_server.leave(place);
+            } else if let Some(outcome) = self.outcome(live_server, place) {
+                self.free(place, outcome, reception, live_server);
             }
         }
     }
 
     /// Disconnects all remaining clients.
-    pub fn cut_off<B: OrderBook>(&mut self, reception: &mut Reception, desk: &mut Desk<B>) {
-        for place in 0..self.seats.len() {
-            self.free(place, Departure::CutOff, reception, desk);
+    pub fn cut_off<B: OrderBook>(
+        &mut self,
+        reception: &mut Reception,
+        live_server: &mut LiveServer<B>,
+    ) {
+        for place in 0..self.slots.len() {
+            self.free(place, SessionOutcome::CutOff, reception, live_server);
         }
     }
 
     // Returns how the connection of the client at a place has ended, if it has received everything.
-    fn served_at(&self, place: usize) -> Option<Departure> {
-        match self.seats.get(place) {
+    fn served_at(&self, place: usize) -> Option<SessionOutcome> {
+        match self.slots.get(place) {
             Some(Some(client)) => client.served(),
             _ => None,
         }
     }
 
     // Returns how the connection of the client at a place ended, if it is to be closed.
-    fn departure<B: OrderBook>(&self, desk: &Desk<B>, place: usize) -> Option<Departure> {
-        match self.seats.get(place) {
-            Some(Some(client)) => client.departure(desk, place),
+    fn outcome<B: OrderBook>(
+        &self,
+        live_server: &LiveServer<B>,
+        place: usize,
+    ) -> Option<SessionOutcome> {
+        match self.slots.get(place) {
+            Some(Some(client)) => client.outcome(live_server, place),
             _ => None,
         }
     }
@@ -364,17 +378,17 @@ impl Clients {
     fn see_off(
         &mut self,
         place: usize,
-        departure: Departure,
+        outcome: SessionOutcome,
         reception: &mut Reception,
         registry: &Registry,
         now_ms: u64,
     ) {
-        let address = self.seated.at(place);
-        self.seated.set(place, None);
-        if let Some(seat) = self.seats.get_mut(place)
-            && let (Some(client), Some(address)) = (seat.take(), address)
+        let address = self.addresses.at(place);
+        self.addresses.set(place, None);
+        if let Some(slot) = self.slots.get_mut(place)
+            && let (Some(client), Some(address)) = (slot.take(), address)
         {
-            reception.see_off(client.into_link(), address, departure, registry, now_ms);
+            reception.see_off(client.into_link(), address, outcome, registry, now_ms);
         }
     }
 
@@ -382,24 +396,24 @@ impl Clients {
     fn free<B: OrderBook>(
         &mut self,
         place: usize,
-        departure: Departure,
+        outcome: SessionOutcome,
         reception: &mut Reception,
-        desk: &mut Desk<B>,
+        live_server: &mut LiveServer<B>,
     ) {
-        if let Some(Some(client)) = self.seats.get(place) {
-            reception.write_down(&client.who(), departure);
+        if let Some(Some(client)) = self.slots.get(place) {
+            reception.write_down(&client.who(), outcome);
         }
         self.set(place, None);
-        self.seated.set(place, None);
-        desk.leave(place);
+        self.addresses.set(place, None);
+        live_server.leave(place);
     }
 }
 
 // Returns this number of free places.
-fn free_seats(alloc: Global, count: usize) -> Result<Vec<Option<ClientSide>>, AllocError> {
-    let mut seats = Vec::with_capacity(alloc, count)?;
+fn free_slots(alloc: Global, count: usize) -> Result<Vec<Option<ClientSide>>, AllocError> {
+    let mut slots = Vec::with_capacity(alloc, count)?;
     for _place in 0..count {
-        seats.push(None)?;
+        slots.push(None)?;
     }
-    Ok(seats)
+    Ok(slots)
 }

@@ -11,7 +11,8 @@ use itch_sessions::log::Log;
 use itch_sessions::log::form::LogForm;
 use itch_sessions::sessions::PIECE;
 use itch_sessions::{
-    Callers, Departure, Happening, Logins, Seated, SessionFault, Spare, Turns, Visit, Who, called,
+    ClientPort, Happening, Logins, PollLoop, SessionFault, SessionOutcome, SlotAddresses, Spare,
+    Visit, Who, called,
 };
 use mio::Token;
 use std::alloc::{AllocError, Global};
@@ -88,11 +89,11 @@ struct Players<'a, R: Clock> {
     users: Logins<'a>,
     // The number after that of the last message.
     end: Seq,
-    turns: Turns<'a, R>,
-    callers: Callers,
+    poll_loop: PollLoop<'a, R>,
+    port: ClientPort,
     reception: Reception,
     clients: Vec<Option<PlayerSide<Buffered<File>>>>,
-    seated: Seated,
+    addresses: SlotAddresses,
     spare: Spare,
     // The number of connections that have ended.
     ended: u64,
@@ -110,19 +111,19 @@ where
         users: Logins<'a>,
         end: Seq,
     ) -> Result<Players<'a, R>, SessionFault> {
-        let turns = Turns::begin(rt, rt, EVENTS)?;
-        let callers = called(Callers::listen(rt, turns.registry(), playing.address, LISTENER))?;
+        let poll_loop = PollLoop::begin(rt, rt, EVENTS)?;
+        let port = called(ClientPort::listen(rt, poll_loop.registry(), playing.address, LISTENER))?;
         Ok(Players {
             rt,
             log: Log::new(rt, LogForm::Plain)?,
             playing,
             users,
             end,
-            turns,
-            callers,
+            poll_loop,
+            port,
             reception: Reception::new(rt.alloc(), playing.session, end, ROOMS)?,
             clients: no_clients(rt.alloc())?,
-            seated: Seated::new(rt.alloc(), CLIENTS)?,
+            addresses: SlotAddresses::new(rt.alloc(), CLIENTS)?,
             spare: Spare::new(rt.alloc(), 1)?,
             ended: 0,
             buffer: vec![in rt.alloc(); 0; PIECE]?,
@@ -132,13 +133,13 @@ where
     // Waits until something is ready or due, and does it.
     fn turn<W: CountedWrite>(&mut self, out: &mut W) -> Result<(), SessionFault> {
         let most_ms = self.patience_ms();
-        let now_ms = self.turns.wait(most_ms)?;
+        let now_ms = self.poll_loop.wait(most_ms)?;
         self.note();
         self.reception.accept(
             self.rt,
-            &mut self.callers,
+            &mut self.port,
             &mut self.spare,
-            self.turns.registry(),
+            self.poll_loop.registry(),
             now_ms,
         );
         if self.users.is_due(now_ms) {
@@ -146,7 +147,7 @@ where
         }
         self.reception
             .turn(self.users.list(), now_ms, self.buffer.as_mut_slice());
-        self.seat(now_ms);
+        self.slot(now_ms);
         self.play(now_ms);
         self.close();
         self.write_lines(now_ms, out);
@@ -174,10 +175,10 @@ where
 
     // Records which sockets are ready.
     fn note(&mut self) {
-        for event in self.turns.events().iter() {
+        for event in self.poll_loop.events().iter() {
             let Token(token) = event.token();
             if token == LISTENER {
-                self.callers.note();
+                self.port.note();
             } else if token >= ROOMS {
                 self.reception.note(token, event);
             } else if let Some(Some(client)) = self.clients.get_mut(token.saturating_sub(PLACES)) {
@@ -188,7 +189,7 @@ where
 
     // Gives places to clients with valid logins, in the order of their arrival, while there are free places and a descriptor for the file of
     // each.
-    fn seat(&mut self, now_ms: u64) {
+    fn slot(&mut self, now_ms: u64) {
         for place in 0..self.clients.len() {
             if self.is_taken(place) {
                 continue;
@@ -196,14 +197,14 @@ where
             if !self.spare.hold(self.rt) {
                 return;
             }
-            let Some(arrival) = self.reception.next_arrival(&self.seated, CLIENTS) else {
+            let Some(arrival) = self.reception.next_arrival(&self.addresses, CLIENTS) else {
                 return;
             };
             self.spare.release();
             let who = arrival.link.who();
-            match self.seat_one(arrival, place, now_ms) {
+            match self.admit_one(arrival, place, now_ms) {
                 Ok(client) => self.set(place, Some(client)),
-                Err(_) => self.reception.write_down(&who, Departure::Fault),
+                Err(_) => self.reception.write_down(&who, SessionOutcome::Fault),
             }
         }
     }
@@ -214,13 +215,13 @@ where
 
     // Puts a client at a place, or frees the place, which closes the connection.
     fn set(&mut self, place: usize, client: Option<PlayerSide<Buffered<File>>>) {
-        if let Some(seat) = self.clients.get_mut(place) {
-            *seat = client;
+        if let Some(slot) = self.clients.get_mut(place) {
+            *slot = client;
         }
     }
 
     // Creates a client with the file opened for it.
-    fn seat_one(
+    fn admit_one(
         &self,
         arrival: Arrival,
         place: usize,
@@ -236,7 +237,7 @@ where
         } = arrival;
         let mut player = Player::new(self.rt.alloc(), config, total, now_ms)?;
         let mut link = link;
-        called(link.move_to(self.turns.registry(), place.saturating_add(PLACES)))?;
+        called(link.move_to(self.poll_loop.registry(), place.saturating_add(PLACES)))?;
         hand_on(&mut player, words.as_slice(), now_ms);
         Ok(PlayerSide::new(link, player, playback))
     }
@@ -254,9 +255,9 @@ where
     // Closes the connection of each client that is gone.
     fn close(&mut self) {
         for place in 0..self.clients.len() {
-            if let Some((who, departure)) = self.departure(place) {
+            if let Some((who, outcome)) = self.outcome(place) {
                 self.set(place, None);
-                self.reception.write_down(&who, departure);
+                self.reception.write_down(&who, outcome);
             }
         }
     }
@@ -276,9 +277,9 @@ where
     }
 
     // Returns the client at a place and how its connection ended, if it is to be closed.
-    fn departure(&self, place: usize) -> Option<(Who, Departure)> {
+    fn outcome(&self, place: usize) -> Option<(Who, SessionOutcome)> {
         match self.clients.get(place) {
-            Some(Some(client)) => Some((client.who(), client.departure()?)),
+            Some(Some(client)) => Some((client.who(), client.outcome()?)),
             _ => None,
         }
     }

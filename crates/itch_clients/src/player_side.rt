@@ -7,8 +7,8 @@ ghost use Rattle.itch_clients.specs.Playings.{PlaysNext, is_due_from, start_of};
 use crate::pace::{Pace, is_due};
 use crate::playback::Playback;
 use itch_frame::CountedRead;
-use itch_live::{Gone, Player};
-use itch_sessions::{Departure, SessionFault, SocketLink, Who, departure_of};
+use itch_live::{DisconnectCause, Player};
+use itch_sessions::{SessionFault, SessionOutcome, SocketLink, Who, outcome_of};
 use mio::event::Event;
 use std::alloc::Global;
 
@@ -131,25 +131,25 @@ impl<S: CountedRead + Drop> PlayerSide<S> {
 
     /// Returns how its connection ended, if it is to be closed. A client that has closed its sending half still receives messages while it
     /// accepts them.
-    pub fn departure(&self) -> Option<Departure> {
+    pub fn outcome(&self) -> Option<SessionOutcome> {
         if matches!(self.played, Played::Failed) {
-            return Some(Departure::Fault);
+            return Some(SessionOutcome::Fault);
         }
         let waits = self.player.wanted().is_some() || !self.player.pending().is_empty();
         let gone = self.link.ending(self.player.why_gone(), waits)?;
         let code = self.player.rejection_code();
-        Some(departure_of(code, self.served(), gone))
+        Some(outcome_of(code, self.served(), gone))
     }
 
     // Returns how its connection ended, if it received messages for as long as it wished. A client whose socket has failed has closed the
     // connection before it had read everything.
-    fn served(&self) -> Option<Departure> {
+    fn served(&self) -> Option<SessionOutcome> {
         let wished = match self.player.why_gone() {
-            Some(Gone::Fault | Gone::Silent) => self.link.has_all(),
-            Some(Gone::Left) | None => true,
+            Some(DisconnectCause::Fault | DisconnectCause::Silent) => self.link.has_all(),
+            Some(DisconnectCause::Left) | None => true,
         };
         match self.player.played_from() {
-            Some(from) if wished => Some(Departure::Played {
+            Some(from) if wished => Some(SessionOutcome::Played {
                 from,
                 packets: self.count,
             }),

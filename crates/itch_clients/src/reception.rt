@@ -7,7 +7,8 @@ use arrayvec::ArrayVec;
 use itch_codec::{Alpha, Seq};
 use itch_sessions::sessions::Login;
 use itch_sessions::{
-    Caller, Callers, Departure, Happening, Refusals, Seated, Socket, SocketLink, Spare, Who,
+    ClientPort, Happening, IncomingClient, Refusals, SessionOutcome, SlotAddresses, Socket,
+    SocketLink, Spare, Who,
 };
 use itch_soup::ServerConfig;
 use mio::Registry;
@@ -136,13 +137,13 @@ impl Reception {
     pub fn accept<R: Files<File = File>>(
         &mut self,
         rt: &R,
-        callers: &mut Callers,
+        port: &mut ClientPort,
         spare: &mut Spare,
         registry: &Registry,
         now_ms: u64,
     ) {
         for _ in 0..MOST_ACCEPTED {
-            if !callers.are_waiting() {
+            if !port.are_waiting() {
                 return;
             }
             let room = self.free_room();
@@ -152,12 +153,12 @@ impl Reception {
                 }
                 return;
             };
-            match callers.next() {
-                Caller::Stream(stream, address) => self.admit(
+            match port.next() {
+                IncomingClient::Stream(stream, address) => self.admit(
                     place, stream, address, registry, now_ms,
                 ),
-                Caller::Nobody => return,
-                Caller::NoDescriptor => {
+                IncomingClient::Nobody => return,
+                IncomingClient::NoDescriptor => {
                     if !self.make_room(now_ms) {
                         return;
                     }
@@ -186,7 +187,7 @@ impl Reception {
         }
         match oldest {
             Some((place, since_ms)) if now_ms.saturating_sub(since_ms) >= GRACE_MS => {
-                self.end(place, Departure::CutOff);
+                self.end(place, SessionOutcome::CutOff);
                 true
             }
             _ => false,
@@ -210,7 +211,7 @@ impl Reception {
                 let link = SocketLink::new(socket, who);
                 self.put(place, Visitor::new(link, address, now_ms));
             }
-            Err(_) => self.write_down(&who, Departure::Fault),
+            Err(_) => self.write_down(&who, SessionOutcome::Fault),
         }
     }
 
@@ -220,7 +221,7 @@ impl Reception {
             if let Some(Some(visitor)) = self.rooms.get(place)
                 && matches!(visitor.stage, VisitorStage::Ready(_))
             {
-                self.end(place, Departure::CutOff);
+                self.end(place, SessionOutcome::CutOff);
             }
         }
     }
@@ -243,15 +244,15 @@ impl Reception {
     }
 
     // Closes a connection, which has ended in this way.
-    fn end(&mut self, place: usize, departure: Departure) {
+    fn end(&mut self, place: usize, outcome: SessionOutcome) {
         if let Some(visitor) = self.take(place) {
-            self.write_down(&visitor.link.who(), departure);
+            self.write_down(&visitor.link.who(), outcome);
         }
     }
 
     /// Records how a connection has ended, for its line.
-    pub fn write_down(&mut self, who: &Who, departure: Departure) {
-        self.happens(who, Happening::Ended(departure));
+    pub fn write_down(&mut self, who: &Who, outcome: SessionOutcome) {
+        self.happens(who, Happening::Ended(outcome));
     }
 
     /// Records an event of a connection.
@@ -264,23 +265,23 @@ impl Reception {
         &mut self,
         link: SocketLink,
         address: IpAddr,
-        departure: Departure,
+        outcome: SessionOutcome,
         registry: &Registry,
         now_ms: u64,
     ) {
         let who = link.who();
         let Some(place) = self.free_room() else {
-            return self.write_down(&who, departure);
+            return self.write_down(&who, outcome);
         };
         let mut link = link;
         if link
             .move_to(registry, place.saturating_add(self.first_token))
             .is_err()
         {
-            return self.write_down(&who, departure);
+            return self.write_down(&who, outcome);
         }
         let mut visitor = Visitor::new(link, address, now_ms);
-        visitor.stage = VisitorStage::Over(departure);
+        visitor.stage = VisitorStage::Over(outcome);
         self.put(place, visitor);
     }
 
@@ -314,23 +315,23 @@ impl Reception {
         }
         let who = visitor.who();
         let has_logged_in = was_opening && matches!(visitor.stage, VisitorStage::Ready(_));
-        let departure = visitor.departure(now_ms);
+        let outcome = visitor.outcome(now_ms);
         if has_logged_in {
             self.happens(&who, Happening::LoggedIn);
         }
-        if let Some(departure) = departure {
-            self.end(place, departure);
+        if let Some(outcome) = outcome {
+            self.end(place, outcome);
         }
     }
 
     /// Removes and returns the earliest connection with a valid login, from an address with fewer than `most` clients.
-    pub fn next_arrival(&mut self, seated: &Seated, most: usize) -> Option<Arrival> {
+    pub fn next_arrival(&mut self, addresses: &SlotAddresses, most: usize) -> Option<Arrival> {
         let mut first: Option<(usize, u64)> = None;
         for (place, room) in self.rooms.iter().take(self.end).enumerate() {
             if let Some(visitor) = room
                 && matches!(visitor.stage, VisitorStage::Ready(_))
                 && first.is_none_or(|(_, number)| visitor.link.number() < number)
-                && seated.of(visitor.address) < most
+                && addresses.of(visitor.address) < most
             {
                 first = Some((place, visitor.link.number()));
             }

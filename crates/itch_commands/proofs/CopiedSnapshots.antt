@@ -83,8 +83,8 @@ module _ (old mid new : Option (List ℕ)) (load : Load) (count : ℕ) (copy : L
       inl (going.payloads, n, going.takes, omega (arith, going.counted), subst (λ c. c ≤ 10 ^ 19 - 1) (sym going.counted) going.few)
   copied_refused tool.OutOfMemory n more (Some next, step) = inr (next, n, end_read empty old mid new load.taken load.market n next so_far.going step)
   copied_refused (tool.Open file error) n more h = absurd h
-  copied_refused (tool.Unmet unmet) n more h = absurd h
-  copied_refused (tool.Misfit misfit) n more h = absurd h
+  copied_refused (tool.UnmetExpectation unmet) n more h = absurd h
+  copied_refused (tool.FeedMismatch mismatch) n more h = absurd h
   copied_refused tool.BadLocates n more h = absurd h
   copied_refused tool.TooMany n more h = absurd h
 
@@ -133,8 +133,8 @@ module _ {R : Type 0} (remaining : R → Option (List ℕ)) (failures : R → Fa
   refused_before new (tool.Write error) n copy h counts = absurd h
   refused_before new tool.OutOfMemory n copy room counts = (room, counts)
   refused_before new (tool.Open file error) n copy h counts = absurd h
-  refused_before new (tool.Unmet unmet) n copy h counts = absurd h
-  refused_before new (tool.Misfit misfit) n copy h counts = absurd h
+  refused_before new (tool.UnmetExpectation unmet) n copy h counts = absurd h
+  refused_before new (tool.FeedMismatch mismatch) n copy h counts = absurd h
   refused_before new tool.BadLocates n copy h counts = absurd h
   refused_before new tool.TooMany n copy h counts = absurd h
 
@@ -153,8 +153,8 @@ module _ {R : Type 0} (remaining : R → Option (List ℕ)) (failures : R → Fa
     refused_after (tool.Write error) h counts = absurd h
     refused_after tool.OutOfMemory h counts = absurd h
     refused_after (tool.Open file error) h counts = absurd h
-    refused_after (tool.Unmet unmet) h counts = absurd h
-    refused_after (tool.Misfit misfit) h counts = absurd h
+    refused_after (tool.UnmetExpectation unmet) h counts = absurd h
+    refused_after (tool.FeedMismatch mismatch) h counts = absurd h
     refused_after tool.BadLocates h counts = absurd h
     refused_after tool.TooMany h counts = absurd h
 

@@ -20,7 +20,7 @@ use Rattle.itch_commands.specs.Choices.{Chosen, chosen_after, chosen_past}
 use Rattle.itch_commands.specs.Cuts.{CutsMessage, CutsOff, CutsPart, HoldsBack, is_kept, kept_block, kept_of}
 use Rattle.itch_commands.specs.Outputs.{Wrote}
 use Rattle.itch_commands.specs.Showing.{IsClean, ReadsOff, answer_of, ended_show}
-use Rattle.itch_commands.specs.Sought.{are_found}
+use Rattle.itch_commands.specs.Lookup.{are_found}
 use Rattle.itch_commands.specs.declared.fault.ToolFault.{ToolFault}
 use Rattle.itch_commands.specs.declared.fault.ToolFault.TheVariants as tool
 use Rattle.itch_commands.proofs.ShownLines.{are_early, past_none, past_on}

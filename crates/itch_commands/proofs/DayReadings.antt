@@ -51,7 +51,7 @@ module _ {R : Type 0} (remaining : R → Option (List ℕ)) (failures : R → Fa
         by_fault (tool.Write error) h counted leaves = absurd h
         by_fault tool.OutOfMemory h counted leaves = absurd h
         by_fault (tool.Open file error) h counted leaves = absurd h
-        by_fault (tool.Unmet unmet) h counted leaves = absurd h
-        by_fault (tool.Misfit misfit) h counted leaves = absurd h
+        by_fault (tool.UnmetExpectation unmet) h counted leaves = absurd h
+        by_fault (tool.FeedMismatch mismatch) h counted leaves = absurd h
         by_fault tool.BadLocates h counted leaves = absurd h
         by_fault tool.TooMany h counted leaves = absurd h

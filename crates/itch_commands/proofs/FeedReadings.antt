@@ -30,7 +30,7 @@ use Rattle.itch_join.specs.Positions.{Position}
 use Rattle.itch_join.specs.States.{Joining}
 use Rattle.itch_join.specs.Takings.{IsJoined, MayTake, RefusesNumbered, TakesNumbered, position_of}
 use Rattle.itch_snapshot.specs.AsRead.{as_read}
-use Rattle.itch_commands.specs.FeedParts.{beyond, misfit_of, number_after, of_day, part_of}
+use Rattle.itch_commands.specs.FeedParts.{beyond, mismatch_of, number_after, of_day, part_of}
 use Rattle.itch_commands.specs.Joiners.{FeedsJoiner, IsAfter, IsStart, ended_feed, start_of, uncounted}
 use Rattle.itch_commands.specs.Joining.{EndsFeed, HaltsFeed, IsOfMessage, LateFeed, ReadsFeed, Start, StopsFeed, TakesFeed, TakesWanted, joined_market}
 use Rattle.itch_commands.specs.Readings.{LeavesDay, stopped}
@@ -39,8 +39,8 @@ use Rattle.itch_commands.specs.declared.fault.Source.TheVariants.{Only}
 use Rattle.itch_commands.specs.declared.fault.ToolFault.{ToolFault}
 use Rattle.itch_commands.specs.declared.fault.ToolFault.TheVariants as tool
 use Rattle.itch_commands.specs.declared.feed_part.FeedPart.{FeedPart}
-use Rattle.itch_commands.specs.declared.feed_part.Misfit.{Misfit}
-use Rattle.itch_commands.specs.declared.feed_part.Misfit.TheVariants.{Gap, Beyond, Late}
+use Rattle.itch_commands.specs.declared.feed_part.FeedMismatch.{FeedMismatch}
+use Rattle.itch_commands.specs.declared.feed_part.FeedMismatch.TheVariants.{Gap, Beyond, Late}
 use Rattle.itch_day.specs.declared.limit.Limit.{Limit}
 use Rattle.itch_market.proofs.DayMessages.{is_part}
 use Rattle.itch_commands.proofs.FeedsTaken.{AreFed, are_fed, near}
@@ -49,7 +49,7 @@ use Rattle.itch_commands.proofs.JoinerSteps.{faulty_as, denied_as}
 use Rattle.itch_commands.proofs.PartReadings.{late_given}
 
 -- a snapshot and a feed of this kind do not differ by a late message
-never_late : (part : FeedPart) (next number : ℕ) → misfit_of part next ≡ Some (Late number) → ⊥
+never_late : (part : FeedPart) (next number : ℕ) → mismatch_of part next ≡ Some (Late number) → ⊥
 never_late part next number is = by_gap (nat_le next part.before) is where
   by_wanted : (wanted : Option ℕ) → beyond wanted (next - 1) ≡ Some (Late number) → ⊥
   by_wanted None is = cc
@@ -63,11 +63,11 @@ never_late part next number is = by_gap (nat_le next part.before) is where
   by_gap false is = by_wanted part.limit.after is
 
 -- the two do not match each other
-pub feed_misfits : {R : Type 0} (remaining : R → Option (List ℕ)) (failures : R → Failures) (read : List ℕ → List ℕ) (part : FeedPart) (old new : Reading R) (start : Start) (misfit : Misfit)
-    → misfit_of part start.1 ≡ Some misfit → new ≡ old → ReadsFeed read remaining failures part old new start (Err (tool.Misfit misfit))
-feed_misfits remaining failures read part old new start (Gap next before) is same = (is, same)
-feed_misfits remaining failures read part old new start (Beyond held wanted) is same = (is, same)
-feed_misfits remaining failures read part old new start (Late number) is same = absurd (never_late part start.1 number is)
+pub feed_mismatches : {R : Type 0} (remaining : R → Option (List ℕ)) (failures : R → Failures) (read : List ℕ → List ℕ) (part : FeedPart) (old new : Reading R) (start : Start) (mismatch : FeedMismatch)
+    → mismatch_of part start.1 ≡ Some mismatch → new ≡ old → ReadsFeed read remaining failures part old new start (Err (tool.FeedMismatch mismatch))
+feed_mismatches remaining failures read part old new start (Gap next before) is same = (is, same)
+feed_mismatches remaining failures read part old new start (Beyond held wanted) is same = (is, same)
+feed_mismatches remaining failures read part old new start (Late number) is same = absurd (never_late part start.1 number is)
 
 -- a part, counted from the first message of the day ----------------------------
 
@@ -116,7 +116,7 @@ halts_feed-laid read limit full m old new stop.TooManyMessages good halts = halt
 -- the payloads that were read ---------------------------------------------------
 
 module _ {R : Type 0} (remaining : R → Option (List ℕ)) (failures : R → Failures) (part : FeedPart) (old new : Reading R) (count : ℕ) (j last k : Joining) (ps : List (List ℕ))
-    (begins : IsStart (start_of (position_of j.state))) (fits : misfit_of part (Position.next (position_of j.state)) ≡ None)
+    (begins : IsStart (start_of (position_of j.state))) (fits : mismatch_of part (Position.next (position_of j.state)) ≡ None)
     (took : Takes remaining TakesNumbered (of_day part.before (part_of part (Position.next (position_of j.state)))) old new part.before count j last ps) (within : count ≤ 10 ^ 19 - 1) where
   abbrev start : Start
   start = start_of (position_of j.state)
@@ -279,7 +279,7 @@ module _ {R : Type 0} (remaining : R → Option (List ℕ)) (failures : R → Fa
   -- if one is late: the snapshot does not have it, or it does
   pub feed_late : (next : ℕ) (result : Result (Unit {0}) ToolFault) → StopsBy reading.Late → Leaves {F = Refused} old (length ps) reading.Late new → CountsPart {F = Refused} reading.Late (failures old.reader) (failures new.reader)
       → MayTake k (count + 1) → next ≡ Position.next (position_of k.state)
-      → MatchResult result (λ _. next ≤ count + 1) (λ fault. (fault ≡ tool.Misfit (Late (count + 1))) × (count + 1 < next)) → Feeds (passed new) result
+      → MatchResult result (λ _. next ≤ count + 1) (λ fault. (fault ≡ tool.FeedMismatch (Late (count + 1))) × (count + 1 < next)) → Feeds (passed new) result
   feed_late next result (same, more, (p, is_next, some, few, late)) leaves counts ready there = by_result result where
     left : LeavesReaderFirst old (length ps + 1) None (passed new)
     left = late_left remaining failures RefusesNumbered (of_day part.before limit) old new count (length ps) last k (same, more, (p, is_next, some, few, late)) leaves
@@ -293,7 +293,7 @@ module _ {R : Type 0} (remaining : R → Option (List ℕ)) (failures : R → Fa
     onto : next ≡ max start.1 (number_after part.before ps)
     onto = there ∙ ap (λ (i : Joining). Position.next (position_of i.state)) same ∙ fed.next ∙ ap (λ l. max start.1 (part.before + l + 1)) (length-map ps read)
 
-    by_result : (result : Result (Unit {0}) ToolFault) → MatchResult result (λ _. next ≤ count + 1) (λ fault. (fault ≡ tool.Misfit (Late (count + 1))) × (count + 1 < next)) → Feeds (passed new) result
+    by_result : (result : Result (Unit {0}) ToolFault) → MatchResult result (λ _. next ≤ count + 1) (λ fault. (fault ≡ tool.FeedMismatch (Late (count + 1))) × (count + 1 < next)) → Feeds (passed new) result
     by_result (Ok tt) low = done (passed new) same ready.0 (inr (inl (at_late, is_low start.1 (number_after part.before ps) onto low number))) failed (inr (inl (late_given limit.until (message_of p) late.1, left))) where
       is_low : (s n : ℕ) → next ≡ max s n → next ≤ count + 1 → count + 1 ≡ n → s ≤ n
       is_low s n onto low is = omega (arith, onto, low, is)

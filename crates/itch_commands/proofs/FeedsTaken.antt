@@ -18,14 +18,14 @@ use Rattle.itch_join.specs.Rules.{rules_of}
 use Rattle.itch_join.specs.States.{Joining}
 use Rattle.itch_join.specs.Takings.{position_of, Passes, TakesNumbered}
 use Rattle.itch_snapshot.specs.AsRead.{as_read}
-use Rattle.itch_commands.specs.FeedParts.{beyond, misfit_of}
+use Rattle.itch_commands.specs.FeedParts.{beyond, mismatch_of}
 use Rattle.itch_commands.specs.Joining.{Start, from_number, joined_market, joined_next}
 use Rattle.itch_commands.specs.declared.feed_part.FeedPart.{FeedPart}
-use Rattle.itch_commands.specs.declared.feed_part.Misfit.TheVariants.{Gap}
+use Rattle.itch_commands.specs.declared.feed_part.FeedMismatch.TheVariants.{Gap}
 use Rattle.itch_commands.proofs.JoinerSteps.{taken_as}
 
 -- a feed that matches a snapshot does not begin after the next message
-pub near : (part : FeedPart) (next : ℕ) → misfit_of part next ≡ None → part.before < next
+pub near : (part : FeedPart) (next : ℕ) → mismatch_of part next ≡ None → part.before < next
 near part next none = by_test (nat_le next part.before) refl none where
   by_test : (b : Bool) → nat_le next part.before ≡ b → cond b (Some (Gap next part.before)) (beyond part.limit.after (next - 1)) ≡ None → part.before < next
   by_test true test none = absurd (let no_one : ⊥ = cc in no_one)

@@ -16,7 +16,7 @@ use Rattle.itch_commands.specs.Cuts.{HoldsBack, kept_of}
 use Rattle.itch_commands.specs.Further.{CutsOn, GoesOff, ReadsOnOff, ShowsOn}
 use Rattle.itch_commands.specs.Outputs.{Wrote}
 use Rattle.itch_commands.specs.Showing.{IsClean, WithholdsMessage, answer_of, ended_show}
-use Rattle.itch_commands.specs.Sought.{are_found}
+use Rattle.itch_commands.specs.Lookup.{are_found}
 use Rattle.itch_commands.specs.declared.fault.ToolFault.{ToolFault}
 use Rattle.itch_commands.specs.declared.fault.ToolFault.TheVariants as tool
 use Rattle.itch_commands.specs.declared.form.ShowForm.{ShowForm}

@@ -24,8 +24,8 @@ module _ {W : Type 0} (contents : W → Option (List ℕ)) (failures : W → Fai
   text_fails xs ys old new tool.UnknownStock h = absurd h
   text_fails xs ys old new tool.OutOfMemory h = absurd h
   text_fails xs ys old new (tool.Open file error) h = absurd h
-  text_fails xs ys old new (tool.Unmet unmet) h = absurd h
-  text_fails xs ys old new (tool.Misfit misfit) h = absurd h
+  text_fails xs ys old new (tool.UnmetExpectation unmet) h = absurd h
+  text_fails xs ys old new (tool.FeedMismatch mismatch) h = absurd h
   text_fails xs ys old new tool.BadLocates h = absurd h
   text_fails xs ys old new tool.TooMany h = absurd h
 
@@ -48,7 +48,7 @@ module _ {W : Type 0} (contents : W → Option (List ℕ)) (failures : W → Fai
   text_then xs ys old mid new (Err tool.UnknownStock) first h = absurd h
   text_then xs ys old mid new (Err tool.OutOfMemory) first h = absurd h
   text_then xs ys old mid new (Err (tool.Open file error)) first h = absurd h
-  text_then xs ys old mid new (Err (tool.Unmet unmet)) first h = absurd h
-  text_then xs ys old mid new (Err (tool.Misfit misfit)) first h = absurd h
+  text_then xs ys old mid new (Err (tool.UnmetExpectation unmet)) first h = absurd h
+  text_then xs ys old mid new (Err (tool.FeedMismatch mismatch)) first h = absurd h
   text_then xs ys old mid new (Err tool.BadLocates) first h = absurd h
   text_then xs ys old mid new (Err tool.TooMany) first h = absurd h

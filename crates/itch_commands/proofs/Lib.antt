@@ -2,7 +2,7 @@ pub mod PartReadings
 pub mod DayReadings
 pub mod ReadParts
 pub mod Outputs
-pub mod Expectations
+pub mod MetExpectations
 pub mod ShownLines
 pub mod ShownRanges
 pub mod CutBlocks
@@ -24,7 +24,7 @@ pub mod SetReadings
 pub mod SnapshotFaults
 pub mod SnapshotStarts
 pub mod SoughtNames
-pub mod SoughtStocks
+pub mod StockLookup
 pub mod JoinerSteps
 pub mod FeedsTaken
 pub mod FeedStops
@@ -41,6 +41,9 @@ pub mod LocateLists
 pub mod StockNames
 pub mod UnfilteredLines
 pub mod PointReadings
+pub mod SavedInTurn
+pub mod PointMarkets
+pub mod PointPasses
 pub mod WrittenLocates
 pub mod TalliedDays
 pub mod InfoTexts

@@ -51,7 +51,7 @@ use Rattle.itch_commands.specs.OrdersBehind.{behind, left_of, line_behind, line_
 use Rattle.itch_commands.specs.Outputs.{Wrote}
 use Rattle.itch_commands.specs.Readings.{ReadsDay, stopped}
 use Rattle.itch_commands.specs.Showing.{ended_show}
-use Rattle.itch_commands.specs.Sought.{are_found}
+use Rattle.itch_commands.specs.Lookup.{are_found}
 use Rattle.itch_commands.specs.declared.fault.Source.TheVariants.{Only}
 use Rattle.itch_commands.specs.declared.fault.ToolFault.{ToolFault}
 use Rattle.itch_commands.specs.declared.fault.ToolFault.TheVariants as tool

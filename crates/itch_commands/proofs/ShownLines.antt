@@ -39,7 +39,7 @@ use Rattle.itch_commands.specs.Choices.{Chosen, chosen_after, chosen_past, chose
 use Rattle.itch_commands.specs.Outputs.{Wrote}
 use Rattle.itch_commands.specs.Readings.{LeavesDay}
 use Rattle.itch_commands.specs.Showing.{IsClean, IsFaultOf, IsNoRule, ReadsOff, ShowsMessage, ShowsPart, ShowsUntil, WithholdsMessage, answer_of, ended_show, line_after, lines_from}
-use Rattle.itch_commands.specs.Sought.{are_found}
+use Rattle.itch_commands.specs.Lookup.{are_found}
 use Rattle.itch_commands.specs.declared.fault.Source.{Source}
 use Rattle.itch_commands.specs.declared.fault.Source.TheVariants.{Only}
 use Rattle.itch_commands.specs.declared.fault.ToolFault.{ToolFault}
@@ -339,8 +339,8 @@ module _ {W T N M : Type 0} (contents : W → Option (List ℕ)) (failures : W �
       at_refused (tool.Short file k) (named, choice_named, (clean, never)) = absurd never
       at_refused tool.OutOfMemory (named, choice_named, (clean, never)) = absurd never
       at_refused (tool.Open file error) (named, choice_named, (clean, never)) = absurd never
-      at_refused (tool.Unmet unmet) (named, choice_named, (clean, never)) = absurd never
-      at_refused (tool.Misfit misfit) (named, choice_named, (clean, never)) = absurd never
+      at_refused (tool.UnmetExpectation unmet) (named, choice_named, (clean, never)) = absurd never
+      at_refused (tool.FeedMismatch mismatch) (named, choice_named, (clean, never)) = absurd never
       at_refused tool.BadLocates (named, choice_named, (clean, never)) = absurd never
       at_refused tool.TooMany (named, choice_named, (clean, never)) = absurd never
       at_refused (tool.Snap file f) (named, choice_named, (clean, never)) = absurd never

@@ -7,7 +7,7 @@ use Rattle.itch_codec.specs.Headers.{time_of}
 use Rattle.itch_codec.specs.declared.message.Message.{Message}
 use Rattle.itch_day.specs.Limits.{is_late}
 use Rattle.itch_commands.specs.Choices.{Chosen, chosen_after, chosen_line, chosen_lines, is_about, is_located, is_typed, line_in, of_all}
-use Rattle.itch_commands.specs.Sought.{is_sought}
+use Rattle.itch_commands.specs.Lookup.{is_sought}
 use Rattle.itch_commands.specs.Starts.{before_range, before_time, first, is_begun, is_since, since_after, start_after}
 use Rattle.itch_commands.specs.declared.form.ShowForm.{ShowForm}
 use Rattle.itch_commands.specs.declared.start.Start.{Start}

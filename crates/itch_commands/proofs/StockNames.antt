@@ -11,7 +11,7 @@ use Rattle.itch_book.proofs.Lists.{by_test}
 use Rattle.itch_codec.specs.Text.{before_spaces}
 use Rattle.itch_market.specs.Content.{Listing, Securities}
 use Rattle.itch_market.specs.Wanted.{Wanted, has}
-use Rattle.itch_commands.specs.Sought.{Names, has_come}
+use Rattle.itch_commands.specs.Lookup.{Names, has_come}
 use Rattle.itch_commands.specs.Stocks.{names_of, with_first, is_named, has_stock, has_one_of, are_known, passed_at, FindsStocks}
 use Rattle.itch_commands.specs.declared.fault.ToolFault.TheVariants as tool
 use Rattle.itch_commands.proofs.LocateLists.{Lacks}

@@ -14,16 +14,16 @@ use Rattle.itch_codec.specs.declared.message.Message.{Message}
 use Rattle.itch_frame.specs.Reading.{Reading, bytes_left}
 use Rattle.itch_frame.specs.declared.fault.FrameFault.TheVariants.{Read, Truncated, Write, TooLong}
 use Rattle.itch_frame.specs.declared.tally.Failures.{Failures}
-use Rattle.itch_day.specs.Marks.{IsMark, RefusesMarked, TakesMarked, first_mark, mark_after}
+use Rattle.itch_day.specs.DayCursors.{IsDayCursor, RefusesTracked, TakesTracked, first_cursor, cursor_after}
 use Rattle.itch_day.specs.Parts.{ReadsPart, StopsAt}
 use Rattle.itch_day.specs.Passing.{left_by}
 use Rattle.itch_day.specs.Sinks.{TakesAll}
 use Rattle.itch_day.specs.declared.limit.Limit.{Limit}
-use Rattle.itch_day.specs.declared.mark.Mark.{Mark}
-use Rattle.itch_day.specs.declared.marked.Marked.{Marked}
+use Rattle.itch_day.specs.declared.cursor.DayCursor.{DayCursor}
+use Rattle.itch_day.specs.declared.tracked.Tracked.{Tracked}
 use Rattle.itch_day.specs.declared.stop.PartStop.{PartStop as Part}
 use Rattle.itch_day.specs.declared.stop.PartStop.TheVariants as part
-use Rattle.itch_day.proofs.Marks.{is_mark, marked_after}
+use Rattle.itch_day.proofs.DayCursors.{is_cursor, tracked_after}
 use Rattle.itch_market.specs.Content.{Content, empty, laid}
 use Rattle.itch_market.specs.Effects.{effect}
 use Rattle.itch_market.specs.GoodMarkets.{IsGood}
@@ -100,12 +100,12 @@ module _ {T : Type 0} (market : T → Content) (tally : T → Tally) (complete :
   keeps_same : (s t : T) → t ≡ s → Keeps s t
   keeps_same s t same = (ap tally same, ap complete same, ap events same)
 
-  abbrev TakesAllMarked : Marked T → ℕ → List (List ℕ) → Marked T → Type 0
-  TakesAllMarked s count ps t = TakesAll (TakesMarked TakesTallied) s count ps t
+  abbrev TakesAllTracked : Tracked T → ℕ → List (List ℕ) → Tracked T → Type 0
+  TakesAllTracked s count ps t = TakesAll (TakesTracked TakesTallied) s count ps t
 
-  market_all : (s t : Marked T) (count : ℕ) (ps : List (List ℕ)) → TakesAllMarked s count ps t → TakesAll TakesMessage (market s.sink) count ps (market t.sink)
-  market_all s t count [] same = ap (λ (x : Marked T). market x.sink) same
-  market_all s t count (p ∷ ps) (mid, ((took, counted, listed), marked), rest) = (market mid.sink, took, market_all mid t (count + 1) ps rest)
+  market_all : (s t : Tracked T) (count : ℕ) (ps : List (List ℕ)) → TakesAllTracked s count ps t → TakesAll TakesMessage (market s.sink) count ps (market t.sink)
+  market_all s t count [] same = ap (λ (x : Tracked T). market x.sink) same
+  market_all s t count (p ∷ ps) (mid, ((took, counted, listed), tracked), rest) = (market mid.sink, took, market_all mid t (count + 1) ps rest)
 
   -- the tally of these messages, taken by a market that is this one laid
   pub record Counted (m : Content) (s : T) (count : ℕ) (ms : List Message) (t : T) : Type 0 where
@@ -115,16 +115,16 @@ module _ {T : Type 0} (market : T → Content) (tally : T → Tally) (complete :
     pub listed : complete t ≡ true → (complete s ≡ true) × (events t ≡ events s ++ events_from (count + 1) ms)
     pub lost : complete t ≡ false → (complete s ≡ false) ⊎ (events_from (count + 1) ms ≢ [])
 
-  counted_all : (m : Content) (s t : Marked T) (count : ℕ) (ps : List (List ℕ)) → IsGood m → market s.sink ≡ laid m → TakesAllMarked s count ps t
+  counted_all : (m : Content) (s t : Tracked T) (count : ℕ) (ps : List (List ℕ)) → IsGood m → market s.sink ≡ laid m → TakesAllTracked s count ps t
       → Counted m s.sink count (map message_of ps) t.sink
   counted_all m s t count [] good same takes = record {
-    counts = λ kind within. let is = ap (λ (x : Marked T). slice_index (Tally.counts (tally x.sink)).counts kind) takes in omega (arith, is);
-    first = ap (λ (x : Marked T). Tally.first (tally x.sink)) takes;
-    peak = let is = ap (λ (x : Marked T). Tally.peak (tally x.sink)) takes in omega (arith, is);
-    listed = λ whole. (sym (ap (λ (x : Marked T). complete x.sink) takes) ∙ whole, ap (λ (x : Marked T). events x.sink) takes ∙ sym (append-nil (events s.sink)));
-    lost = λ gone. inl (sym (ap (λ (x : Marked T). complete x.sink) takes) ∙ gone);
+    counts = λ kind within. let is = ap (λ (x : Tracked T). slice_index (Tally.counts (tally x.sink)).counts kind) takes in omega (arith, is);
+    first = ap (λ (x : Tracked T). Tally.first (tally x.sink)) takes;
+    peak = let is = ap (λ (x : Tracked T). Tally.peak (tally x.sink)) takes in omega (arith, is);
+    listed = λ whole. (sym (ap (λ (x : Tracked T). complete x.sink) takes) ∙ whole, ap (λ (x : Tracked T). events x.sink) takes ∙ sym (append-nil (events s.sink)));
+    lost = λ gone. inl (sym (ap (λ (x : Tracked T). complete x.sink) takes) ∙ gone);
   }
-  counted_all m s t count (p ∷ ps) good same (mid, (((clean, fits, took), counted, listed), marked), rest) =
+  counted_all m s t count (p ∷ ps) good same (mid, (((clean, fits, took), counted, listed), tracked), rest) =
       let message : Message = message_of p in
       let (none, left, still) = taken_on m (market s.sink) (market mid.sink) p good same clean fits took in
       let later = counted_all (effect m message) mid t (count + 1) ps still left rest in
@@ -141,13 +141,13 @@ module _ {T : Type 0} (market : T → Content) (tally : T → Tally) (complete :
       }
 
   module _ {R : Type 0} (remaining : R → Option (List ℕ)) (failures : R → Failures) (limit : Limit) where
-    abbrev RefusesAll : Marked T → ℕ → List ℕ → Refused → Marked T → Type 0
-    RefusesAll = RefusesMarked RefusesTallied
+    abbrev RefusesAll : Tracked T → ℕ → List ℕ → Refused → Tracked T → Type 0
+    RefusesAll = RefusesTracked RefusesTallied
 
-    market_same : (s t : Marked T) → t ≡ s → (market t.sink ≡ market s.sink) × Keeps s.sink t.sink
-    market_same s t same = (ap (λ (x : Marked T). market x.sink) same, keeps_same s.sink t.sink (ap (λ (x : Marked T). x.sink) same))
+    market_same : (s t : Tracked T) → t ≡ s → (market t.sink ≡ market s.sink) × Keeps s.sink t.sink
+    market_same s t same = (ap (λ (x : Tracked T). market x.sink) same, keeps_same s.sink t.sink (ap (λ (x : Tracked T). x.sink) same))
 
-    market_stop : (count : ℕ) (r : Reading R) (s t : Marked T) (stop : Part Refused) → StopsAt remaining RefusesAll limit count r s stop t
+    market_stop : (count : ℕ) (r : Reading R) (s t : Tracked T) (stop : Part Refused) → StopsAt remaining RefusesAll limit count r s stop t
         → StopsAt remaining RefusesMessage limit count r (market s.sink) stop (market t.sink) × Keeps s.sink t.sink
     market_stop count r s t part.Full (same, all) = let is = market_same s t same in ((is.0, all), is.1)
     market_stop count r s t part.Late (same, before, late) = let is = market_same s t same in ((is.0, before, late), is.1)
@@ -157,11 +157,11 @@ module _ {T : Type 0} (market : T → Content) (tally : T → Tally) (complete :
     market_stop count r s t (part.Frame (Write sent error)) never = absurd never
     market_stop count r s t (part.Frame TooLong) never = absurd never
     market_stop count r s t part.TooMany (same, before, many) = let is = market_same s t same in ((is.0, before, many), is.1)
-    market_stop count r s t (part.Refused why) (before, (p, next, full, room, early, ((refuses, same, as_complete, same_events), marked))) =
+    market_stop count r s t (part.Refused why) (before, (p, next, full, room, early, ((refuses, same, as_complete, same_events), tracked))) =
         ((before, (p, next, full, room, early, refuses)), (same, as_complete, same_events))
 
     -- reading a part has the same effect on it as on the market
-    market_part : (old new : Reading R) (before count : ℕ) (s t : Marked T) (stop : Part Refused) → ReadsPart remaining failures (TakesMarked TakesTallied) RefusesAll limit old new before count s stop t
+    market_part : (old new : Reading R) (before count : ℕ) (s t : Tracked T) (stop : Part Refused) → ReadsPart remaining failures (TakesTracked TakesTallied) RefusesAll limit old new before count s stop t
         → ReadsPart remaining failures TakesMessage RefusesMessage limit old new before count (market s.sink) stop (market t.sink)
     market_part old new before count s t stop reads =
         let taken = reads.taken in
@@ -181,8 +181,8 @@ module _ {T : Type 0} (market : T → Content) (tally : T → Tally) (complete :
           counts = reads.counts;
         }
 
-  module _ {R : Type 0} (remaining : R → Option (List ℕ)) (failures : R → Failures) (limit : Limit) (old mid : Reading R) (count : ℕ) (few : count ≤ 10 ^ 19 - 1) (s t : Marked T) (stop : Part Refused)
-      (reads : ReadsPart remaining failures (TakesMarked TakesTallied) (RefusesMarked RefusesTallied) limit old mid 0 count s stop t) (begun : s.mark ≡ first_mark)
+  module _ {R : Type 0} (remaining : R → Option (List ℕ)) (failures : R → Failures) (limit : Limit) (old mid : Reading R) (count : ℕ) (few : count ≤ 10 ^ 19 - 1) (s t : Tracked T) (stop : Part Refused)
+      (reads : ReadsPart remaining failures (TakesTracked TakesTallied) (RefusesTracked RefusesTallied) limit old mid 0 count s stop t) (begun : s.cursor ≡ first_cursor)
       (first : market s.sink ≡ empty) where
     -- the same part, read into a market that begins as this one
     record ReadInto (m : Content) : Type 0 where
@@ -212,7 +212,7 @@ module _ {T : Type 0} (market : T → Content) (tally : T → Tally) (complete :
         }
 
     -- and this is their tally
-    pub is_tally : IsNew (tally s.sink) → complete s.sink ≡ true → events s.sink ≡ [] → IsTally reads.payloads t.mark (market t.sink) (tally t.sink) (complete t.sink) (events t.sink)
+    pub is_tally : IsNew (tally s.sink) → complete s.sink ≡ true → events s.sink ≡ [] → IsTally reads.payloads t.cursor (market t.sink) (tally t.sink) (complete t.sink) (events t.sink)
     is_tally new whole none =
         let ms : List Message = map message_of reads.payloads in
         let c = counted_all empty s reads.last 0 reads.payloads empty_good (first ∙ sym laid_empty) reads.taken.taken in
@@ -220,10 +220,10 @@ module _ {T : Type 0} (market : T → Content) (tally : T → Tally) (complete :
         let applied = applied_by remaining failures Only limit old mid count (market t.sink) few stop into_empty.part in
         let kept = kept_by remaining failures Only limit old mid count (market t.sink) few stop into_empty.part in
         record {
-          marked =
-              subst (λ (k : Mark). IsMark k reads.payloads)
-              (sym (marked_after remaining failures TakesTallied RefusesTallied limit old mid 0 count s stop t reads ∙ ap (λ k. mark_after k reads.payloads) begun))
-              (is_mark reads.payloads (subst (AllByRecursion (λ p. fault p ≡ None)) into_empty.these (none_clean empty into_empty.part.payloads applied.none)));
+          tracked =
+              subst (λ (k : DayCursor). IsDayCursor k reads.payloads)
+              (sym (tracked_after remaining failures TakesTallied RefusesTallied limit old mid 0 count s stop t reads ∙ ap (λ k. cursor_after k reads.payloads) begun))
+              (is_cursor reads.payloads (subst (AllByRecursion (λ p. fault p ≡ None)) into_empty.these (none_clean empty into_empty.part.payloads applied.none)));
           market = kept ∙ applied.left ∙ ap (λ ps. laid (run (map message_of ps))) into_empty.these;
           good = subst (λ ps. IsGood (run (map message_of ps))) into_empty.these applied.good;
           counts = λ kind within. let now = ap (λ (x : Tally). slice_index x.counts.counts kind) same in omega (arith, now, c.counts kind within, new.counts kind within);
@@ -241,12 +241,12 @@ same_summary : (a b c d e f g h i j : ℕ) (p q r s : Option ℕ) (t u : Bool) �
 same_summary a b c d e f g h i j p q r s t u one two three four five six seven eight = rw (one, two, three, four, five, six, seven, eight) refl
 
 -- the text about the tally is the text about the messages
-pub told_text : (form : ReportForm) (payloads : List (List ℕ)) (mark : Mark) (m : Content) (tally : Tally) (events : List Event) → IsTally payloads mark m tally true events
-    → info_text form (summary_by mark m tally) (slice_index tally.counts.counts) events ≡ info_of form payloads
-told_text form payloads mark m tally events is =
+pub told_text : (form : ReportForm) (payloads : List (List ℕ)) (cursor : DayCursor) (m : Content) (tally : Tally) (events : List Event) → IsTally payloads cursor m tally true events
+    → info_text form (summary_by cursor m tally) (slice_index tally.counts.counts) events ≡ info_of form payloads
+told_text form payloads cursor m tally events is =
     let ms : List Message = map message_of payloads in
     let counts : ℕ → ℕ = slice_index tally.counts.counts in
-    let summaries : summary_by mark m tally ≡ summary_of payloads = same_summary _ _ _ _ _ _ _ _ _ _ _ _ _ _ _ _ is.marked.count is.marked.offset is.first is.marked.latest
+    let summaries : summary_by cursor m tally ≡ summary_of payloads = same_summary _ _ _ _ _ _ _ _ _ _ _ _ _ _ _ _ is.tracked.count is.tracked.offset is.first is.tracked.latest
     (ap (λ (x : Content). length (finite.keys x.securities)) is.market) (ap live is.market ∙ live_laid (run ms) is.good) is.peak (ap (λ (x : Content). is_last x.event) is.market) in
     ap (λ s. info_text form s counts events) summaries
     ∙ ap (λ text. head_text form (summary_of payloads) ++ (text ++ (middle_text form ++ (events_text form true events ++ tail_text form)))) (types_same form counts (λ kind. count_of kind ms) true 0 256 refl is.counts)

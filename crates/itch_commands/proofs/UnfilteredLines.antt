@@ -6,7 +6,7 @@ use Rattle.itch_codec.specs.declared.message.Message.{Message}
 use Rattle.itch_commands.specs.Choices.{Chosen, everything, renamed, chosen_after, chosen_past, chosen_lines, lines_of}
 use Rattle.itch_commands.specs.Starts.{first, start_after}
 use Rattle.itch_commands.specs.declared.start.Start.{Start}
-use Rattle.itch_commands.specs.Sought.{Sought, sought_after}
+use Rattle.itch_commands.specs.Lookup.{Lookup, lookup_after}
 use Rattle.itch_commands.specs.declared.form.ShowForm.TheVariants.{Text}
 
 pub all_lines : (number : ℕ) (messages : List Message) → chosen_lines Text everything number messages ≡ lines_of number messages
@@ -15,14 +15,14 @@ all_lines number [] = refl
 all_lines number (x ∷ xs) = ap (λ t. line_of number x ++ t) (all_lines (number + 1) xs)
 
 -- the choice with this start, these stocks and this order
-abbrev with : Chosen → Start → Option Sought → Option ℕ → Chosen
+abbrev with : Chosen → Start → Option Lookup → Option ℕ → Chosen
 with chosen start stocks reference = record { start = start; only = chosen.only; stocks = stocks; types = chosen.types; reference = reference }
 
 unfollowed : (chosen : Chosen) (x : Message) → chosen.start ≡ first → chosen.reference ≡ None → chosen.stocks ≡ None → chosen_after chosen x ≡ chosen
 unfollowed chosen x begun none nor =
-    ap (λ b. with chosen (start_after b (time_of x)) (option_map (sought_after x) chosen.stocks) (option_map (renamed x) chosen.reference)) begun
-    ∙ ap (λ r. with chosen first (option_map (sought_after x) chosen.stocks) (option_map (renamed x) r)) none
-    ∙ ap (λ s. with chosen first (option_map (sought_after x) s) None) nor
+    ap (λ b. with chosen (start_after b (time_of x)) (option_map (lookup_after x) chosen.stocks) (option_map (renamed x) chosen.reference)) begun
+    ∙ ap (λ r. with chosen first (option_map (lookup_after x) chosen.stocks) (option_map (renamed x) r)) none
+    ∙ ap (λ s. with chosen first (option_map (lookup_after x) s) None) nor
     ∙ sym (ap (λ b. with chosen b chosen.stocks chosen.reference) begun ∙ ap (λ s. with chosen first s chosen.reference) nor ∙ ap (λ r. with chosen first None r) none)
 
 pub same_choice : (chosen : Chosen) (messages : List Message) → chosen.start ≡ first → chosen.reference ≡ None → chosen.stocks ≡ None

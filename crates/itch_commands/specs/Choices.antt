@@ -8,7 +8,7 @@ use Rattle.itch_codec.specs.Named.{named_line}
 use Rattle.itch_codec.specs.declared.header.Header.{Header}
 use Rattle.itch_codec.specs.declared.message.Message.{Message}
 use Rattle.itch_codec.specs.declared.message.Message.TheVariants as is
-use Rattle.itch_day.specs.declared.mark.Mark.{Mark}
+use Rattle.itch_day.specs.declared.cursor.DayCursor.{DayCursor}
 use Rattle.itch_market.specs.Wanted.{Wanted, has}
 use Rattle.itch_commands.specs.declared.filters.Filters.{Filters}
 use Rattle.itch_commands.specs.declared.form.ShowForm.{ShowForm}
@@ -16,7 +16,7 @@ use Rattle.itch_commands.specs.declared.form.ShowForm.TheVariants as form
 use Rattle.itch_commands.specs.declared.start.Start.{Start}
 use Rattle.itch_commands.specs.Rows.{row_of}
 use Rattle.itch_commands.specs.Starts.{first, is_begun, start_after, start_past}
-use Rattle.itch_commands.specs.Sought.{Sought, listed, sought, sought_after, is_sought, are_found}
+use Rattle.itch_commands.specs.Lookup.{Lookup, listed, lookup, lookup_after, is_sought, are_found}
 use Rattle.itch_commands.specs.Stocks.{names_of}
 
 -- The criteria for choosing a message, if they are given: the start of a range among the remaining messages, the locates, the stocks, the
@@ -24,7 +24,7 @@ use Rattle.itch_commands.specs.Stocks.{names_of}
 pub record Chosen : Type 0 where
   pub start : Start
   pub only : Option Wanted
-  pub stocks : Option Sought
+  pub stocks : Option Lookup
   pub types : Option (List ℕ)
   pub reference : Option ℕ
 
@@ -41,7 +41,7 @@ abbrev pub chosen_by : Option Wanted → Filters → Chosen
 chosen_by set filters = record {
   start = filters.start;
   only = set;
-  stocks = option_map (λ names. sought (names_of names.now)) filters.stocks;
+  stocks = option_map (λ names. lookup (names_of names.now)) filters.stocks;
   types = option_map (λ types. types.now) filters.types;
   reference = filters.reference;
 }
@@ -86,7 +86,7 @@ abbrev pub chosen_after : Chosen → Message → Chosen
 chosen_after chosen message = record {
   start = start_after chosen.start (time_of message);
   only = chosen.only;
-  stocks = option_map (sought_after message) chosen.stocks;
+  stocks = option_map (lookup_after message) chosen.stocks;
   types = chosen.types;
   reference = option_map (renamed message) chosen.reference;
 }
@@ -96,13 +96,13 @@ unfoldable pub chosen_past : Chosen → List Message → Chosen
 chosen_past chosen [] = chosen
 chosen_past chosen (message ∷ messages) = chosen_past (chosen_after chosen message) messages
 
--- the choice after the messages of a mark, which are before the range: no stock is looked up in them, and no order is followed
-abbrev pub chosen_past_mark : Chosen → Mark → Chosen
-chosen_past_mark chosen mark = record chosen { start = start_past chosen.start mark }
+-- the choice after the messages before a cursor, which are before the range: no stock is looked up in them, and no order is followed
+abbrev pub chosen_past_cursor : Chosen → DayCursor → Chosen
+chosen_past_cursor chosen cursor = record chosen { start = start_past chosen.start cursor }
 
 -- the choice once stocks are looked up in this message
 abbrev pub chosen_listing : Chosen → Message → Chosen
-chosen_listing chosen message = record chosen { stocks = option_map (sought_after message) chosen.stocks }
+chosen_listing chosen message = record chosen { stocks = option_map (lookup_after message) chosen.stocks }
 
 -- the choice once stocks are looked up in these messages
 unfoldable pub chosen_listing_all : Chosen → List Message → Chosen

@@ -18,7 +18,7 @@ use Rattle.itch_commands.specs.Files.{ReadsFile}
 use Rattle.itch_commands.specs.Showing.{IfFound, closed_lines, closed_found}
 use Rattle.itch_commands.specs.Stocks.{ReadsStocks, has_one_of, only_stocks}
 use Rattle.itch_commands.specs.Readings.{From, ReadsDay, ReadsSnap, Then}
-use Rattle.itch_commands.specs.declared.expected.Expected.{Expected}
+use Rattle.itch_commands.specs.declared.expected.Expectations.{Expectations}
 use Rattle.itch_commands.specs.declared.feed_part.FeedPart.{FeedPart}
 use Rattle.itch_commands.specs.declared.form.BookForm.{BookForm}
 use Rattle.itch_commands.specs.declared.form.BookForm.TheVariants.{Text}
@@ -29,7 +29,7 @@ use Rattle.itch_day.specs.declared.limit.Limit.{Limit}
 
 module _ {R W : Type 0} (remaining : R → Option (List ℕ)) (failed_reads : R → Failures) (contents : W → Option (List ℕ)) (failed_writes : W → Failures) where
   -- `check`: the number of messages in a day file, or in its part, which meets the expectations
-  abbrev pub Checks : ReportForm → Limit → Expected → From R (List (List ℕ)) → W → Result Bool ToolFault → W → Type 0
+  abbrev pub Checks : ReportForm → Limit → Expectations → From R (List (List ℕ)) → W → Result Bool ToolFault → W → Type 0
   Checks form limit expected from =
       Outputs contents failed_writes (from (λ old new. Meets expected (ReadsDay remaining failed_reads Only limit old new))) (count_line_of form) (λ _. true)
 

@@ -17,7 +17,7 @@ use Rattle.itch_market.specs.Wanted.{Wanted, has}
 use Rattle.itch_commands.specs.Choices.{Chosen, chosen_after, chosen_by, chosen_past, everything, is_about, is_located, is_typed}
 use Rattle.itch_commands.specs.Outputs.{Wrote, WritesText}
 use Rattle.itch_commands.specs.Showing.{IfFound, IsClean, IsFaultOf, ReadsOff, answer_of}
-use Rattle.itch_commands.specs.Sought.{Sought, are_found, is_found, is_sought}
+use Rattle.itch_commands.specs.Lookup.{Lookup, are_found, is_found, is_sought}
 use Rattle.itch_commands.specs.Starts.{is_begun}
 use Rattle.itch_commands.specs.declared.fault.Source.TheVariants.{Only}
 use Rattle.itch_commands.specs.declared.fault.ToolFault.{ToolFault}
@@ -72,7 +72,7 @@ is_in None locate = true
 is_in (Some set) locate = has set locate
 
 -- a locate has one of the stocks searched for, if there are any
-abbrev pub has_stock : Option Sought → ℕ → Bool
+abbrev pub has_stock : Option Lookup → ℕ → Bool
 has_stock None locate = true
 has_stock (Some s) locate = is_found s locate
 

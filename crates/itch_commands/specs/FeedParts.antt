@@ -3,8 +3,8 @@ use Rattle.std.specs.Prelude.{ℕ, ◌+◌, ◌-◌, nat_le, nat_lt, if◌then�
 use Rattle.itch_day.specs.declared.limit.Limit.{Limit}
 use Rattle.itch_day.specs.Limits.{counted}
 use Rattle.itch_commands.specs.declared.feed_part.FeedPart.{FeedPart}
-use Rattle.itch_commands.specs.declared.feed_part.Misfit.{Misfit}
-use Rattle.itch_commands.specs.declared.feed_part.Misfit.TheVariants.{Gap, Beyond}
+use Rattle.itch_commands.specs.declared.feed_part.FeedMismatch.{FeedMismatch}
+use Rattle.itch_commands.specs.declared.feed_part.FeedMismatch.TheVariants.{Gap, Beyond}
 
 -- the whole of a feed that begins with the first message of its day
 abbrev pub whole : FeedPart
@@ -15,14 +15,14 @@ abbrev pub number_after : ℕ → List (List ℕ) → ℕ
 number_after before payloads = before + length payloads + 1
 
 -- a snapshot of that many messages has more than requested
-abbrev pub beyond : Option ℕ → ℕ → Option Misfit
+abbrev pub beyond : Option ℕ → ℕ → Option FeedMismatch
 beyond None held = None
 beyond (Some wanted) held = if nat_lt wanted held then Some (Beyond held wanted) else None
 
 -- The reason why no feed is joined to a snapshot whose next message has this number, if there is one: a message between the two is missing,
 -- or the snapshot has more messages than requested.
-abbrev pub misfit_of : FeedPart → ℕ → Option Misfit
-misfit_of part next = if nat_le next part.before then Some (Gap next part.before) else beyond part.limit.after (next - 1)
+abbrev pub mismatch_of : FeedPart → ℕ → Option FeedMismatch
+mismatch_of part next = if nat_le next part.before then Some (Gap next part.before) else beyond part.limit.after (next - 1)
 
 -- the number of requested messages of a feed that begins after this many others: none, if a snapshot of that many messages has them all
 abbrev pub wanted_of : Option ℕ → ℕ → ℕ → Option ℕ

@@ -7,18 +7,18 @@ use Rattle.itch_day.specs.Limits.{IsEarly, IsWithin}
 use Rattle.itch_day.specs.Parts.{Counts, Leaves, StopsAt}
 use Rattle.itch_day.specs.Passing.{left_by}
 use Rattle.itch_day.specs.declared.limit.Limit.{Limit}
-use Rattle.itch_day.specs.declared.mark.Mark.{Mark}
+use Rattle.itch_day.specs.declared.cursor.DayCursor.{DayCursor}
 use Rattle.itch_day.specs.declared.stop.PartStop.{PartStop as Part}
 use Rattle.itch_frame.specs.Blocks.{blocks, IsFull, IsPayload}
 use Rattle.itch_frame.specs.Reading.{Reading, bytes_left}
 use Rattle.itch_frame.specs.declared.tally.Failures.{Failures}
 use Rattle.itch_market.specs.Wanted.{Wanted}
-use Rattle.itch_commands.specs.Choices.{Chosen, chosen_by, chosen_lines, chosen_listing_all, chosen_past, chosen_past_mark}
+use Rattle.itch_commands.specs.Choices.{Chosen, chosen_by, chosen_lines, chosen_listing_all, chosen_past, chosen_past_cursor}
 use Rattle.itch_commands.specs.Cuts.{HoldsBack, kept_of}
 use Rattle.itch_commands.specs.Outputs.{WritesText, Wrote}
 use Rattle.itch_commands.specs.Rows.{heading}
 use Rattle.itch_commands.specs.Showing.{IfFound, IsClean, WithholdsMessage, answer_of}
-use Rattle.itch_commands.specs.Sought.{are_found}
+use Rattle.itch_commands.specs.Lookup.{are_found}
 use Rattle.itch_commands.specs.declared.fault.ToolFault.{ToolFault}
 use Rattle.itch_commands.specs.declared.fault.ToolFault.TheVariants as tool
 use Rattle.itch_commands.specs.declared.filters.Filters.{Filters}
@@ -84,27 +84,27 @@ module _ {R W : Type 0} (remaining : R → Option (List ℕ)) (failed_reads : R 
         ⊎ ((mid : W) × WritesText contents failures (heading letter) out (Ok tt) mid × ShowsFound (form.Csv letter) old new mid result out')
     ShowsBelow form old new out result out' = ShowsFound form old new out result out'
 
--- the messages that the filters choose after those of a mark, once stocks are looked up in the messages of these payloads
-abbrev pub chosen_from : Option Wanted → Filters → Mark → List (List ℕ) → Chosen
-chosen_from set filters mark payloads = chosen_listing_all (chosen_past_mark (chosen_by set filters) mark) (map message_of payloads)
+-- the messages that the filters choose after a cursor, once stocks are looked up in the messages of these payloads
+abbrev pub chosen_from : Option Wanted → Filters → DayCursor → List (List ℕ) → Chosen
+chosen_from set filters cursor payloads = chosen_listing_all (chosen_past_cursor (chosen_by set filters) cursor) (map message_of payloads)
 
--- the number of messages of a mark, which is at most that of the messages of a day
-abbrev pub count_of : Mark → ℕ
-count_of mark = min mark.count (10 ^ 19 - 1)
+-- the number of messages before a cursor, which is at most that of the messages of a day
+abbrev pub count_of : DayCursor → ℕ
+count_of cursor = min cursor.count (10 ^ 19 - 1)
 
 module _ {R W : Type 0} (remaining : R → Option (List ℕ)) (failed_reads : R → Failures) (limit : Limit) (contents : W → Option (List ℕ)) (failures : W → Failures)
-    (set : Option Wanted) (filters : Filters) (mark : Mark) (payloads : List (List ℕ)) where
+    (set : Option Wanted) (filters : Filters) (cursor : DayCursor) (payloads : List (List ℕ)) where
   -- memory for the names of stocks runs out, before anything is read
   abbrev pub RunsOut : Reading R → Reading R → W → Result Bool ToolFault → W → Type 0
   RunsOut old new out result out' = IsSome filters.stocks × (result ≡ Err tool.OutOfMemory) × (new ≡ old) × (out' ≡ out)
 
-  -- the output of the messages after those of a mark, whose Stock Directory messages have these payloads
+  -- the output of the messages after a cursor, whose Stock Directory messages have these payloads
   abbrev pub ShowsAfter : ShowForm → Reading R → Reading R → W → Result Bool ToolFault → W → Type 0
   ShowsAfter form old new out result out' =
       RunsOut old new out result out'
-      ⊎ ShowsBelow remaining failed_reads limit (chosen_from set filters mark payloads) (count_of mark) contents failures form old new out result out'
+      ⊎ ShowsBelow remaining failed_reads limit (chosen_from set filters cursor payloads) (count_of cursor) contents failures form old new out result out'
 
   abbrev pub CutsAfter : Reading R → Reading R → W → Result Bool ToolFault → W → Type 0
   CutsAfter old new out result out' =
       RunsOut old new out result out'
-      ⊎ CutsFound remaining failed_reads limit (chosen_from set filters mark payloads) (count_of mark) contents failures old new out result out'
+      ⊎ CutsFound remaining failed_reads limit (chosen_from set filters cursor payloads) (count_of cursor) contents failures old new out result out'

@@ -18,11 +18,11 @@ use Rattle.itch_snapshot.specs.Snapshot.{snap}
 use Rattle.itch_commands.specs.declared.fault.ToolFault.{ToolFault}
 use Rattle.itch_commands.specs.declared.fault.ToolFault.TheVariants as tool
 use Rattle.itch_commands.specs.declared.feed_part.FeedPart.{FeedPart}
-use Rattle.itch_commands.specs.declared.feed_part.Misfit.TheVariants.{Late}
+use Rattle.itch_commands.specs.declared.feed_part.FeedMismatch.TheVariants.{Late}
 use Rattle.itch_day.specs.declared.limit.Limit.{Limit}
 use Rattle.itch_commands.specs.declared.fault.Source.TheVariants.{Only, Snapshot}
 use Rattle.itch_snapshot.specs.AsRead.{ReadsAs, IsFaultAs, HaltsAs}
-use Rattle.itch_commands.specs.FeedParts.{number_after, misfit_of, part_of}
+use Rattle.itch_commands.specs.FeedParts.{number_after, mismatch_of, part_of}
 use Rattle.itch_day.specs.Limits.{IsBefore, IsNotLate}
 use Rattle.itch_market.specs.DayParts.{LateNext}
 use Rattle.itch_commands.specs.Readings.{LeavesDay}
@@ -120,32 +120,32 @@ module _ (read : List ℕ → List ℕ) {R : Type 0} (remaining : R → Option (
   -- The result of reading the requested part of a feed after a snapshot, and its reader afterwards: its payloads, as they are read
   abbrev pub ReadsFeed : FeedPart → Reading R → Reading R → Start → Result (List (List ℕ)) ToolFault → Type 0
   ReadsFeed part old new start (Ok seen) =
-      (misfit_of part start.1 ≡ None)
+      (mismatch_of part start.1 ≡ None)
       × ((payloads : List (List ℕ)) × (seen ≡ map read payloads)
       × IfSome (bytes_left remaining old) (λ b. IsPart (part_of part start.1) b payloads) × TakesWanted read part start (bytes_left remaining old) (bytes_left remaining new) payloads
       × (failures new.reader ≡ failures old.reader) × LeavesDay (Ok (length payloads)) (part_of part start.1) old new)
   -- or this many messages of the day are before this stop; if it depends only on the file, it is the first bad place of the feed
   ReadsFeed part old new start (Err (tool.Stopped at end)) =
-      (at ≡ Only) × (end.stop ≢ stop.End) × (misfit_of part start.1 ≡ None)
+      (at ≡ Only) × (end.stop ≢ stop.End) × (mismatch_of part start.1 ≡ None)
       × ((payloads : List (List ℕ)) × (part.before + length payloads ≡ end.count)
       × EndsFeed read part start (bytes_left remaining old) (bytes_left remaining new) payloads end.stop
       × IfSome (bytes_left remaining old) (λ b. IsDecided end.stop → StopsFeed read part.before start b (length payloads) end.stop)
       × Counts end.stop (failures old.reader) (failures new.reader) × LeavesReaderFirst old (length payloads) (Some end.stop) new)
   -- or the feed ends before the requested messages
   ReadsFeed part old new start (Err (tool.Short at count)) =
-      (at ≡ Only) × IsSome (part_of part start.1).after × (misfit_of part start.1 ≡ None)
+      (at ≡ Only) × IsSome (part_of part start.1).after × (mismatch_of part start.1 ≡ None)
       × ((payloads : List (List ℕ)) × (part.before + length payloads ≡ count)
       × EndsFeed read part start (bytes_left remaining old) (bytes_left remaining new) payloads stop.End
       × IfSome (bytes_left remaining old) (λ b. StopsFeed read part.before start b (length payloads) stop.End)
       × (failures new.reader ≡ failures old.reader) × LeavesReaderFirst old (length payloads) (Some stop.End) new)
   -- or a message is late that the snapshot contains
-  ReadsFeed part old new start (Err (tool.Misfit (Late number))) =
-      (misfit_of part start.1 ≡ None) × (number < start.1)
+  ReadsFeed part old new start (Err (tool.FeedMismatch (Late number))) =
+      (mismatch_of part start.1 ≡ None) × (number < start.1)
       × ((payloads : List (List ℕ)) × (number_after part.before payloads ≡ number)
       × LateFeed read part start (bytes_left remaining old) (bytes_left remaining new) payloads
       × (failures new.reader ≡ failures old.reader) × LeavesReaderFirst old (length payloads + 1) None new)
   -- or the two do not match, and nothing is read
-  ReadsFeed part old new start (Err (tool.Misfit misfit)) = (misfit_of part start.1 ≡ Some misfit) × (new ≡ old)
+  ReadsFeed part old new start (Err (tool.FeedMismatch mismatch)) = (mismatch_of part start.1 ≡ Some mismatch) × (new ≡ old)
   ReadsFeed part old new start (Err fault) = ⊥
 
 -- the market after the reading has room for its End of Snapshot in its snapshot, or it has too many messages

@@ -1,6 +1,9 @@
 pub mod Statuses
 pub mod Readings
+pub mod PointMarkets
 pub mod Points
+pub mod Ascending
+pub mod SavedPoints
 pub mod Files
 pub mod Outputs
 pub mod Canons
@@ -10,7 +13,7 @@ pub mod Choices
 pub mod Showing
 pub mod Starts
 pub mod Rows
-pub mod Sought
+pub mod Lookup
 pub mod Comparing
 pub mod FirstDifferences
 pub mod Forms

@@ -3,7 +3,7 @@ use Rattle.std.specs.Prelude.{ℕ, ◌-◌, ◌==◌, ◌&&◌, ◌||◌, nat_le
 use Rattle.itch_codec.specs.Headers.{time_of}
 use Rattle.itch_codec.specs.declared.message.Message.{Message}
 use Rattle.itch_day.specs.Limits.{is_from, is_late}
-use Rattle.itch_day.specs.declared.mark.Mark.{Mark}
+use Rattle.itch_day.specs.declared.cursor.DayCursor.{DayCursor}
 use Rattle.itch_commands.specs.declared.start.Start.{Start}
 
 -- the first message
@@ -27,14 +27,14 @@ is_begun start time = (start.before == 0) && is_since start.since time
 abbrev pub start_after : Start → Option ℕ → Start
 start_after start time = record { before = start.before - 1; since = since_after start.since time }
 
--- All messages of a mark are before a range: there are no more of them than messages before the range, or none of them is at the time where
+-- All messages before a cursor are before a range: there are no more of them than messages before the range, or none of them is at the time where
 -- the range begins, or later.
-abbrev pub is_beyond : Start → Mark → Bool
-is_beyond start mark = nat_le mark.count start.before || not (is_since start.since mark.latest)
+abbrev pub is_beyond : Start → DayCursor → Bool
+is_beyond start cursor = nat_le cursor.count start.before || not (is_since start.since cursor.latest)
 
--- the beginning of the range in the messages after those of a mark
-abbrev pub start_past : Start → Mark → Start
-start_past start mark = record { before = start.before - mark.count; since = since_after start.since mark.latest }
+-- the beginning of the range in the messages after a cursor
+abbrev pub start_past : Start → DayCursor → Start
+start_past start cursor = record { before = start.before - cursor.count; since = since_after start.since cursor.latest }
 
 -- the beginning of the range in the messages after these
 unfoldable pub start_after_all : Start → List Message → Start

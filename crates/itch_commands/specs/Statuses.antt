@@ -10,8 +10,8 @@ abbrev pub status_of : ToolFault → ℕ
 status_of (tool.Stopped file end) = stop_status end.stop
 status_of (tool.Snap file fault) = snapshot_status fault
 status_of (tool.Short file count) = 1
-status_of (tool.Unmet unmet) = 1
-status_of (tool.Misfit misfit) = 1
+status_of (tool.UnmetExpectation unmet) = 1
+status_of (tool.FeedMismatch mismatch) = 1
 status_of tool.UnknownLocate = 1
 status_of tool.UnknownStock = 1
 status_of (tool.Write error) = 3

@@ -6,7 +6,7 @@ use Rattle.itch_codec.specs.Text.{before_spaces}
 use Rattle.itch_market.specs.Content.{Content, Listing, Securities}
 use Rattle.itch_market.specs.Partial.{only}
 use Rattle.itch_market.specs.Wanted.{Wanted, has}
-use Rattle.itch_commands.specs.Sought.{Names}
+use Rattle.itch_commands.specs.Lookup.{Names}
 use Rattle.itch_commands.specs.declared.fault.ToolFault.{ToolFault}
 use Rattle.itch_commands.specs.declared.fault.ToolFault.TheVariants as tool
 

@@ -6,8 +6,8 @@ use Rattle.itch_codec.specs.Headers.{kind_of, time_of}
 use Rattle.itch_codec.specs.Messages.{message_of}
 use Rattle.itch_codec.specs.declared.message.Message.{Message}
 use Rattle.itch_codec.specs.declared.message.Message.TheVariants as is
-use Rattle.itch_day.specs.Marks.{IsMark, latest}
-use Rattle.itch_day.specs.declared.mark.Mark.{Mark}
+use Rattle.itch_day.specs.DayCursors.{IsDayCursor, latest}
+use Rattle.itch_day.specs.declared.cursor.DayCursor.{DayCursor}
 use Rattle.itch_frame.specs.Blocks.{blocks}
 use Rattle.itch_market.specs.Content.{Content, empty, laid}
 use Rattle.itch_market.specs.Effects.{effect}
@@ -82,8 +82,8 @@ pub record IsListed (before : Bool) (old : List Event) (number : ℕ) (message :
   pub lost : now ≡ false → (before ≡ false) ⊎ (event_of number message ≢ [])
 
 -- the tally of these messages
-pub record IsTally (payloads : List (List ℕ)) (mark : Mark) (m : Content) (tally : Tally) (complete : Bool) (events : List Event) : Type 0 where
-  pub marked : IsMark mark payloads
+pub record IsTally (payloads : List (List ℕ)) (cursor : DayCursor) (m : Content) (tally : Tally) (complete : Bool) (events : List Event) : Type 0 where
+  pub tracked : IsDayCursor cursor payloads
   pub market : m ≡ laid (run (map message_of payloads))
   pub good : IsGood (run (map message_of payloads))
   pub counts : (kind : ℕ) → kind < 256 → slice_index tally.counts.counts kind ≡ count_of kind (map message_of payloads)
@@ -99,13 +99,13 @@ pub record IsNew (tally : Tally) : Type 0 where
   pub peak : tally.peak ≡ 0
 
 -- the summary of the tally
-abbrev pub summary_by : Mark → Content → Tally → Summary
-summary_by mark m tally =
+abbrev pub summary_by : DayCursor → Content → Tally → Summary
+summary_by cursor m tally =
     record {
-      count = mark.count;
-      bytes = mark.offset;
+      count = cursor.count;
+      bytes = cursor.offset;
       first = tally.first;
-      last = mark.latest;
+      last = cursor.latest;
       stocks = length (finite.keys m.securities);
       live = live m;
       peak = tally.peak;

@@ -10,24 +10,24 @@ use crate::choice::Choice;
 use crate::fault::ToolFault;
 use crate::filters::Filters;
 use itch_codec::{MOST_MESSAGES, decode};
-use itch_day::Mark;
+use itch_day::DayCursor;
 use itch_frame::split_first_block;
 use itch_market::LocateSet;
 use std::alloc::Allocator;
 
-/// The first messages of a day file, all of which are before a range: their mark, and the blocks of the Stock Directory messages among them.
+/// The first messages of a day file, all of which are before a range: their cursor, and the blocks of the Stock Directory messages among them.
 #[derive(Clone, Copy, Debug, PartialEq, Eq)]
 pub struct Begun<'a> {
-    pub mark: Mark,
+    pub cursor: DayCursor,
     pub directory: &'a [u8],
 }
 
 impl Begun<'_> {
     /// Returns the number of messages.
     pub(crate) fn count(&self) -> u64
-        ensures { result ≡ count_of self.now.mark }
+        ensures { result ≡ count_of self.now.cursor }
     {
-        self.mark.count.min(MOST_MESSAGES)
+        self.cursor.count.min(MOST_MESSAGES)
     }
 
     /// Returns the choice of the messages after these. No filter may follow an order: a replacement among these is not known.
@@ -38,11 +38,11 @@ impl Begun<'_> {
         filters: Filters<'b>,
     ) -> Result<Choice<'b, A>, ToolFault>
         ensures choice { (payloads : List (List ℕ)) → AreListed payloads self.now.directory.now
-            → IfOk result (λ choice. choice ≡ chosen_from (option_copied only.entry) filters.entry self.now.mark payloads) }
+            → IfOk result (λ choice. choice ≡ chosen_from (option_copied only.entry) filters.entry self.now.cursor payloads) }
         ensures memory { IfErr result (λ fault. (fault ≡ ToolFault.OutOfMemory) × IsSome filters.entry.stocks) }
     {
         let mut choice = Choice::new(alloc, only, filters)?;
-        choice.pass_mark(self.mark);
+        choice.pass_cursor(self.cursor);
         list_all(&mut choice, self.directory);
         Ok(choice)
     }

@@ -8,7 +8,7 @@ ghost use Rattle.itch_commands.specs.Outputs.{WritesOutput};
 ghost use Rattle.itch_commands.specs.Readings.{FromBlocks, FromReader};
 ghost use Rattle.itch_commands.specs.declared.form.ReportForm.TheVariants.{Text};
 
-use crate::expected::Expected;
+use crate::expected::Expectations;
 use crate::fault::{Source, ToolFault};
 use crate::form::ReportForm;
 use crate::line::Line;
@@ -34,7 +34,7 @@ pub fn check<R: CountedRead + Drop, A: Allocator + Copy, W: CountedWrite>(
         alloc,
         &mut reader,
         Limit::whole(),
-        Expected::nothing(),
+        Expectations::nothing(),
         ReportForm::Text,
         out,
     )
@@ -42,12 +42,12 @@ pub fn check<R: CountedRead + Drop, A: Allocator + Copy, W: CountedWrite>(
 
 /// Does the same over a reader of blocks, for any part of the file, and in any form. The reader is left where the reading ended.
 ///
-/// The part must also meet the expectations: otherwise the fault is `Short` or `Unmet`, and nothing is written.
+/// The part must also meet the expectations: otherwise the fault is `Short` or `UnmetExpectation`, and nothing is written.
 pub fn check_blocks<R: CountedRead, A: Allocator, B: OrderBook, W: CountedWrite>(
     alloc: B::Alloc,
     reader: &mut BlockReader<R, A>,
     limit: Limit,
-    expected: Expected,
+    expected: Expectations,
     form: ReportForm,
     out: &mut W,
 ) -> Result<bool, ToolFault>

@@ -1,18 +1,18 @@
 //! The choice of messages.
 ghost use Rattle.std.specs.Prelude.{◌≡◌, IsSome, MatchResult, option_map};
 ghost use Rattle.std.specs.Option.{option_copied};
-ghost use Rattle.itch_commands.specs.Choices.{everything, chosen_by, is_located, is_typed, is_about, is_chosen, renamed, chosen_after, chosen_listing, chosen_past_mark};
+ghost use Rattle.itch_commands.specs.Choices.{everything, chosen_by, is_located, is_typed, is_about, is_chosen, renamed, chosen_after, chosen_listing, chosen_past_cursor};
 ghost use Rattle.itch_commands.specs.Cuts.{Skips, has_stock, is_in, is_kept, is_of_stocks, stock_of};
-ghost use Rattle.itch_commands.specs.Sought.{are_found, is_sought, sought};
+ghost use Rattle.itch_commands.specs.Lookup.{are_found, is_sought, lookup};
 ghost use Rattle.itch_commands.specs.Stocks.{names_of};
 
 use crate::cut::order_at;
 use crate::fault::ToolFault;
 use crate::filters::Filters;
-use crate::sought::SoughtStocks;
+use crate::lookup::StockLookup;
 use crate::start::Start;
 use itch_codec::Message;
-use itch_day::Mark;
+use itch_day::DayCursor;
 use itch_market::LocateSet;
 use std::alloc::Allocator;
 use std::marker::Model;
@@ -24,7 +24,7 @@ pub struct Choice<'a, A: Allocator> {
     // The beginning of the range in the messages to come.
     start: Start,
     only: Option<&'a LocateSet<A>>,
-    stocks: Option<SoughtStocks<'a, A>>,
+    stocks: Option<StockLookup<'a, A>>,
     types: Option<&'a str>,
     // The present reference number of the order.
     reference: Option<u64>,
@@ -144,20 +144,20 @@ impl<'a, A: Allocator> Choice<'a, A> {
         }
     }
 
-    /// Passes the messages of a mark, all of which are before the range. Their Stock Directory messages are passed by [`Choice::list`], and no
+    /// Passes the messages before a cursor, all of which are before the range. Their Stock Directory messages are passed by [`Choice::list`], and no
     /// order is followed through them.
-    pub fn pass_mark(&mut self, mark: Mark)
-        ensures { self.new ≡ chosen_past_mark self.old mark }
+    pub fn pass_cursor(&mut self, cursor: DayCursor)
+        ensures { self.new ≡ chosen_past_cursor self.old cursor }
     {
-        self.start = self.start.past(mark);
+        self.start = self.start.past(cursor);
     }
 
-    /// Looks up stocks in a message before the range, which [`Choice::pass_mark`] has passed.
+    /// Looks up stocks in a message before the range, which [`Choice::pass_cursor`] has passed.
     pub fn list(&mut self, message: &Message<'_>)
         ensures { self.new ≡ chosen_listing self.old message.now }
     {
-        if let Some(sought) = &mut self.stocks {
-            sought.pass(message);
+        if let Some(lookup) = &mut self.stocks {
+            lookup.pass(message);
         }
     }
 
@@ -176,11 +176,11 @@ impl<'a, A: Allocator> Choice<'a, A> {
 fn look_for<'a, A: Allocator + Copy>(
     alloc: A,
     names: Option<&'a str>,
-) -> Result<Option<SoughtStocks<'a, A>>, ToolFault>
-    ensures { MatchResult result (λ stocks. stocks ≡ option_map (λ names. sought (names_of names.now)) names.entry) (λ fault. (fault ≡ ToolFault.OutOfMemory) × IsSome names.entry) }
+) -> Result<Option<StockLookup<'a, A>>, ToolFault>
+    ensures { MatchResult result (λ stocks. stocks ≡ option_map (λ names. lookup (names_of names.now)) names.entry) (λ fault. (fault ≡ ToolFault.OutOfMemory) × IsSome names.entry) }
 {
     match names {
-        Some(names) => Ok(Some(SoughtStocks::new(alloc, names)?)),
+        Some(names) => Ok(Some(StockLookup::new(alloc, names)?)),
         None => Ok(None),
     }
 }
@@ -199,7 +199,7 @@ fn is_located<A: Allocator>(only: Option<&LocateSet<A>>, message: &Message<'_>) 
 }
 
 // Returns whether a message is about one of the stocks searched for, if there are any.
-fn is_sought<A: Allocator>(stocks: Option<&SoughtStocks<'_, A>>, message: &Message<'_>) -> bool
+fn is_sought<A: Allocator>(stocks: Option<&StockLookup<'_, A>>, message: &Message<'_>) -> bool
     ensures { result ≡ is_sought (option_copied stocks.entry) message.now }
 {
     match stocks {
@@ -264,7 +264,7 @@ fn is_in<A: Allocator>(only: Option<&LocateSet<A>>, locate: u16) -> bool
 
 // Returns whether a locate has one of the stocks searched for, if there are any.
 #[inline(always)]
-fn has_stock<A: Allocator>(stocks: Option<&SoughtStocks<'_, A>>, locate: u16) -> bool
+fn has_stock<A: Allocator>(stocks: Option<&StockLookup<'_, A>>, locate: u16) -> bool
     ensures { result ≡ has_stock (option_copied stocks.entry) locate }
 {
     match stocks {

@@ -10,7 +10,7 @@ const END_OF_MESSAGES: u8 = b'C';
 
 /// Expectations for a day file, or for the requested part of it, in addition to following the order rules.
 #[derive(Clone, Copy, Debug, PartialEq, Eq)]
-pub struct Expected {
+pub struct Expectations {
     /// It has exactly this many messages.
     pub count: Option<u64>,
     /// It is complete: its last System Event message is End of Messages.
@@ -19,28 +19,28 @@ pub struct Expected {
 
 /// The difference between a file and the expectations, unless it has too few messages.
 #[derive(Clone, Copy, Debug, PartialEq, Eq)]
-pub enum Unmet {
+pub enum UnmetExpectation {
     /// It has more messages than this.
     More { expected: u64 },
     /// There was no End of Messages, or another system event after it.
     NoEnd,
 }
 
-impl fmt::Display for Unmet {
+impl fmt::Display for UnmetExpectation {
     fn fmt<W: fmt::Write>(&self, f: &mut fmt::Formatter<W>) -> fmt::Result {
         match self {
-            Unmet::More { expected } => write!(f, "more than {expected} messages"),
-            Unmet::NoEnd => f.write_str("no end of messages"),
+            UnmetExpectation::More { expected } => write!(f, "more than {expected} messages"),
+            UnmetExpectation::NoEnd => f.write_str("no end of messages"),
         }
     }
 }
 
-impl Expected {
+impl Expectations {
     /// Expects only that a file follows the order rules.
-    pub fn nothing() -> Expected
+    pub fn nothing() -> Expectations
         ensures { result ≡ nothing }
     {
-        Expected {
+        Expectations {
             count: None,
             end: false,
         }
@@ -50,7 +50,7 @@ impl Expected {
     ///
     /// # Faults
     ///
-    /// `Short` if it has fewer messages than expected, otherwise `Unmet`. A wrong number takes precedence over a missing end.
+    /// `Short` if it has fewer messages than expected, otherwise `UnmetExpectation`. A wrong number takes precedence over a missing end.
     pub fn check(&self, count: u64, event: Option<u8>) -> Result<(), ToolFault>
         ensures { MatchResult result (λ _. unmet self.now count event ≡ None) (λ fault. unmet self.now count event ≡ Some fault) }
     {
@@ -58,7 +58,7 @@ impl Expected {
             check_count(expected, count)?;
         }
         if self.end && !is_last(event) {
-            return Err(ToolFault::Unmet(Unmet::NoEnd));
+            return Err(ToolFault::UnmetExpectation(UnmetExpectation::NoEnd));
         }
         Ok(())
     }
@@ -75,7 +75,7 @@ fn check_count(expected: u64, count: u64) -> Result<(), ToolFault>
         });
     }
     if count > expected {
-        return Err(ToolFault::Unmet(Unmet::More { expected }));
+        return Err(ToolFault::UnmetExpectation(UnmetExpectation::More { expected }));
     }
     Ok(())
 }

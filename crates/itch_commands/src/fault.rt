@@ -4,8 +4,8 @@ ghost use Rattle.std.specs.IoError.{error_kind};
 ghost use Rattle.itch_commands.specs.Causes.{error_of, source_of};
 ghost use Rattle.itch_commands.specs.Statuses.{exit_status, status_of};
 
-use crate::expected::Unmet;
-use crate::feed_part::Misfit;
+use crate::expected::UnmetExpectation;
+use crate::feed_part::FeedMismatch;
 use itch_market::ReplayEnd;
 use itch_snapshot::SnapFault;
 use std::alloc::AllocError;
@@ -51,9 +51,9 @@ pub enum ToolFault {
     /// A file has only this many messages, fewer than requested.
     Short { file: Source, count: u64 },
     /// A file follows the order rules, but does not meet the expectations.
-    Unmet(Unmet),
+    UnmetExpectation(UnmetExpectation),
     /// A snapshot and a feed do not match.
-    Misfit(Misfit),
+    FeedMismatch(FeedMismatch),
     /// The directory has no such locate.
     UnknownLocate,
     /// The directory has no entry with such a stock.
@@ -82,7 +82,7 @@ impl ToolFault {
             ToolFault::Write(_) | ToolFault::Open { .. } => 3,
             ToolFault::OutOfMemory => 4,
             ToolFault::BadLocates => 2,
-            ToolFault::TooMany | ToolFault::Unmet(_) | ToolFault::Misfit(_) => 1,
+            ToolFault::TooMany | ToolFault::UnmetExpectation(_) | ToolFault::FeedMismatch(_) => 1,
         }
     }
 
@@ -146,8 +146,8 @@ impl fmt::Display for ToolFault {
             }
             ToolFault::Snap { file, fault } => write!(f, "{file}{fault}"),
             ToolFault::Short { file, count } => write!(f, "{file}only {count} messages"),
-            ToolFault::Unmet(unmet) => write!(f, "{unmet}"),
-            ToolFault::Misfit(misfit) => write!(f, "{misfit}"),
+            ToolFault::UnmetExpectation(unmet) => write!(f, "{unmet}"),
+            ToolFault::FeedMismatch(mismatch) => write!(f, "{mismatch}"),
             ToolFault::UnknownLocate => f.write_str("unknown locate"),
             ToolFault::UnknownStock => f.write_str("unknown stock"),
             ToolFault::Write(_) => f.write_str("write failed"),

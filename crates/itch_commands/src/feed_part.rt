@@ -1,6 +1,6 @@
 //! The messages of a day in a feed, and the end of a join.
 ghost use Rattle.std.specs.Prelude.{◌≡◌, ◌<◌, ◌≤◌};
-ghost use Rattle.itch_commands.specs.FeedParts.{beyond, misfit_of, part_of, wanted_of, whole};
+ghost use Rattle.itch_commands.specs.FeedParts.{beyond, mismatch_of, part_of, wanted_of, whole};
 
 use itch_day::Limit;
 use std::fmt;
@@ -16,7 +16,7 @@ pub struct FeedPart {
 
 /// The reason why a snapshot and a feed are not joined.
 #[derive(Clone, Copy, Debug, PartialEq, Eq)]
-pub enum Misfit {
+pub enum FeedMismatch {
     /// The message with the number `next`, the first that the snapshot lacks, is among the `before` messages before the feed's first one.
     Gap { next: u64, before: u64 },
     /// The snapshot has `held` messages, more than the `wanted` ones.
@@ -25,20 +25,20 @@ pub enum Misfit {
     Late { number: u64 },
 }
 
-impl fmt::Display for Misfit {
+impl fmt::Display for FeedMismatch {
     fn fmt<W: fmt::Write>(&self, f: &mut fmt::Formatter<W>) -> fmt::Result {
         match self {
-            Misfit::Gap { next, before } => {
+            FeedMismatch::Gap { next, before } => {
                 let first = u128::from(*before) + 1;
                 write!(
                     f,
                     "gap: message {next} is next, and the feed begins with {first}"
                 )
             }
-            Misfit::Beyond { held, wanted } => {
+            FeedMismatch::Beyond { held, wanted } => {
                 write!(f, "snapshot: {held} messages, more than {wanted}")
             }
-            Misfit::Late { number } => write!(f, "snapshot: message {number} is too late"),
+            FeedMismatch::Late { number } => write!(f, "snapshot: message {number} is too late"),
         }
     }
 }
@@ -55,11 +55,11 @@ impl FeedPart {
     }
 
     /// Returns the reason why no feed of this kind is joined to a snapshot whose next message has this number, if there is one.
-    pub fn misfit(&self, next: u64) -> Option<Misfit>
-        ensures { result ≡ misfit_of self.now next }
+    pub fn mismatch(&self, next: u64) -> Option<FeedMismatch>
+        ensures { result ≡ mismatch_of self.now next }
     {
         if next <= self.before {
-            return Some(Misfit::Gap {
+            return Some(FeedMismatch::Gap {
                 next,
                 before: self.before,
             });
@@ -79,13 +79,13 @@ impl FeedPart {
     }
 }
 
-// Returns the misfit of a snapshot that has more messages than requested.
-fn beyond(wanted: Option<u64>, held: u64) -> Option<Misfit>
+// Returns the mismatch of a snapshot that has more messages than requested.
+fn beyond(wanted: Option<u64>, held: u64) -> Option<FeedMismatch>
     ensures { result ≡ beyond wanted held }
 {
     let wanted = wanted?;
     if wanted < held {
-        Some(Misfit::Beyond { held, wanted })
+        Some(FeedMismatch::Beyond { held, wanted })
     } else {
         None
     }

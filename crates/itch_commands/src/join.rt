@@ -73,7 +73,7 @@ pub fn join<R: CountedRead + Drop, S: CountedRead + Drop, A: Allocator + Copy, W
 ///
 /// # Faults
 ///
-/// Those of `join`. `Misfit` if the snapshot and the part do not match: before anything is read of the feed if the numbers alone decide it,
+/// Those of `join`. `FeedMismatch` if the snapshot and the part do not match: before anything is read of the feed if the numbers alone decide it,
 /// and otherwise at a message of the feed that the snapshot contains although it is at the end time of the join, or later. `Short`, with
 /// the number of the day's last message, if the feed ends before as many messages as requested.
 pub fn join_blocks<

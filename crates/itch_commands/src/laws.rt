@@ -22,7 +22,7 @@ ghost use Rattle.itch_snapshot.specs.AsRead.{as_read};
 ghost use Rattle.itch_commands.specs.Choices.{Chosen, everything, of_all, chosen_past, are_found_in, chosen_lines, lines_of};
 ghost use Rattle.itch_commands.specs.Cuts.{kept_of, of_locates};
 ghost use Rattle.itch_commands.specs.FirstDifferences.{IsPlaceIn, IsSameIn};
-ghost use Rattle.itch_commands.specs.Sought.{sought, found_at, has_name, is_of_one, stock_past};
+ghost use Rattle.itch_commands.specs.Lookup.{lookup, found_at, has_name, is_of_one, stock_past};
 ghost use Rattle.itch_commands.specs.Starts.{before_range, before_time, first};
 ghost use Rattle.itch_commands.specs.OrdersBehind.{behind, changes_order, shares_of};
 ghost use Rattle.itch_commands.specs.Joining.{from_number, joined_market, joined_next};
@@ -91,10 +91,10 @@ pub fn cut_days()
 
 /// When stocks are searched for by their names, after any messages a locate has one of them exactly if its last Stock Directory message has
 /// one of the names; and all have come exactly if each name is in a Stock Directory message.
-pub fn sought_stocks()
-    ensures located { (chosen : Chosen) → (names : List (List ℕ)) → (messages : List Message) → (locate : ℕ) → Chosen.stocks chosen ≡ Some (sought names) → locate < 65536
+pub fn stock_lookup()
+    ensures located { (chosen : Chosen) → (names : List (List ℕ)) → (messages : List Message) → (locate : ℕ) → Chosen.stocks chosen ≡ Some (lookup names) → locate < 65536
         → found_at (Chosen.stocks (chosen_past chosen messages)) locate ≡ is_of_one names (stock_past locate messages None) }
-    ensures known { (chosen : Chosen) → (names : List (List ℕ)) → (messages : List Message) → Chosen.stocks chosen ≡ Some (sought names)
+    ensures known { (chosen : Chosen) → (names : List (List ℕ)) → (messages : List Message) → Chosen.stocks chosen ≡ Some (lookup names)
         → are_found_in chosen messages ≡ list_all (λ name. list_any (has_name name) messages) names }
 {}
 

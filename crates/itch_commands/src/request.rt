@@ -2,7 +2,7 @@
 ghost use Rattle.std.specs.Prelude.{◌≡◌, ◌↔◌, Some, IsNone, IfSome, option_map, codes};
 ghost use Rattle.itch_commands.specs.Requests.{is_binary, only_of};
 
-use crate::expected::Expected;
+use crate::expected::Expectations;
 use crate::feed_part::FeedPart;
 use crate::filters::Filters;
 use crate::form::{BookForm, OrderForm, ReportForm, ShowForm};
@@ -44,7 +44,7 @@ pub enum Command<'a> {
     /// Check that a file follows the order rules and meets the expectations, and count its messages.
     Check {
         limit: Limit,
-        expected: Expected,
+        expected: Expectations,
         form: ReportForm,
     },
     /// Write the contents of a day file, in numbers.

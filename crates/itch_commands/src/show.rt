@@ -12,9 +12,9 @@ mod found;
 mod headings;
 mod lines;
 mod orders;
-mod recorded;
 mod rows;
 mod sink;
+mod snapshot_file;
 
 use crate::choice::Choice;
 use crate::fault::{Source, ToolFault};
@@ -26,9 +26,9 @@ use itch_day::{Limit, PartStop, pass_stop, read_part};
 use itch_frame::{BlockReader, CountedRead, CountedWrite};
 use itch_market::Stop;
 pub use orders::orders_blocks;
-pub use recorded::show_snapshot;
 use sink::ShownLines;
 pub(crate) use sink::stopped;
+pub use snapshot_file::show_snapshot;
 use std::alloc::Allocator;
 
 /// Writes a line for each message of a day file or a snapshot file, in the form of [`itch_codec::show`].

@@ -5,7 +5,10 @@ ghost use Rattle.itch_day.specs.Limits.{counted};
 ghost use Rattle.itch_commands.specs.Readings.{FromBlocks, FromReader};
 
 mod checkpoint;
-mod pass;
+mod point_market;
+mod point_reader;
+mod points;
+mod saving;
 mod stocks;
 
 use crate::fault::{Source, ToolFault};
@@ -15,11 +18,14 @@ use crate::writing::write_closed_of;
 pub use checkpoint::has_each;
 use itch_book::OrderBook;
 use itch_codec::Seq;
+pub use itch_day::DayCursor;
 use itch_day::Limit;
-pub use itch_day::Mark;
 use itch_frame::{BlockReader, CountedRead, CountedWrite};
 use itch_market::{LocateSet, Market};
-pub use pass::Pass;
+pub use point_market::Followed;
+pub use point_reader::PointReader;
+pub use points::{PointLimits, Points, is_longer};
+pub use saving::{PointSaver, save_points};
 use std::alloc::Allocator;
 pub use stocks::snap_stocks;
 

@@ -2,7 +2,7 @@
 ghost use Rattle.std.specs.Prelude.{◌≡◌};
 ghost use Rattle.itch_commands.specs.Starts.{first, is_begun, is_beyond, is_since, since_after, start_after, start_past};
 
-use itch_day::Mark;
+use itch_day::DayCursor;
 
 /// The beginning of a range in the messages of a file: the later of the two. The range ends with the file, or with the part that is read.
 #[derive(Clone, Copy, Debug, PartialEq, Eq)]
@@ -43,21 +43,21 @@ impl Start {
         }
     }
 
-    /// Returns whether all messages of a mark are before the range: there are no more of them than messages before the range, or none of them
+    /// Returns whether all messages before a cursor are before the range: there are no more of them than messages before the range, or none of them
     /// is at the time where the range begins, or later.
-    pub fn is_beyond(&self, mark: &Mark) -> bool
-        ensures { result ≡ is_beyond self.now mark.now }
+    pub fn is_beyond(&self, cursor: &DayCursor) -> bool
+        ensures { result ≡ is_beyond self.now cursor.now }
     {
-        mark.count <= self.before || !is_since(self.since, mark.latest)
+        cursor.count <= self.before || !is_since(self.since, cursor.latest)
     }
 
-    /// Returns the beginning of the range in the messages after those of a mark.
-    pub fn past(self, mark: Mark) -> Start
-        ensures { result ≡ start_past self mark }
+    /// Returns the beginning of the range in the messages after a cursor.
+    pub fn past(self, cursor: DayCursor) -> Start
+        ensures { result ≡ start_past self cursor }
     {
         Start {
-            before: self.before.saturating_sub(mark.count),
-            since: since_after(self.since, mark.latest),
+            before: self.before.saturating_sub(cursor.count),
+            since: since_after(self.since, cursor.latest),
         }
     }
 }

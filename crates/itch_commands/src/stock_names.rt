@@ -2,7 +2,7 @@
 ghost use Rattle.std.specs.Prelude.{◌≡◌, ◌==◌, ℕ, List, IfOk, Some, None, cond, map, length, bytes_eq, false};
 ghost use Rattle.std.specs.List.{list_all, list_any};
 ghost use Rattle.std.specs.HashMap.{get_by};
-ghost use Rattle.itch_commands.specs.Sought.{has_come, is_one_of, others};
+ghost use Rattle.itch_commands.specs.Lookup.{has_come, is_one_of, others};
 ghost use Rattle.itch_commands.specs.Stocks.{names_of};
 
 use std::alloc::{AllocError, Allocator};
@@ -11,20 +11,20 @@ use std::hash::{BuildHasherDefault, FoldHasher};
 use std::marker::Model;
 
 // For each name whether it has come.
-type Marks<'a, A> = HashMap<&'a str, bool, BuildHasherDefault<FoldHasher>, A>;
+type Arrivals<'a, A> = HashMap<&'a str, bool, BuildHasherDefault<FoldHasher>, A>;
 
 /// The names of stocks in a search, and which of them have come. Each is found by its hash, so their number does not matter.
 #[derive(Drop)]
 pub struct StockNames<'a, A: Allocator> {
     names: Vec<&'a str, A>,
-    come: Marks<'a, A>,
+    come: Arrivals<'a, A>,
 }
 
 impl<'a, A: Allocator> Model for StockNames<'a, A> {
     ghost use Rattle.std.specs.Prelude.{◌≡◌, ℕ, List, is_some, map, not, bytes_eq};
     ghost use Rattle.std.specs.List.{filter, list_any};
     ghost use Rattle.std.specs.HashMap.{get_by};
-    ghost use Rattle.itch_commands.specs.Sought.{Names, has_come};
+    ghost use Rattle.itch_commands.specs.Lookup.{Names, has_come};
 
     ghost Value = { Names };
 
@@ -73,13 +73,13 @@ impl<A: Allocator> StockNames<'_, A> {
 }
 
 // Returns whether all of these names have come.
-fn all_come<A: Allocator>(come: &Marks<'_, A>, names: &[&str]) -> bool
+fn all_come<A: Allocator>(come: &Arrivals<'_, A>, names: &[&str]) -> bool
     ensures { result ≡ list_all (λ name. has_come (get_by (λ k. bytes_eq name.now k.now) come.now)) names.now }
 {
     names.iter().all(|name| has_come(come, name))
 }
 
-fn has_come<A: Allocator>(come: &Marks<'_, A>, name: &str) -> bool
+fn has_come<A: Allocator>(come: &Arrivals<'_, A>, name: &str) -> bool
     ensures { result ≡ has_come (get_by (λ k. bytes_eq name.now k.now) come.now) }
 {
     match come.get(name) {
@@ -106,7 +106,7 @@ fn names_in<'a, A: Allocator>(alloc: A, text: &'a str) -> Result<Vec<&'a str, A>
 fn none_come<'a, A: Allocator + Copy>(
     alloc: A,
     names: &[&'a str],
-) -> Result<Marks<'a, A>, AllocError>
+) -> Result<Arrivals<'a, A>, AllocError>
     ensures { IfOk result (λ come. (name : List ℕ) → get_by (λ k. bytes_eq name k.now) come ≡ cond (list_any (λ n. bytes_eq name n.now) names.now) (Some false) None) }
 {
     let mut come = HashMap::new(alloc);

@@ -125,16 +125,16 @@ module _ {R T F : Type 0} (remaining : R → Option (List ℕ)) (failures : R �
         let below : count < most = subst P wanted before in omega (arith, below, within, is)
 
   -- the two parts have the effect of one reading of the second part, from where the first one began
-  pub joined : (old mid new : Reading R) (before mark marked : ℕ) (t u v : T) (first second : PartStop F) → GoesOn first → IsNoEarlier one.until other.until → IsWithin other mark
-      → (first ≡ Full) ⊎ IsBefore other mark
-      → ReadsPart remaining failures takes refuses one old mid before mark t first u → ReadsPart remaining failures takes refuses other mid new mark marked u second v
-      → ReadsPart remaining failures takes refuses other old new before marked t second v
-  joined old mid new before mark marked t u v first second on later within more begun then_on =
+  pub joined : (old mid new : Reading R) (before cursor tracked : ℕ) (t u v : T) (first second : PartStop F) → GoesOn first → IsNoEarlier one.until other.until → IsWithin other cursor
+      → (first ≡ Full) ⊎ IsBefore other cursor
+      → ReadsPart remaining failures takes refuses one old mid before cursor t first u → ReadsPart remaining failures takes refuses other mid new cursor tracked u second v
+      → ReadsPart remaining failures takes refuses other old new before tracked t second v
+  joined old mid new before cursor tracked t u v first second on later within more begun then_on =
       let ps = begun.payloads in
       let qs = then_on.payloads in
-      let counted : mark ≡ before + length ps = begun.taken.counted in
-      let counted_on : marked ≡ mark + length qs = then_on.taken.counted in
-      let kept : u ≡ begun.last = last_sink mark mid begun.last u first on begun.stops in
+      let counted : cursor ≡ before + length ps = begun.taken.counted in
+      let counted_on : tracked ≡ cursor + length qs = then_on.taken.counted in
+      let kept : u ≡ begun.last = last_sink cursor mid begun.last u first on begun.stops in
       record {
         payloads = ps ++ qs;
         last = then_on.last;
@@ -144,20 +144,20 @@ module _ {R T F : Type 0} (remaining : R → Option (List ℕ)) (failures : R �
           full = each-append IsFull ps qs begun.taken.full then_on.taken.full;
           early = each-append (IsNotLate other) ps qs (still_early one other ps later begun.taken.early) then_on.taken.early;
           wanted = λ some. within_both qs (then_on.taken.wanted) counted_on;
-          taken = takes_both takes t begun.last then_on.last before mark ps qs begun.taken.taken counted (subst (λ x. TakesAll takes x mark qs then_on.last) kept then_on.taken.taken);
+          taken = takes_both takes t begun.last then_on.last before cursor ps qs begun.taken.taken counted (subst (λ x. TakesAll takes x cursor qs then_on.last) kept then_on.taken.taken);
           counted = omega (arith, counted, counted_on, length-append ps qs);
         };
         stops = then_on.stops;
         leaves = subst (λ c. Leaves old c second new) (sym (length-append ps qs))
-            (leaves_both old mid new first (length ps) (length qs) on begun.leaves second (more_or_full mark marked (length qs) new then_on.last v first second more counted_on then_on.stops) then_on.leaves);
+            (leaves_both old mid new first (length ps) (length qs) on begun.leaves second (more_or_full cursor tracked (length qs) new then_on.last v first second more counted_on then_on.stops) then_on.leaves);
         counts = subst (λ f. Counts second f (failures new.reader)) (none_failed first (failures old.reader) (failures mid.reader) on begun.counts) then_on.counts;
       } where
-        within_both : (qs : List (List ℕ)) → (0 < length qs → IsWithin other marked) → marked ≡ mark + length qs → IsWithin other marked
-        within_both [] wanted is = subst (λ c. IsWithin other c) (let same : mark ≡ marked = omega (arith, is) in same) within
+        within_both : (qs : List (List ℕ)) → (0 < length qs → IsWithin other tracked) → tracked ≡ cursor + length qs → IsWithin other tracked
+        within_both [] wanted is = subst (λ c. IsWithin other c) (let same : cursor ≡ tracked = omega (arith, is) in same) within
         within_both (q ∷ qs) wanted is = wanted (omega arith)
 
   -- the same in the form for callers
-  pub joined_to : (old mid new : Reading R) (before mark marked : ℕ) (t u v : T) (first second : PartStop F) → GoesOnTo one first mark other
-      → ReadsPart remaining failures takes refuses one old mid before mark t first u → ReadsPart remaining failures takes refuses other mid new mark marked u second v
-      → ReadsPart remaining failures takes refuses other old new before marked t second v
-  joined_to old mid new before mark marked t u v first second to = joined old mid new before mark marked t u v first second to.goes_on to.later to.within to.more
+  pub joined_to : (old mid new : Reading R) (before cursor tracked : ℕ) (t u v : T) (first second : PartStop F) → GoesOnTo one first cursor other
+      → ReadsPart remaining failures takes refuses one old mid before cursor t first u → ReadsPart remaining failures takes refuses other mid new cursor tracked u second v
+      → ReadsPart remaining failures takes refuses other old new before tracked t second v
+  joined_to old mid new before cursor tracked t u v first second to = joined old mid new before cursor tracked t u v first second to.goes_on to.later to.within to.more

@@ -1,4 +1,4 @@
-pub mod Marks
+pub mod DayCursors
 pub mod PassedBlocks
 pub mod Progress
 pub mod Batches

@@ -53,12 +53,12 @@ takes_both takes t u v count more (p ∷ ps) qs (mid, first, rest) is next =
     (mid, first, takes_both takes mid u v (count + 1) more ps qs rest (omega (arith, is)) next)
 
 -- no more were taken than requested, by the last part that took some
-within_both : (limit : Limit) (mark marked : ℕ) (ps qs : List (List ℕ)) → (0 < length ps → IsWithin limit mark) → (0 < length qs → IsWithin limit marked) → marked ≡ mark + length qs
-    → 0 < length (ps ++ qs) → IsWithin limit marked
-within_both limit mark marked ps [] first second is some =
-    let same : marked ≡ mark = omega (arith, is) in
+within_both : (limit : Limit) (cursor tracked : ℕ) (ps qs : List (List ℕ)) → (0 < length ps → IsWithin limit cursor) → (0 < length qs → IsWithin limit tracked) → tracked ≡ cursor + length qs
+    → 0 < length (ps ++ qs) → IsWithin limit tracked
+within_both limit cursor tracked ps [] first second is some =
+    let same : tracked ≡ cursor = omega (arith, is) in
     subst (λ (n : ℕ). IsWithin limit n) (sym same) (first (omega (arith, some, length-append ps [])))
-within_both limit mark marked ps (q ∷ qs) first second is some = second (omega arith)
+within_both limit cursor tracked ps (q ∷ qs) first second is some = second (omega arith)
 
 module _ {R : Type 0} (old mid new : Reading R) where
   -- a stage in which no message is returned was not the first one
@@ -126,8 +126,8 @@ counts_on stop old mid new same counts = subst (λ f. Counts stop f new) same co
 
 module _ {R T F : Type 0} (remaining : R → Option (List ℕ)) (failures : R → Failures) (takes : T → ℕ → List ℕ → T → Type 0) (refuses : T → ℕ → List ℕ → F → T → Type 0) (limit : Limit) where
   -- no message is taken at first
-  pub going_first : (r : Reading R) (mark : ℕ) (t : T) → TakesSome remaining failures takes limit r r mark mark t t
-  going_first r mark t = record {
+  pub going_first : (r : Reading R) (cursor : ℕ) (t : T) → TakesSome remaining failures takes limit r r cursor cursor t t
+  going_first r cursor t = record {
     payloads = [];
     taken = record { bytes = Consumes-nil (bytes_left remaining r); full = tt; early = tt; wanted = λ some. absurd (omega arith); taken = refl; counted = omega arith };
     passes = record { unread = λ _. refl; given = λ some. absurd (omega arith) };
@@ -135,9 +135,9 @@ module _ {R T F : Type 0} (remaining : R → Option (List ℕ)) (failures : R �
   }
 
   -- then one more is taken
-  pub going_on : (old mid new : Reading R) (before mark marked : ℕ) (t u v : T) → TakesSome remaining failures takes limit old mid before mark t u → IsBefore limit mark → Steps remaining failures takes refuses limit mid new mark marked u (Ok tt) v
-      → TakesSome remaining failures takes limit old new before marked t v
-  going_on old mid new before mark marked t u v going few (p, off, full, (room, early, next, past), held, given, unended, uncut, uncounted) =
+  pub going_on : (old mid new : Reading R) (before cursor tracked : ℕ) (t u v : T) → TakesSome remaining failures takes limit old mid before cursor t u → IsBefore limit cursor → Steps remaining failures takes refuses limit mid new cursor tracked u (Ok tt) v
+      → TakesSome remaining failures takes limit old new before tracked t v
+  going_on old mid new before cursor tracked t u v going few (p, off, full, (room, early, next, past), held, given, unended, uncut, uncounted) =
       let ps = going.payloads in
       let so_far = going.taken in
       record {
@@ -146,8 +146,8 @@ module _ {R T F : Type 0} (remaining : R → Option (List ℕ)) (failures : R �
           bytes = consumed_more (bytes_left remaining old) (bytes_left remaining mid) (bytes_left remaining new) ps p so_far.bytes off;
           full = each-push IsFull ps p so_far.full full;
           early = each-push (IsNotLate limit) ps p so_far.early early;
-          wanted = λ some. within_more limit mark marked few past;
-          taken = takes_push takes t before ps u p v (mark + 1) so_far.taken (ap (λ k. k + 1) so_far.counted) next;
+          wanted = λ some. within_more limit cursor tracked few past;
+          taken = takes_push takes t before ps u p v (cursor + 1) so_far.taken (ap (λ k. k + 1) so_far.counted) next;
           counted = omega (arith, past, so_far.counted, length-append ps (p ∷ []));
         };
         passes = passes_on old mid new (length ps) (length (ps ++ p ∷ [])) going.passes (held, given, unended, uncut) (length-append ps (p ∷ []));
@@ -155,9 +155,9 @@ module _ {R T F : Type 0} (remaining : R → Option (List ℕ)) (failures : R �
       }
 
   -- then some more are taken, possibly none
-  pub going_both : (old mid new : Reading R) (before mark marked : ℕ) (t u v : T) → TakesSome remaining failures takes limit old mid before mark t u
-      → TakesSome remaining failures takes limit mid new mark marked u v → TakesSome remaining failures takes limit old new before marked t v
-  going_both old mid new before mark marked t u v first second =
+  pub going_both : (old mid new : Reading R) (before cursor tracked : ℕ) (t u v : T) → TakesSome remaining failures takes limit old mid before cursor t u
+      → TakesSome remaining failures takes limit mid new cursor tracked u v → TakesSome remaining failures takes limit old new before tracked t v
+  going_both old mid new before cursor tracked t u v first second =
       let ps = first.payloads in
       let qs = second.payloads in
       record {
@@ -167,8 +167,8 @@ module _ {R T F : Type 0} (remaining : R → Option (List ℕ)) (failures : R �
               (Consumes-trans (bytes_left remaining old) (bytes_left remaining mid) (bytes_left remaining new) (blocks ps) (blocks qs) first.taken.bytes second.taken.bytes);
           full = each-append IsFull ps qs first.taken.full second.taken.full;
           early = each-append (IsNotLate limit) ps qs first.taken.early second.taken.early;
-          wanted = λ some. within_both limit mark marked ps qs first.taken.wanted second.taken.wanted second.taken.counted some;
-          taken = takes_both takes t u v before mark ps qs first.taken.taken first.taken.counted second.taken.taken;
+          wanted = λ some. within_both limit cursor tracked ps qs first.taken.wanted second.taken.wanted second.taken.counted some;
+          taken = takes_both takes t u v before cursor ps qs first.taken.taken first.taken.counted second.taken.taken;
           counted = omega (arith, first.taken.counted, second.taken.counted, length-append ps qs);
         };
         passes = subst (λ n. Passes old n new) (sym (length-append ps qs)) (passes_both old mid new (length ps) (length qs) first.passes second.passes);
@@ -176,9 +176,9 @@ module _ {R T F : Type 0} (remaining : R → Option (List ℕ)) (failures : R �
       }
 
   -- and there the part stops
-  pub going_stops : (old mid new : Reading R) (before mark marked : ℕ) (t u v : T) (stop : PartStop F) → TakesSome remaining failures takes limit old mid before mark t u → IsBefore limit mark
-      → Steps remaining failures takes refuses limit mid new mark marked u (Err stop) v → ReadsPart remaining failures takes refuses limit old new before marked t stop v
-  going_stops old mid new before mark marked t u v stop going few (same, keeps, stops, stays, counts) =
+  pub going_stops : (old mid new : Reading R) (before cursor tracked : ℕ) (t u v : T) (stop : PartStop F) → TakesSome remaining failures takes limit old mid before cursor t u → IsBefore limit cursor
+      → Steps remaining failures takes refuses limit mid new cursor tracked u (Err stop) v → ReadsPart remaining failures takes refuses limit old new before tracked t stop v
+  going_stops old mid new before cursor tracked t u v stop going few (same, keeps, stops, stays, counts) =
       let so_far = going.taken in
       record {
         payloads = going.payloads;
@@ -192,18 +192,18 @@ module _ {R T F : Type 0} (remaining : R → Option (List ℕ)) (failures : R �
           counted = same ∙ so_far.counted;
         };
         stops = subst (λ (m : ℕ). StopsAt remaining refuses limit m new u stop v) (sym same) stops;
-        leaves = leaves_at remaining refuses limit old new (length going.payloads) mark u v stop few stops (stays_first old mid new (length going.payloads) going.passes stays);
+        leaves = leaves_at remaining refuses limit old new (length going.payloads) cursor u v stop few stops (stays_first old mid new (length going.payloads) going.passes stays);
         counts = counts_on stop (failures old.reader) (failures mid.reader) (failures new.reader) going.uncounted counts;
       }
 
   -- or the requested number was taken
-  pub going_full : (old now : Reading R) (before mark : ℕ) (t u : T) → TakesSome remaining failures takes limit old now before mark t u → most_of limit.after ≤ mark → mark ≤ 10 ^ 19 - 1
-      → ReadsPart remaining failures takes refuses limit old now before mark t Full u
-  going_full old now before mark t u going all few = record {
+  pub going_full : (old now : Reading R) (before cursor : ℕ) (t u : T) → TakesSome remaining failures takes limit old now before cursor t u → most_of limit.after ≤ cursor → cursor ≤ 10 ^ 19 - 1
+      → ReadsPart remaining failures takes refuses limit old now before cursor t Full u
+  going_full old now before cursor t u going all few = record {
     payloads = going.payloads;
     last = u;
     taken = going.taken;
-    stops = (refl, full_at limit.after mark all few);
+    stops = (refl, full_at limit.after cursor all few);
     leaves = going.passes;
     counts = going.uncounted;
   }

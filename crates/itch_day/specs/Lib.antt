@@ -1,6 +1,6 @@
 pub mod Batches
 pub mod Limits
-pub mod Marks
+pub mod DayCursors
 pub mod Sinks
 pub mod Parts
 pub mod Passing

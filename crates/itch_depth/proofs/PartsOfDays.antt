@@ -9,7 +9,7 @@ use Rattle.itch_codec.specs.declared.orders.Side.TheVariants.{Buy, Sell}
 use Rattle.itch_frame.specs.Reading.{Reading}
 use Rattle.itch_frame.specs.declared.tally.Failures.{Failures}
 use Rattle.itch_day.specs.declared.limit.Limit.{Limit}
-use Rattle.itch_day.specs.declared.mark.Mark.{Mark}
+use Rattle.itch_day.specs.declared.cursor.DayCursor.{DayCursor}
 use Rattle.itch_book.specs.declared.order.Order.{Order}
 use Rattle.itch_book.specs.Orders.{lay, AllFit}
 use Rattle.itch_book.proofs.Distinct.{live_fit}
@@ -105,8 +105,8 @@ refused_part set reads (Locates list) fault refused = inl refused
 refused_part set reads (Stocks names) fault refused = inl refused
 
 module _ {R W : Type 0} (remaining : R → Option (List ℕ)) (failed_reads : R → Failures) (contents : W → Option (List ℕ)) (failed_writes : W → Failures)
-    (lines : (ℕ → Bool) → Content → List ℕ) (same : IsOfMarket lines) (set : Option Wanted) (limit : Limit) (first now : Reading R) (m : Content) (mark : Mark)
-    (read : IsRead remaining failed_reads limit first now m mark) where
+    (lines : (ℕ → Bool) → Content → List ℕ) (same : IsOfMarket lines) (set : Option Wanted) (limit : Limit) (first now : Reading R) (m : Content) (cursor : DayCursor)
+    (read : IsRead remaining failed_reads limit first now m cursor) where
   -- the market of the part, in the order of its messages
   abbrev part : Content
   part = run (map message_of read.payloads)
@@ -140,8 +140,8 @@ module _ {R W : Type 0} (remaining : R → Option (List ℕ)) (failed_reads : R 
     subst (λ text. WritesOutput contents failed_writes text true old result new) (lines_part s n (is_market set m n s chosen)) wrote,
   )
 
-module _ {R : Type 0} (remaining : R → Option (List ℕ)) (failed_reads : R → Failures) (set : Option Wanted) (limit : Limit) (first now : Reading R) (m : Content) (mark : Mark)
-    (read : IsRead remaining failed_reads limit first now m mark) where
+module _ {R : Type 0} (remaining : R → Option (List ℕ)) (failed_reads : R → Failures) (set : Option Wanted) (limit : Limit) (first now : Reading R) (m : Content) (cursor : DayCursor)
+    (read : IsRead remaining failed_reads limit first now m cursor) where
   abbrev whole : Content
   whole = run (map message_of read.payloads)
 

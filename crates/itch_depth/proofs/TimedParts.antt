@@ -7,16 +7,16 @@ use Rattle.itch_frame.specs.declared.tally.Failures.{Failures}
 use Rattle.itch_codec.specs.Messages.{message_of}
 use Rattle.itch_codec.specs.declared.message.Message.{Message}
 use Rattle.itch_day.specs.Limits.{IsNotLate, counted, is_late}
-use Rattle.itch_day.specs.Marks.{RefusesMarked, TakesMarked, first_mark, mark_after, mark_past}
+use Rattle.itch_day.specs.DayCursors.{RefusesTracked, TakesTracked, first_cursor, cursor_after, cursor_past}
 use Rattle.itch_day.specs.Parts.{Counts as CountsPart, GoesOnTo, Leaves, ReadsPart, StopsAt, UnlessRefused}
 use Rattle.itch_day.specs.Sinks.{Decodes, TakesAll}
 use Rattle.itch_day.specs.declared.limit.Limit.{Limit}
-use Rattle.itch_day.specs.declared.mark.Mark.{Mark}
-use Rattle.itch_day.specs.declared.marked.Marked.{Marked}
+use Rattle.itch_day.specs.declared.cursor.DayCursor.{DayCursor}
+use Rattle.itch_day.specs.declared.tracked.Tracked.{Tracked}
 use Rattle.itch_day.specs.declared.stop.PartStop.{PartStop}
 use Rattle.itch_day.specs.declared.stop.PartStop.TheVariants as part
 use Rattle.itch_day.proofs.Joined.{joined_to}
-use Rattle.itch_day.proofs.Marks.{count-mark_after}
+use Rattle.itch_day.proofs.DayCursors.{count-cursor_after}
 use Rattle.itch_market.specs.Content.{Content, empty}
 use Rattle.itch_market.specs.Takings.{RefusesMessage, TakesMessage, reason_of}
 use Rattle.itch_market.specs.declared.refused.Refused.{Refused}
@@ -77,33 +77,33 @@ module _ {R T : Type 0} (remaining : R → Option (List ℕ)) (failed_reads : R 
   abbrev Left : T → ℕ → List ℕ → Untaken → T → Type 0
   Left = LeavesTimed locates market own until
 
-  -- its market with a mark
-  abbrev marked_by : Mark → T → Marked Content
-  marked_by mark s = record { sink = market s; mark = mark }
+  -- its market with a cursor
+  abbrev tracked_by : DayCursor → T → Tracked Content
+  tracked_by cursor s = record { sink = market s; cursor = cursor }
 
-  record AreTimed (s : T) (mark : Mark) (count : ℕ) (ps : List (List ℕ)) (t : T) : Type 0 where
+  record AreTimed (s : T) (cursor : DayCursor) (count : ℕ) (ps : List (List ℕ)) (t : T) : Type 0 where
     pub same : until t ≡ until s
     pub kept : Keeps (locates s) (locates t)
-    pub taken : TakesAll (TakesMarked TakesMessage) (marked_by mark s) count ps (marked_by (mark_after mark ps) t)
+    pub taken : TakesAll (TakesTracked TakesMessage) (tracked_by cursor s) count ps (tracked_by (cursor_after cursor ps) t)
     pub early : AllByRecursion (IsNotLate (before_time (until s))) ps
 
-  are_timed : (s t : T) (mark : Mark) (count : ℕ) (ps : List (List ℕ)) → TakesAll Takes s count ps t → AreTimed s mark count ps t
-  are_timed s t mark count [] takes = record { same = ap until takes; kept = inl (ap locates takes); taken = ap (marked_by mark) takes; early = tt }
-  are_timed s t mark count (p ∷ ps) (mid, (untils, keeps, took, early), rest) =
-      let later = are_timed mid t (mark_past mark p) (count + 1) ps rest in
+  are_timed : (s t : T) (cursor : DayCursor) (count : ℕ) (ps : List (List ℕ)) → TakesAll Takes s count ps t → AreTimed s cursor count ps t
+  are_timed s t cursor count [] takes = record { same = ap until takes; kept = inl (ap locates takes); taken = ap (tracked_by cursor) takes; early = tt }
+  are_timed s t cursor count (p ∷ ps) (mid, (untils, keeps, took, early), rest) =
+      let later = are_timed mid t (cursor_past cursor p) (count + 1) ps rest in
       record {
         same = later.same ∙ untils;
         kept = keeps_both (locates s) (locates mid) (locates t) keeps later.kept;
-        taken = (marked_by (mark_past mark p) mid, (took, refl), later.taken);
+        taken = (tracked_by (cursor_past cursor p) mid, (took, refl), later.taken);
         early = (early, subst (λ u. AllByRecursion (IsNotLate (before_time u)) ps) untils later.early);
       }
 
-  module _ (old new : Reading R) (before count : ℕ) (s t : T) (why : PartStop Untaken) (reads : ReadsPart remaining failed_reads Takes Left (counted None) old new before count s why t) (mark : Mark) where
-    are : AreTimed s mark before reads.payloads reads.last
-    are = are_timed s reads.last mark before reads.payloads reads.taken.taken
+  module _ (old new : Reading R) (before count : ℕ) (s t : T) (why : PartStop Untaken) (reads : ReadsPart remaining failed_reads Takes Left (counted None) old new before count s why t) (cursor : DayCursor) where
+    are : AreTimed s cursor before reads.payloads reads.last
+    are = are_timed s reads.last cursor before reads.payloads reads.taken.taken
 
-    abbrev after : Mark
-    after = mark_after mark reads.payloads
+    abbrev after : DayCursor
+    after = cursor_after cursor reads.payloads
 
     abbrev limit : Limit
     limit = before_time (until s)
@@ -111,69 +111,69 @@ module _ {R T : Type 0} (remaining : R → Option (List ℕ)) (failed_reads : R 
     abbrev Stops : PartStop Untaken → Type 0
     Stops stop = StopsAt remaining Left (counted None) count new reads.last stop t
 
-    marked_stops : (stop : PartStop Untaken) → Stops stop → StopsAt remaining (RefusesMarked RefusesMessage) limit count new (marked_by after reads.last) (stop_by stop) (marked_by after t)
-    marked_stops part.Full (same, (most, is, all)) = absurd (cc is)
-    marked_stops part.Late (same, before, (p, next, full, few, late)) = absurd (cc late.1)
-    marked_stops part.End (same, before, end) = (ap (marked_by after) same, tt, end)
-    marked_stops (part.Frame (Truncated held)) (same, before, cut, is_held, some) = (ap (marked_by after) same, tt, cut, is_held, some)
-    marked_stops (part.Frame (Read error)) (same, before, going) = (ap (marked_by after) same, tt, going)
-    marked_stops (part.Frame (Write sent error)) never = absurd never
-    marked_stops (part.Frame TooLong) never = absurd never
-    marked_stops part.TooMany (same, before, many) = (ap (marked_by after) same, tt, many)
-    marked_stops (part.Refused untaken.Late) (before, (p, next, full, few, early, (same, late, apart))) =
-        (ap (marked_by after) same, tt, (p, next, full, few, (late.0, subst (λ (u : Option ℕ). is_late u (message_of p) ≡ true) are.same late.1)))
-    marked_stops (part.Refused (untaken.Refused f)) (before, (p, next, full, few, early, (same, (refuses, not_late), apart))) = (
+    tracked_stops : (stop : PartStop Untaken) → Stops stop → StopsAt remaining (RefusesTracked RefusesMessage) limit count new (tracked_by after reads.last) (stop_by stop) (tracked_by after t)
+    tracked_stops part.Full (same, (most, is, all)) = absurd (cc is)
+    tracked_stops part.Late (same, before, (p, next, full, few, late)) = absurd (cc late.1)
+    tracked_stops part.End (same, before, end) = (ap (tracked_by after) same, tt, end)
+    tracked_stops (part.Frame (Truncated held)) (same, before, cut, is_held, some) = (ap (tracked_by after) same, tt, cut, is_held, some)
+    tracked_stops (part.Frame (Read error)) (same, before, going) = (ap (tracked_by after) same, tt, going)
+    tracked_stops (part.Frame (Write sent error)) never = absurd never
+    tracked_stops (part.Frame TooLong) never = absurd never
+    tracked_stops part.TooMany (same, before, many) = (ap (tracked_by after) same, tt, many)
+    tracked_stops (part.Refused untaken.Late) (before, (p, next, full, few, early, (same, late, apart))) =
+        (ap (tracked_by after) same, tt, (p, next, full, few, (late.0, subst (λ (u : Option ℕ). is_late u (message_of p) ≡ true) are.same late.1)))
+    tracked_stops (part.Refused (untaken.Refused f)) (before, (p, next, full, few, early, (same, (refuses, not_late), apart))) = (
       tt,
       (p, next, full, few, subst (λ u. IsNotLate (before_time u) p) are.same not_late, (subst (RefusesMessage (market reads.last) (count + 1) p f) (ap market (sym same)) refuses, refl)),
     )
 
-    marked_leaves : (stop : PartStop Untaken) → Leaves old (length reads.payloads) stop new → Leaves old (length reads.payloads) (stop_by stop) new
-    marked_leaves part.Full stays = stays
-    marked_leaves part.Late stays = stays
-    marked_leaves part.End stays = stays
-    marked_leaves (part.Frame f) stays = stays
-    marked_leaves part.TooMany stays = stays
-    marked_leaves (part.Refused untaken.Late) stays = stays
-    marked_leaves (part.Refused (untaken.Refused f)) stays = stays
+    tracked_leaves : (stop : PartStop Untaken) → Leaves old (length reads.payloads) stop new → Leaves old (length reads.payloads) (stop_by stop) new
+    tracked_leaves part.Full stays = stays
+    tracked_leaves part.Late stays = stays
+    tracked_leaves part.End stays = stays
+    tracked_leaves (part.Frame f) stays = stays
+    tracked_leaves part.TooMany stays = stays
+    tracked_leaves (part.Refused untaken.Late) stays = stays
+    tracked_leaves (part.Refused (untaken.Refused f)) stays = stays
 
-    marked_counts : (stop : PartStop Untaken) → CountsPart stop (failed_reads old.reader) (failed_reads new.reader) → CountsPart (stop_by stop) (failed_reads old.reader) (failed_reads new.reader)
-    marked_counts part.Full same = same
-    marked_counts part.Late same = same
-    marked_counts part.End same = same
-    marked_counts (part.Frame f) same = same
-    marked_counts part.TooMany same = same
-    marked_counts (part.Refused untaken.Late) same = same
-    marked_counts (part.Refused (untaken.Refused f)) same = same
+    tracked_counts : (stop : PartStop Untaken) → CountsPart stop (failed_reads old.reader) (failed_reads new.reader) → CountsPart (stop_by stop) (failed_reads old.reader) (failed_reads new.reader)
+    tracked_counts part.Full same = same
+    tracked_counts part.Late same = same
+    tracked_counts part.End same = same
+    tracked_counts (part.Frame f) same = same
+    tracked_counts part.TooMany same = same
+    tracked_counts (part.Refused untaken.Late) same = same
+    tracked_counts (part.Refused (untaken.Refused f)) same = same
 
-    -- for a market with a mark this was a part that ends before the time
-    timed_part : ReadsPart remaining failed_reads (TakesMarked TakesMessage) (RefusesMarked RefusesMessage) limit old new before count (marked_by mark s) (stop_by why) (marked_by after t)
+    -- for a market with a cursor this was a part that ends before the time
+    timed_part : ReadsPart remaining failed_reads (TakesTracked TakesMessage) (RefusesTracked RefusesMessage) limit old new before count (tracked_by cursor s) (stop_by why) (tracked_by after t)
     timed_part = record {
       payloads = reads.payloads;
-      last = marked_by after reads.last;
+      last = tracked_by after reads.last;
       taken = record { bytes = reads.taken.bytes; full = reads.taken.full; early = are.early; wanted = λ some. tt; taken = are.taken; counted = reads.taken.counted };
-      stops = marked_stops why reads.stops;
-      leaves = marked_leaves why reads.leaves;
-      counts = marked_counts why reads.counts;
+      stops = tracked_stops why reads.stops;
+      leaves = tracked_leaves why reads.leaves;
+      counts = tracked_counts why reads.counts;
     }
 
   module _ (old new : Reading R) (before count : ℕ) (s t : T) (why : PartStop Untaken) (reads : ReadsPart remaining failed_reads Takes Left (counted None) old new before count s why t) where
     -- the reading stands at the time then, if it stood at an earlier one before
-    pub timed_stops : (first : Reading R) (limit : Limit) (stop : PartStop Refused) (marked : Marked Content) → Stands remaining failed_reads limit first old marked stop → IsAt marked (market s) before
-        → GoesOnTo limit stop marked.mark.count (before_time (until s)) → StopsSo remaining failed_reads (before_time (until s)) first new (reason_of (stop_by why)) (market t) count
-    timed_stops first limit stop marked stands at to =
-        let mark = marked.mark in
-        let later : Marked Content = record { sink = market t; mark = mark_after mark reads.payloads } in
-        let on = subst (λ k. ReadsPart remaining failed_reads (TakesMarked TakesMessage) (RefusesMarked RefusesMessage) (before_time (until s)) old new k count (record { sink = market s; mark = mark }) (stop_by why) later)
-        (sym at.counted) (timed_part old new before count s t why reads mark) in
-        let from = subst (λ m. ReadsPart remaining failed_reads (TakesMarked TakesMessage) (RefusesMarked RefusesMessage) (before_time (until s)) old new mark.count count (record { sink = m; mark = mark }) (stop_by why) later)
+    pub timed_stops : (first : Reading R) (limit : Limit) (stop : PartStop Refused) (tracked : Tracked Content) → Stands remaining failed_reads limit first old tracked stop → IsAt tracked (market s) before
+        → GoesOnTo limit stop tracked.cursor.count (before_time (until s)) → StopsSo remaining failed_reads (before_time (until s)) first new (reason_of (stop_by why)) (market t) count
+    timed_stops first limit stop tracked stands at to =
+        let cursor = tracked.cursor in
+        let later : Tracked Content = record { sink = market t; cursor = cursor_after cursor reads.payloads } in
+        let on = subst (λ k. ReadsPart remaining failed_reads (TakesTracked TakesMessage) (RefusesTracked RefusesMessage) (before_time (until s)) old new k count (record { sink = market s; cursor = cursor }) (stop_by why) later)
+        (sym at.counted) (timed_part old new before count s t why reads cursor) in
+        let from = subst (λ m. ReadsPart remaining failed_reads (TakesTracked TakesMessage) (RefusesTracked RefusesMessage) (before_time (until s)) old new cursor.count count (record { sink = m; cursor = cursor }) (stop_by why) later)
         (sym at.market) on in
-        let number : later.mark.count ≡ count = (let more = count-mark_after mark reads.payloads in let all = reads.taken.counted in let had = at.counted in omega (arith, more, all, had)) in (
+        let number : later.cursor.count ≡ count = (let more = count-cursor_after cursor reads.payloads in let all = reads.taken.counted in let had = at.counted in omega (arith, more, all, had)) in (
           stop_by why,
           refl,
           (
             later,
             stands_on remaining failed_reads (before_time (until s)) first new count later (stop_by why) number
-                (joined_to remaining failed_reads (TakesMarked TakesMessage) (RefusesMarked RefusesMessage) limit (before_time (until s)) first old new 0 mark.count count begun marked later stop (stop_by why) to stands from),
+                (joined_to remaining failed_reads (TakesTracked TakesMessage) (RefusesTracked RefusesMessage) limit (before_time (until s)) first old new 0 cursor.count count begun tracked later stop (stop_by why) to stands from),
             record { market = refl; counted = number },
           ),
         )
@@ -227,7 +227,7 @@ pub new_stands : {R : Type 0} (remaining : R → Option (List ℕ)) (failed_read
     → Stands remaining failed_reads (record { after = Some 0; until = Some 0 }) given reader begun part.Full
 new_stands remaining failed_reads given reader same =
     subst (λ (r : Reading _). Stands remaining failed_reads (record { after = Some 0; until = Some 0 }) given r begun part.Full) (sym same)
-    (stands_first remaining failed_reads (Some 0) given empty first_mark refl refl)
+    (stands_first remaining failed_reads (Some 0) given empty first_cursor refl refl)
 
 pub new_at : (m : Content) (count : ℕ) → m ≡ empty → count ≡ 0 → IsAt begun m count
 new_at m count none first = record { market = sym none; counted = sym first }

@@ -7,7 +7,7 @@ use Rattle.itch_frame.specs.declared.tally.Failures.{Failures}
 use Rattle.itch_day.specs.Parts.{GoesOnTo}
 use Rattle.itch_day.specs.Passing.{left_by}
 use Rattle.itch_day.specs.declared.limit.Limit.{Limit}
-use Rattle.itch_day.specs.declared.marked.Marked.{Marked}
+use Rattle.itch_day.specs.declared.tracked.Tracked.{Tracked}
 use Rattle.itch_day.specs.declared.stop.PartStop.{PartStop}
 use Rattle.itch_day.specs.declared.stop.PartStop.TheVariants.{End, Full, Late}
 use Rattle.itch_market.specs.Content.{Content}
@@ -68,14 +68,14 @@ goes_later time next count stop later (inl is) = subst (λ s. GoesOnTo (up_to ti
 goes_later time next count stop later (inr is) = subst (λ s. GoesOnTo (up_to time) s count (up_to next)) (sym is) (record { goes_on = tt; later = later; within = tt; more = inr tt })
 
 module _ {R W : Type 0} (remaining : R → Option (List ℕ)) (failed_reads : R → Failures) (contents : W → Option (List ℕ)) (failed_writes : W → Failures)
-    (request : BookRequest) (set : Option Wanted) (first : Reading R) (time : ℕ) (now : Reading R) (marked : Marked Content) where
+    (request : BookRequest) (set : Option Wanted) (first : Reading R) (time : ℕ) (now : Reading R) (tracked : Tracked Content) where
   -- a part that is refused lacks no locate
   refused_stops : (limit : Limit) (then : Reading R) (fault : ToolFault) → ReadsDay remaining failed_reads Only limit first then (Err fault) → false ≡ continues (Err fault)
   refused_stops limit then (tool.Stopped at end) day = refl
   refused_stops limit then (tool.Short at count) day = refl
   refused_stops limit then (tool.Snap at f) day = refl
-  refused_stops limit then (tool.Unmet unmet) day = refl
-  refused_stops limit then (tool.Misfit misfit) day = refl
+  refused_stops limit then (tool.UnmetExpectation unmet) day = refl
+  refused_stops limit then (tool.FeedMismatch mismatch) day = refl
   refused_stops limit then tool.UnknownLocate day = absurd day
   refused_stops limit then tool.UnknownStock day = absurd day
   refused_stops limit then tool.OutOfMemory day = refl
@@ -85,42 +85,42 @@ module _ {R W : Type 0} (remaining : R → Option (List ℕ)) (failed_reads : R 
   refused_stops limit then tool.TooMany day = refl
 
   -- if the part before the time is refused, nothing is written
-  pub refused_on : (old : W) (fault : ToolFault) → ReadsUntil remaining failed_reads time first now (Err fault) marked
-      → ListsOn remaining failed_reads contents failed_writes request set first time now marked old (Err fault) old
+  pub refused_on : (old : W) (fault : ToolFault) → ReadsUntil remaining failed_reads time first now (Err fault) tracked
+      → ListsOn remaining failed_reads contents failed_writes request set first time now tracked old (Err fault) old
   refused_on old fault (stop, day) = (
     (left_by stop now, inl (fault, refl, refused_part set (ReadsFile remaining failed_reads Only (Day (up_to time)) first (left_by stop now)) request.selection fault day, refl)),
-    subst (λ b. MatchBool b ((stop : PartStop Refused) × ((stop ≡ Late) ⊎ (stop ≡ End)) × Stands remaining failed_reads (up_to time) first now marked stop) ⊤)
+    subst (λ b. MatchBool b ((stop : PartStop Refused) × ((stop ≡ Late) ⊎ (stop ≡ End)) × Stands remaining failed_reads (up_to time) first now tracked stop) ⊤)
         (refused_stops (up_to time) (left_by stop now) fault day) tt,
   )
 
   -- or else the books of the market are those of the part
   module _ (old new : W) (result : Result Bool ToolFault) where
-    at_stop : (stop : PartStop Refused) → (stop ≡ Late) ⊎ (stop ≡ End) → Stands remaining failed_reads (up_to time) first now marked stop
-        → IsRead remaining failed_reads (up_to time) first (left_by stop now) marked.sink marked.mark → ListsMarket contents failed_writes request set marked.sink time old result new
-        → ListsOn remaining failed_reads contents failed_writes request set first time now marked old result new
+    at_stop : (stop : PartStop Refused) → (stop ≡ Late) ⊎ (stop ≡ End) → Stands remaining failed_reads (up_to time) first now tracked stop
+        → IsRead remaining failed_reads (up_to time) first (left_by stop now) tracked.sink tracked.cursor → ListsMarket contents failed_writes request set tracked.sink time old result new
+        → ListsOn remaining failed_reads contents failed_writes request set first time now tracked old result new
     at_stop stop which stands read wrote = (
       (
         left_by stop now,
         part_listed remaining failed_reads contents failed_writes (timed_books request.form time request.depth) (timed_of_market request.form time request.depth) set (up_to time) first (left_by stop now)
-            marked.sink marked.mark read request.selection old new result wrote,
+            tracked.sink tracked.cursor read request.selection old new result wrote,
       ),
       later_if (continues result) (stop, which, stands),
     ) where
-      later_if : (b : Bool) → ((stop : PartStop Refused) × ((stop ≡ Late) ⊎ (stop ≡ End)) × Stands remaining failed_reads (up_to time) first now marked stop)
-          → MatchBool b ((stop : PartStop Refused) × ((stop ≡ Late) ⊎ (stop ≡ End)) × Stands remaining failed_reads (up_to time) first now marked stop) ⊤
+      later_if : (b : Bool) → ((stop : PartStop Refused) × ((stop ≡ Late) ⊎ (stop ≡ End)) × Stands remaining failed_reads (up_to time) first now tracked stop)
+          → MatchBool b ((stop : PartStop Refused) × ((stop ≡ Late) ⊎ (stop ≡ End)) × Stands remaining failed_reads (up_to time) first now tracked stop) ⊤
       later_if true h = h
       later_if false h = tt
 
-    pub listed_on : (more : Bool) → ReadsUntil remaining failed_reads time first now (Ok more) marked → ListsMarket contents failed_writes request set marked.sink time old result new
-        → ListsOn remaining failed_reads contents failed_writes request set first time now marked old result new
+    pub listed_on : (more : Bool) → ReadsUntil remaining failed_reads time first now (Ok more) tracked → ListsMarket contents failed_writes request set tracked.sink time old result new
+        → ListsOn remaining failed_reads contents failed_writes request set first time now tracked old result new
     listed_on true (stands, read) wrote = at_stop Late (inl refl) stands read wrote
     listed_on false (stands, read) wrote = at_stop End (inr refl) stands read wrote
 
 -- the state of a series before the times that are left
 pub record InTurn {R W : Type 0} (remaining : R → Option (List ℕ)) (failed_reads : R → Failures) (point : ℕ → W → Result Bool ToolFault → W → Type 0) (first : Reading R) (times left : List ℕ)
-    (answer : Result Bool ToolFault) (old new : W) (now : Reading R) (marked : Marked Content) : Type 0 where
+    (answer : Result Bool ToolFault) (old new : W) (now : Reading R) (tracked : Tracked Content) : Type 0 where
   pub rest : (end : W) (result : Result Bool ToolFault) → AtRest point answer left new result end → AtEach point times old result end
-  pub stands : (before : Limit) × (stop : PartStop Refused) × Stands remaining failed_reads before first now marked stop × ((next : ℕ) → IsFirst next left → GoesOnTo before stop marked.mark.count (up_to next))
+  pub stands : (before : Limit) × (stop : PartStop Refused) × Stands remaining failed_reads before first now tracked stop × ((next : ℕ) → IsFirst next left → GoesOnTo before stop tracked.cursor.count (up_to next))
   pub ascend : Ascend left
 
 -- the next time is not earlier
@@ -137,45 +137,45 @@ module _ {R W : Type 0} (remaining : R → Option (List ℕ)) (failed_reads : R 
   abbrev point : ℕ → W → Result Bool ToolFault → W → Type 0
   point = AtTime remaining failed_reads contents failed_writes request set first
 
-  pub turn_begun : (old : W) (start : Reading R) (marked : Marked Content) → Stands remaining failed_reads (record { after = Some 0; until = Some 0 }) first start marked Full → Ascend times
-      → InTurn remaining failed_reads point first times times (Ok true) old old start marked
-  turn_begun old start marked stands ascend = record {
+  pub turn_begun : (old : W) (start : Reading R) (tracked : Tracked Content) → Stands remaining failed_reads (record { after = Some 0; until = Some 0 }) first start tracked Full → Ascend times
+      → InTurn remaining failed_reads point first times times (Ok true) old old start tracked
+  turn_begun old start tracked stands ascend = record {
     rest = λ end result rest. rest_first point times old end result rest;
     stands = (record { after = Some 0; until = Some 0 }, Full, stands, λ next is. record { goes_on = tt; later = omega arith; within = tt; more = inl refl });
     ascend = ascend;
   }
 
-  module _ (time : ℕ) (left : List ℕ) (answer last : Result Bool ToolFault) (old mid new : W) (before now : Reading R) (began marked : Marked Content)
+  module _ (time : ℕ) (left : List ℕ) (answer last : Result Bool ToolFault) (old mid new : W) (before now : Reading R) (began tracked : Tracked Content)
       (turn : InTurn remaining failed_reads point first times (time ∷ left) last old mid before began)
-      (listed : ListsOn remaining failed_reads contents failed_writes request set first time now marked mid answer new) where
-    pub turn_on : true ≡ continues answer → InTurn remaining failed_reads point first times left answer old new now marked
+      (listed : ListsOn remaining failed_reads contents failed_writes request set first time now tracked mid answer new) where
+    pub turn_on : true ≡ continues answer → InTurn remaining failed_reads point first times left answer old new now tracked
     turn_on on =
-        let there : (stop : PartStop Refused) × ((stop ≡ Late) ⊎ (stop ≡ End)) × Stands remaining failed_reads (up_to time) first now marked stop =
-        subst (λ b. MatchBool b ((stop : PartStop Refused) × ((stop ≡ Late) ⊎ (stop ≡ End)) × Stands remaining failed_reads (up_to time) first now marked stop) ⊤) (sym on) listed.1 in
+        let there : (stop : PartStop Refused) × ((stop ≡ Late) ⊎ (stop ≡ End)) × Stands remaining failed_reads (up_to time) first now tracked stop =
+        subst (λ b. MatchBool b ((stop : PartStop Refused) × ((stop ≡ Late) ⊎ (stop ≡ End)) × Stands remaining failed_reads (up_to time) first now tracked stop) ⊤) (sym on) listed.1 in
         record {
           rest = λ end result rest. turn.rest end result (rest_on point time left mid new end answer result listed.0 on rest);
-          stands = (up_to time, there.0, there.2, λ next is. goes_later time next marked.mark.count there.0 (first_later time next left turn.ascend is) there.1);
+          stands = (up_to time, there.0, there.2, λ next is. goes_later time next tracked.cursor.count there.0 (first_later time next left turn.ascend is) there.1);
           ascend = later_ascend time left turn.ascend;
         }
 
     pub turn_off : false ≡ continues answer → AtEach point times old answer new
     turn_off off = turn.rest new answer (rest_off point time left mid new answer listed.0 off)
 
-  pub turn_ends : (left : List ℕ) (answer : Result Bool ToolFault) (old new : W) (now : Reading R) (marked : Marked Content) → left ≡ []
-      → InTurn remaining failed_reads point first times left answer old new now marked → AtEach point times old answer new
-  turn_ends left answer old new now marked none turn =
+  pub turn_ends : (left : List ℕ) (answer : Result Bool ToolFault) (old new : W) (now : Reading R) (tracked : Tracked Content) → left ≡ []
+      → InTurn remaining failed_reads point first times left answer old new now tracked → AtEach point times old answer new
+  turn_ends left answer old new now tracked none turn =
       turn.rest new answer (subst (λ ts. AtRest point answer ts new answer new) (sym none) (refl, refl))
 
   -- how the next time is read
-  pub turn_next : (time : ℕ) (left : List ℕ) (answer : Result Bool ToolFault) (old new : W) (now : Reading R) (marked : Marked Content)
-      → InTurn remaining failed_reads point first times (time ∷ left) answer old new now marked
-      → (before : Limit) × (stop : PartStop Refused) × Stands remaining failed_reads before first now marked stop × GoesOnTo before stop marked.mark.count (up_to time)
-  turn_next time left answer old new now marked turn = (turn.stands.0, turn.stands.1, turn.stands.2, turn.stands.3 time refl)
+  pub turn_next : (time : ℕ) (left : List ℕ) (answer : Result Bool ToolFault) (old new : W) (now : Reading R) (tracked : Tracked Content)
+      → InTurn remaining failed_reads point first times (time ∷ left) answer old new now tracked
+      → (before : Limit) × (stop : PartStop Refused) × Stands remaining failed_reads before first now tracked stop × GoesOnTo before stop tracked.cursor.count (up_to time)
+  turn_next time left answer old new now tracked turn = (turn.stands.0, turn.stands.1, turn.stands.2, turn.stands.3 time refl)
 
 -- the same for any beginning of the reading, with the market and the number of messages of a pass
 pub record EachInTurn {R W : Type 0} (remaining : R → Option (List ℕ)) (failed_reads : R → Failures) (contents : W → Option (List ℕ)) (failed_writes : W → Failures)
     (request : BookRequest) (set : Option Wanted) (times left : List ℕ) (answer : Result Bool ToolFault) (old new : W) (start : Reading R) (first_market : Content) (first_count : ℕ)
     (now : Reading R) (m : Content) (count : ℕ) : Type 0 where
-  pub turn : (first : Reading R) → (began : Marked Content) → Stands remaining failed_reads (record { after = Some 0; until = Some 0 }) first start began Full → IsAt began first_market first_count → Ascend times
-      → (marked : Marked Content)
-      × InTurn remaining failed_reads (AtTime remaining failed_reads contents failed_writes request set first) first times left answer old new now marked × IsAt marked m count
+  pub turn : (first : Reading R) → (began : Tracked Content) → Stands remaining failed_reads (record { after = Some 0; until = Some 0 }) first start began Full → IsAt began first_market first_count → Ascend times
+      → (tracked : Tracked Content)
+      × InTurn remaining failed_reads (AtTime remaining failed_reads contents failed_writes request set first) first times left answer old new now tracked × IsAt tracked m count

@@ -5,7 +5,7 @@ use Rattle.itch_frame.specs.Reading.{Reading}
 use Rattle.itch_frame.specs.declared.tally.Failures.{Failures}
 use Rattle.itch_day.specs.Limits.{counted}
 use Rattle.itch_day.specs.declared.limit.Limit.{Limit}
-use Rattle.itch_day.specs.declared.marked.Marked.{Marked}
+use Rattle.itch_day.specs.declared.tracked.Tracked.{Tracked}
 use Rattle.itch_day.specs.declared.stop.PartStop.{PartStop}
 use Rattle.itch_day.specs.declared.stop.PartStop.TheVariants as part
 use Rattle.itch_market.specs.Content.{Content}
@@ -111,9 +111,9 @@ module _ {W : Type 0} (contents : W → Option (List ℕ)) (failed_writes : W �
   ListsAfter (suc count) request set market time old result new = ListsMarket request set market time old result new
 
 -- the market of a point, after this number of messages
-pub record IsAt (marked : Marked Content) (m : Content) (count : ℕ) : Type 0 where
-  pub market : marked.sink ≡ m
-  pub counted : marked.mark.count ≡ count
+pub record IsAt (tracked : Tracked Content) (m : Content) (count : ℕ) : Type 0 where
+  pub market : tracked.sink ≡ m
+  pub counted : tracked.cursor.count ≡ count
 
 -- this holds if the reading stops at a time, or at the end of the file
 abbrev pub UnlessStopped : Option Stop → Type 0 → Type 0
@@ -126,14 +126,14 @@ module _ {R : Type 0} (remaining : R → Option (List ℕ)) (failed_reads : R �
   abbrev pub StopsSo : Limit → Reading R → Reading R → Option Stop → Content → ℕ → Type 0
   StopsSo limit first now why m count =
       (stop : PartStop Refused) × (reason_of stop ≡ why)
-      × ((marked : Marked Content) × Stands remaining failed_reads limit first now marked stop × IsAt marked m count)
+      × ((tracked : Tracked Content) × Stands remaining failed_reads limit first now tracked stop × IsAt tracked m count)
 
   -- the outcome of reading on up to a time, or to the end of the file
   abbrev pub ReadsTime : ℕ → Reading R → Reading R → Result Bool ToolFault → Content → ℕ → Type 0
-  ReadsTime time first now result m count = (marked : Marked Content) × ReadsUntil remaining failed_reads time first now result marked × IsAt marked m count
+  ReadsTime time first now result m count = (tracked : Tracked Content) × ReadsUntil remaining failed_reads time first now result tracked × IsAt tracked m count
 
   abbrev pub ReadsRest : Reading R → Reading R → Result ℕ ToolFault → Content → ℕ → Type 0
-  ReadsRest first now result m count = (marked : Marked Content) × ReadsOn remaining failed_reads (counted None) first now result marked × IsAt marked m count
+  ReadsRest first now result m count = (tracked : Tracked Content) × ReadsOn remaining failed_reads (counted None) first now result tracked × IsAt tracked m count
 
   -- at the end of the file its directory must have each selected locate and stock
   abbrev pub AtEnd : BookRequest → Option Wanted → Reading R → Result Bool ToolFault → Type 0
@@ -155,16 +155,16 @@ module _ {R W : Type 0} (remaining : R → Option (List ℕ)) (failed_reads : R 
       (now : Reading R) × ListsPart (timed_books request.form time request.depth) request.selection set (up_to time) first now old result new
 
   -- the same, and how the reading stands afterwards if later times follow
-  abbrev pub ListsOn : BookRequest → Option Wanted → Reading R → ℕ → Reading R → Marked Content → W → Result Bool ToolFault → W → Type 0
-  ListsOn request set first time now marked old result new =
+  abbrev pub ListsOn : BookRequest → Option Wanted → Reading R → ℕ → Reading R → Tracked Content → W → Result Bool ToolFault → W → Type 0
+  ListsOn request set first time now tracked old result new =
       AtTime request set first time old result new
       × MatchBool (continues result)
-      ((stop : PartStop Refused) × ((stop ≡ part.Late) ⊎ (stop ≡ part.End)) × Stands remaining failed_reads (up_to time) first now marked stop) ⊤
+      ((stop : PartStop Refused) × ((stop ≡ part.Late) ⊎ (stop ≡ part.End)) × Stands remaining failed_reads (up_to time) first now tracked stop) ⊤
 
   -- the same, with the market and the number of messages afterwards
   abbrev pub ListsThere : BookRequest → Option Wanted → Reading R → ℕ → Reading R → Content → ℕ → W → Result Bool ToolFault → W → Type 0
   ListsThere request set first time now m count old result new =
-      (marked : Marked Content) × ListsOn request set first time now marked old result new × IsAt marked m count
+      (tracked : Tracked Content) × ListsOn request set first time now tracked old result new × IsAt tracked m count
 
   -- `book` at a time before which the part has this many messages; nothing if it has none
   abbrev pub AtTimeAfter : ℕ → BookRequest → Option Wanted → Reading R → ℕ → W → Result Bool ToolFault → W → Type 0
@@ -177,9 +177,9 @@ module _ {R W : Type 0} (remaining : R → Option (List ℕ)) (failed_reads : R 
   AtNext request set first step multiple zero old result new = AtEnd remaining failed_reads request set first result × (new ≡ old)
   AtNext request set first step multiple (suc more) old result new =
       ((fault : ToolFault) × (now : Reading R) × (result ≡ Err fault) × ReadsDay remaining failed_reads Only (up_to (multiple * step)) first now (Err fault) × (new ≡ old))
-      ⊎ (((now : Reading R) × (marked : Marked Content) × Stands remaining failed_reads (up_to (multiple * step)) first now marked part.End × AtEnd remaining failed_reads request set first result × (new ≡ old))
-      ⊎ ((now : Reading R) × (marked : Marked Content) × Stands remaining failed_reads (up_to (multiple * step)) first now marked part.Late
-      × ((mid : W) × (answer : Result Bool ToolFault) × AtTimeAfter marked.mark.count request set first (multiple * step) old answer mid
+      ⊎ (((now : Reading R) × (tracked : Tracked Content) × Stands remaining failed_reads (up_to (multiple * step)) first now tracked part.End × AtEnd remaining failed_reads request set first result × (new ≡ old))
+      ⊎ ((now : Reading R) × (tracked : Tracked Content) × Stands remaining failed_reads (up_to (multiple * step)) first now tracked part.Late
+      × ((mid : W) × (answer : Result Bool ToolFault) × AtTimeAfter tracked.cursor.count request set first (multiple * step) old answer mid
       × MatchBool (continues answer) (AtNext request set first step (suc multiple) more mid result new) ((result ≡ answer) × (new ≡ mid)))))
 
   -- The books at the multiples of a duration: from the first after the first message to the last that is not after the last message. No

@@ -5,7 +5,7 @@ ghost use Rattle.itch_day.specs.Parts.{GoesOnTo};
 ghost use Rattle.itch_day.specs.declared.limit.Limit.{Limit as AnyLimit};
 ghost use Rattle.itch_day.specs.declared.stop.PartStop.{PartStop as AnyStop};
 ghost use Rattle.itch_day.specs.declared.stop.PartStop.TheVariants.{Full};
-ghost use Rattle.itch_day.specs.declared.marked.Marked.{Marked};
+ghost use Rattle.itch_day.specs.declared.tracked.Tracked.{Tracked};
 ghost use Rattle.itch_frame.specs.Reading.{Reading};
 ghost use Rattle.itch_market.specs.Content.{Content as AnyMarket};
 ghost use Rattle.itch_market.specs.declared.refused.Refused.{Refused as AnyRefused};
@@ -76,9 +76,9 @@ fn list_each<R: CountedRead, A: Allocator, B: OrderBook, W: CountedWrite>(
 ) -> Result<bool, ToolFault>
     requires apart { IsApart pass.old.markets.locates pass.old.markets.market pass.old.markets.own }
     requires fits { Fits pass.old.markets.locates request.selection (option_copied only) }
-    ensures { (first : Reading R) → (marked : Marked AnyMarket)
-        → Stands R.remaining R.failures (record { after = Some 0; until = Some 0 }) first pass.old.reader marked Full
-        → IsAt marked pass.old.markets.market pass.old.count → Ascend times.now
+    ensures { (first : Reading R) → (tracked : Tracked AnyMarket)
+        → Stands R.remaining R.failures (record { after = Some 0; until = Some 0 }) first pass.old.reader tracked Full
+        → IsAt tracked pass.old.markets.market pass.old.count → Ascend times.now
         → AtEach (AtTime R.remaining R.failures W.contents W.failures request.entry (option_copied only.entry) first) times.now out.old result out.new }
 {
     let mut answer = Ok(true);
@@ -102,9 +102,9 @@ fn list_at<R: CountedRead, A: Allocator, B: OrderBook, W: CountedWrite>(
 ) -> Result<bool, ToolFault>
     requires apart { IsApart pass.old.markets.locates pass.old.markets.market pass.old.markets.own }
     requires fits { Fits pass.old.markets.locates request.selection (option_copied only) }
-    ensures lists { (first : Reading R) → (before : AnyLimit) → (stop : AnyStop AnyRefused) → (marked : Marked AnyMarket)
-        → Stands R.remaining R.failures before first pass.old.reader marked stop → IsAt marked pass.old.markets.market pass.old.count
-        → GoesOnTo before stop marked.mark.count (up_to time)
+    ensures lists { (first : Reading R) → (before : AnyLimit) → (stop : AnyStop AnyRefused) → (tracked : Tracked AnyMarket)
+        → Stands R.remaining R.failures before first pass.old.reader tracked stop → IsAt tracked pass.old.markets.market pass.old.count
+        → GoesOnTo before stop tracked.cursor.count (up_to time)
         → ListsThere R.remaining R.failures W.contents W.failures request.entry (option_copied only.entry) first time pass.new.reader pass.new.markets.market pass.new.count out.old result out.new }
     ensures apart { continues result ≡ true → IsApart pass.new.markets.locates pass.new.markets.market pass.new.markets.own }
     ensures kept { Keeps pass.old.markets.locates pass.new.markets.locates }

@@ -5,7 +5,7 @@ ghost use Rattle.itch_frame.specs.Reading.{Reading};
 ghost use Rattle.itch_day.specs.Limits.{counted};
 ghost use Rattle.itch_day.specs.Parts.{GoesOnTo};
 ghost use Rattle.itch_day.specs.declared.limit.Limit.{Limit as AnyLimit};
-ghost use Rattle.itch_day.specs.declared.marked.Marked.{Marked};
+ghost use Rattle.itch_day.specs.declared.tracked.Tracked.{Tracked};
 ghost use Rattle.itch_day.specs.declared.stop.PartStop.{PartStop as AnyStop};
 ghost use Rattle.itch_day.specs.declared.stop.PartStop.TheVariants.{Full};
 ghost use Rattle.itch_market.specs.Content.{Content as AnyMarket};
@@ -67,9 +67,9 @@ fn list_every<R: CountedRead, A: Allocator, B: OrderBook, W: CountedWrite>(
     requires step { 0 < step }
     requires apart { IsApart pass.old.markets.locates pass.old.markets.market pass.old.markets.own }
     requires fits { Fits pass.old.markets.locates request.selection (option_copied only) }
-    ensures { (first : Reading R) → (marked : Marked AnyMarket)
-        → Stands R.remaining R.failures (record { after = Some 0; until = Some 0 }) first pass.old.reader marked Full
-        → IsAt marked pass.old.markets.market pass.old.count
+    ensures { (first : Reading R) → (tracked : Tracked AnyMarket)
+        → Stands R.remaining R.failures (record { after = Some 0; until = Some 0 }) first pass.old.reader tracked Full
+        → IsAt tracked pass.old.markets.market pass.old.count
         → AtMultiples R.remaining R.failures W.contents W.failures request.entry (option_copied only.entry) first step out.old result out.new }
 {
     for multiple in 1..=LATEST / step {
@@ -93,9 +93,9 @@ fn finish<R: CountedRead, A: Allocator, B: OrderBook>(
     pass: &mut TimedPass<'_, R, A, B>,
 ) -> Result<bool, ToolFault>
     requires { IsApart pass.old.markets.locates pass.old.markets.market pass.old.markets.own }
-    ensures { (first : Reading R) → (before : AnyLimit) → (stop : AnyStop AnyRefused) → (marked : Marked AnyMarket)
-        → Stands R.remaining R.failures before first pass.old.reader marked stop → IsAt marked pass.old.markets.market pass.old.count
-        → GoesOnTo before stop marked.mark.count (counted None)
+    ensures { (first : Reading R) → (before : AnyLimit) → (stop : AnyStop AnyRefused) → (tracked : Tracked AnyMarket)
+        → Stands R.remaining R.failures before first pass.old.reader tracked stop → IsAt tracked pass.old.markets.market pass.old.count
+        → GoesOnTo before stop tracked.cursor.count (counted None)
         → AtEnd R.remaining R.failures request.entry (option_copied only.entry) first result }
 {
     let _count = pass.read_rest()?;

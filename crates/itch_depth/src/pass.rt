@@ -5,7 +5,7 @@ ghost use Rattle.itch_frame.specs.Reading.{Reading};
 ghost use Rattle.itch_day.specs.Limits.{counted};
 ghost use Rattle.itch_day.specs.Parts.{GoesOnTo};
 ghost use Rattle.itch_day.specs.declared.limit.Limit.{Limit as AnyLimit};
-ghost use Rattle.itch_day.specs.declared.marked.Marked.{Marked};
+ghost use Rattle.itch_day.specs.declared.tracked.Tracked.{Tracked};
 ghost use Rattle.itch_day.specs.declared.stop.PartStop.{PartStop as AnyStop};
 ghost use Rattle.itch_market.specs.Content.{Content as AnyMarket, empty};
 ghost use Rattle.itch_market.specs.Takings.{reason_of};
@@ -69,9 +69,9 @@ impl<'a, R: CountedRead, A: Allocator, B: OrderBook> TimedPass<'a, R, A, B> {
     /// false. No time may be earlier than the one before.
     pub fn read_until(&mut self, time: u64) -> Result<bool, ToolFault>
         requires { IsApart self.old.markets.locates self.old.markets.market self.old.markets.own }
-        ensures reads { (first : Reading R) → (before : AnyLimit) → (stop : AnyStop AnyRefused) → (marked : Marked AnyMarket)
-            → Stands R.remaining R.failures before first self.old.reader marked stop → IsAt marked self.old.markets.market self.old.count
-            → GoesOnTo before stop marked.mark.count (up_to time)
+        ensures reads { (first : Reading R) → (before : AnyLimit) → (stop : AnyStop AnyRefused) → (tracked : Tracked AnyMarket)
+            → Stands R.remaining R.failures before first self.old.reader tracked stop → IsAt tracked self.old.markets.market self.old.count
+            → GoesOnTo before stop tracked.cursor.count (up_to time)
             → ReadsTime R.remaining R.failures time first self.new.reader result self.new.markets.market self.new.count }
         ensures apart { OnOk result (IsApart self.new.markets.locates self.new.markets.market self.new.markets.own) }
         ensures stops { IfErr result (λ fault. continues (Err fault) ≡ false) }
@@ -89,9 +89,9 @@ impl<'a, R: CountedRead, A: Allocator, B: OrderBook> TimedPass<'a, R, A, B> {
     /// Reads the rest of the file, and returns the number of its messages.
     pub fn read_rest(&mut self) -> Result<u64, ToolFault>
         requires { IsApart self.old.markets.locates self.old.markets.market self.old.markets.own }
-        ensures reads { (first : Reading R) → (before : AnyLimit) → (stop : AnyStop AnyRefused) → (marked : Marked AnyMarket)
-            → Stands R.remaining R.failures before first self.old.reader marked stop → IsAt marked self.old.markets.market self.old.count
-            → GoesOnTo before stop marked.mark.count (counted None)
+        ensures reads { (first : Reading R) → (before : AnyLimit) → (stop : AnyStop AnyRefused) → (tracked : Tracked AnyMarket)
+            → Stands R.remaining R.failures before first self.old.reader tracked stop → IsAt tracked self.old.markets.market self.old.count
+            → GoesOnTo before stop tracked.cursor.count (counted None)
             → ReadsRest R.remaining R.failures first self.new.reader result self.new.markets.market self.new.count }
         ensures apart { OnOk result (IsApart self.new.markets.locates self.new.markets.market self.new.markets.own) }
         ensures kept { Keeps self.old.markets.locates self.new.markets.locates }
@@ -105,9 +105,9 @@ impl<'a, R: CountedRead, A: Allocator, B: OrderBook> TimedPass<'a, R, A, B> {
     // Reads on up to the first message at this time or later, if there is a time, and returns the reason if it stops before.
     fn read_on(&mut self, until: Option<u64>) -> Option<Stop>
         requires { IsApart self.old.markets.locates self.old.markets.market self.old.markets.own }
-        ensures reads { (first : Reading R) → (before : AnyLimit) → (stop : AnyStop AnyRefused) → (marked : Marked AnyMarket)
-            → Stands R.remaining R.failures before first self.old.reader marked stop → IsAt marked self.old.markets.market self.old.count
-            → GoesOnTo before stop marked.mark.count (before_time until)
+        ensures reads { (first : Reading R) → (before : AnyLimit) → (stop : AnyStop AnyRefused) → (tracked : Tracked AnyMarket)
+            → Stands R.remaining R.failures before first self.old.reader tracked stop → IsAt tracked self.old.markets.market self.old.count
+            → GoesOnTo before stop tracked.cursor.count (before_time until)
             → StopsSo R.remaining R.failures (before_time until) first self.new.reader result self.new.markets.market self.new.count }
         ensures apart { UnlessStopped result (IsApart self.new.markets.locates self.new.markets.market self.new.markets.own) }
         ensures kept { Keeps self.old.markets.locates self.new.markets.locates }

@@ -1,4 +1,4 @@
--- A sheet with room for all bytes that are written to it.
+-- A buffer with room for all bytes that are written to it.
 use Rattle.std.proofs.Common.{◌≡◌, ℕ, ◌<◌, ◌≤◌, List, [], ◌∷◌, ◌++◌, length, take, Option, Some, Err, sym, ap, subst, arith, length-append}
 use Rattle.std.proofs.lemmas.List.{length-take}
 use Rattle.itch_frame.specs.Blocks.{block, blocks}
@@ -7,21 +7,21 @@ use Rattle.itch_frame.specs.declared.tally.Failures.{Failures}
 use Rattle.itch_frame.specs.declared.fault.FrameFault.{FrameFault}
 use Rattle.itch_frame.specs.declared.fault.FrameFault.TheVariants.{Read, Truncated, Write, TooLong}
 use Rattle.itch_frame.proofs.BlockLemmas.{blocks-append}
-use Rattle.itch_live.specs.declared.sheet.Sheet.{Sheet}
+use Rattle.itch_live.specs.declared.buffer.FixedBuffer.{FixedBuffer}
 
 -- the room comes before the bytes
 pub grown : (room size : ℕ) (old new bytes : List ℕ) → size ∷ new ≡ room ∷ (old ++ bytes) → old ≡ [] → (size ≡ room) × (new ≡ bytes)
 grown room size old new bytes is empty = let front : old ++ bytes ≡ bytes = ap (λ xs. xs ++ bytes) empty in (cc, cc)
 
 module _ {A : Type 0} where
-  abbrev written : Sheet A → Option (List ℕ)
+  abbrev written : FixedBuffer A → Option (List ℕ)
   written s = Some (s.room ∷ s.bytes.items)
 
-  abbrev failing : Sheet A → Failures
+  abbrev failing : FixedBuffer A → Failures
   failing s = s.failures
 
-  -- a write fails only if the sheet is full, so it does not fail if there is room for everything
-  pub never_full : (old new : Sheet A) (payloads : List (List ℕ)) (fault : FrameFault) → old.bytes.items ≡ [] → length (blocks payloads) ≤ old.room
+  -- a write fails only if the buffer is full, so it does not fail if there is room for everything
+  pub never_full : (old new : FixedBuffer A) (payloads : List (List ℕ)) (fault : FrameFault) → old.bytes.items ≡ [] → length (blocks payloads) ≤ old.room
       → WriteBlocks written failing old payloads (Err fault) new → ⊥
   never_full old new payloads (Write sent error) empty fits (done, payload, more, whole, short, appended, counted) =
       let is = grown old.room new.room old.bytes.items new.bytes.items (blocks done ++ take sent (block payload)) appended empty in

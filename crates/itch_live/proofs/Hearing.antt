@@ -5,16 +5,16 @@ use Rattle.itch_frame.specs.Cuts.{IsTake}
 use Rattle.itch_soup.specs.declared.packet.LoginRequest.{LoginRequest}
 use Rattle.itch_soup.specs.declared.server.ServerAct.{ServerAct}
 use Rattle.itch_soup.specs.Servers.{Server}
-use Rattle.itch_live.specs.Guests.{Guest, after_act, moved_by_words, is_deaf, Judges, HearsPayload, Hears}
+use Rattle.itch_live.specs.SnapshotClients.{SnapshotClient, after_act, moved_by_words, is_deaf, Judges, HearsPayload, Hears}
 
 -- a payload has the effect that the session's judgement has
-hearing : (g h : Guest) (payload : List ℕ) (now : ℕ) (answer : ServerAct × Option LoginRequest) (s : Server) → Judges g.session payload now answer s
+hearing : (g h : SnapshotClient) (payload : List ℕ) (now : ℕ) (answer : ServerAct × Option LoginRequest) (s : Server) → Judges g.session payload now answer s
     → h ≡ after_act answer.0 answer.1 now (record g { held = []; session = s; moved = moved_by_words g now }) → HearsPayload g payload now h
 hearing g h payload now answer s (inl (packet, spelled, is, after)) turned = inl (packet, spelled, rw (is, after) at turned)
 hearing g h payload now answer s (inr (fault, at, is, after)) turned = inr (fault, at, rw (is, after) at turned)
 
 -- a complete packet arrives: its held bytes are dropped, and the client has made progress
-pub hears_packet : (inside g h : Guest) (piece held payload dropped : List ℕ) (now n moved : ℕ) (answer : ServerAct × Option LoginRequest) (s : Server)
+pub hears_packet : (inside g h : SnapshotClient) (piece held payload dropped : List ℕ) (now n moved : ℕ) (answer : ServerAct × Option LoginRequest) (s : Server)
     → inside ≡ g → is_deaf g ≡ false → IsTake inside.held piece n held → IsBlockOf payload held → Judges inside.session payload now answer s → dropped ≡ [] → moved ≡ moved_by_words g now
     → h ≡ after_act answer.0 answer.1 now (record inside { held = dropped; session = s; moved = moved }) → Hears g piece now n h
 hears_packet inside g h piece held payload dropped now n moved answer s same hears took block judged none moves turned =

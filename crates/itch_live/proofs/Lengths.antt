@@ -22,7 +22,7 @@ use Rattle.itch_snapshot.proofs.SpelledMessages.{snap_messages}
 use Rattle.itch_soup.specs.declared.packet.Packet.TheVariants as is
 use Rattle.itch_soup.specs.Packets.{packet_spelling}
 use Rattle.itch_soup.specs.Sending.{data_packet, messages, session_packets}
-use Rattle.itch_live.specs.Guests.{session_bytes}
+use Rattle.itch_live.specs.SnapshotClients.{session_bytes}
 
 -- messages of at most 40 bytes ------------------------------------------------
 

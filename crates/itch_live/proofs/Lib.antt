@@ -12,7 +12,7 @@ pub mod PlayedFile
 pub mod Places
 pub mod Handing
 pub mod Shutting
-pub mod Seated
+pub mod InSlots
 pub mod Present
 pub mod Totals
 pub mod Keeping
@@ -21,7 +21,7 @@ pub mod Filling
 pub mod Memories
 pub mod Visits
 pub mod OneVisit
-pub mod FeedDesks
+pub mod FeedServers
 pub mod Fairness
 pub mod Waiting
 pub mod Rising

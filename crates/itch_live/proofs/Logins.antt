@@ -15,7 +15,7 @@ use Rattle.itch_soup.specs.Names.{asks_for_session}
 use Rattle.itch_soup.specs.Packets.{packet_spelling}
 use Rattle.itch_soup.specs.Servers.{judged, server_turn, is_user, first_asked}
 use Rattle.itch_soup.specs.Sending.{served, messages, packets_for}
-use Rattle.itch_live.specs.Guests.{welcome, session_bytes, login_in}
+use Rattle.itch_live.specs.SnapshotClients.{welcome, session_bytes, login_in}
 
 abbrev pub IsBefore : SessionStage → Type 0
 IsBefore stage.Before = Unit {0}

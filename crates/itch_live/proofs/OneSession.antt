@@ -10,8 +10,8 @@ use Rattle.itch_live.specs.declared.sessions.Sessions.{Sessions}
 use Rattle.itch_live.specs.Sessions.{known_after}
 use Rattle.itch_live.specs.Follows.{Following, accepted_as}
 use Rattle.itch_live.specs.Feeds.{Did, Connects, Ticks, Replays, Hears, Does}
-use Rattle.itch_live.specs.Desks as desks
-use Rattle.itch_live.specs.Desks.{Desk, shot_for, with_shot, answered_with, Call, Event, History}
+use Rattle.itch_live.specs.LiveServers as servers
+use Rattle.itch_live.specs.LiveServers.{LiveServer, encoded_for, with_encoded, answered_with, Call, Event, History}
 
 known_stays : (known : Sessions) (from : ServerKind) (named : Option (List ℕ)) (session : List ℕ) → known.feed ≡ Some session → (known_after known from named).feed ≡ Some session
 known_stays known source.Live named session there = ap (λ o. option_or o named) there
@@ -31,27 +31,27 @@ module _ {W : Type 0} (contents : W → Option (List ℕ)) (failures : W → Fai
       ap (λ (k : Sessions). k.feed) pins ∙ known_stays f.sessions f.source (accepted_as answer named) session there
   does_stay f g (Hears piece now result old new) session (held, took, inr (none, says, kept, is)) there = ap (λ x. x.sessions.feed) is ∙ there
 
-  abbrev Of : Desk → Option (List ℕ)
+  abbrev Of : LiveServer → Option (List ℕ)
   Of d = d.following.sessions.feed
 
-  call_stays : (d e : Desk) (call : Call W) (session : List ℕ) → desks.Step contents failures d call e → Of d ≡ Some session → Of e ≡ Some session
-  call_stays d e (desks.Feeds did) session (f, doing, is) there = ap (λ x. Of x) is ∙ does_stay d.following f did session doing there
-  call_stays d e (desks.Admits config now (Ok (Some place))) session (free, is) there = ap (λ x. Of x) is ∙ there
-  call_stays d e (desks.Admits config now (Ok None)) session (taken, is) there = ap (λ x. Of x) is ∙ there
-  call_stays d e (desks.Admits config now (Err error)) session is there = ap (λ x. Of x) is ∙ there
-  call_stays d e (desks.Hears place piece now count) session (s, hears, is) there = ap (λ x. Of x) is ∙ there
-  call_stays d e (desks.Answers limit now count) session is there = ap (λ x. Of x) is ∙ by_joined d.following.joining.state.joined ∙ there where
+  call_stays : (d e : LiveServer) (call : Call W) (session : List ℕ) → servers.Step contents failures d call e → Of d ≡ Some session → Of e ≡ Some session
+  call_stays d e (servers.Feeds did) session (f, doing, is) there = ap (λ x. Of x) is ∙ does_stay d.following f did session doing there
+  call_stays d e (servers.Admits config now (Ok (Some place))) session (free, is) there = ap (λ x. Of x) is ∙ there
+  call_stays d e (servers.Admits config now (Ok None)) session (taken, is) there = ap (λ x. Of x) is ∙ there
+  call_stays d e (servers.Admits config now (Err error)) session is there = ap (λ x. Of x) is ∙ there
+  call_stays d e (servers.Hears place piece now count) session (s, hears, is) there = ap (λ x. Of x) is ∙ there
+  call_stays d e (servers.Answers limit now count) session is there = ap (λ x. Of x) is ∙ by_joined d.following.joining.state.joined ∙ there where
     by_joined : (o : Option Position) → Of (answered_with o d limit count now) ≡ Of d
     by_joined None = refl
-    by_joined (Some j) = by_shot (shot_for limit d.seats j.market j.next) where
-      by_shot : (shot : Option (List ℕ)) → Of (with_shot shot d j.next count now) ≡ Of d
-      by_shot None = refl
-      by_shot (Some bytes) = refl
-  call_stays d e (desks.Takes place count now) session (fits, is) there = ap (λ x. Of x) is ∙ there
-  call_stays d e (desks.Ticks now) session is there = ap (λ x. Of x) is ∙ there
-  call_stays d e (desks.Leaves place) session is there = ap (λ x. Of x) is ∙ there
+    by_joined (Some j) = by_encoded (encoded_for limit d.slots j.market j.next) where
+      by_encoded : (encoded : Option (List ℕ)) → Of (with_encoded encoded d j.next count now) ≡ Of d
+      by_encoded None = refl
+      by_encoded (Some bytes) = refl
+  call_stays d e (servers.Takes place count now) session (fits, is) there = ap (λ x. Of x) is ∙ there
+  call_stays d e (servers.Ticks now) session is there = ap (λ x. Of x) is ∙ there
+  call_stays d e (servers.Leaves place) session is there = ap (λ x. Of x) is ∙ there
 
-  pub stays : (begun : Following) (later : List (Event W)) (at : Event W) (before : List (Event W)) (d : Desk) (session : List ℕ)
+  pub stays : (begun : Following) (later : List (Event W)) (at : Event W) (before : List (Event W)) (d : LiveServer) (session : List ℕ)
       → History contents failures begun (later ++ at ∷ before) d → Of at.before ≡ Some session → Of d ≡ Some session
   stays begun [] at before d session (took, h) there = call_stays at.before d at.call session took there
   stays begun (x ∷ later) at before d session (took, h) there = call_stays x.before d x.call session took (stays begun later at before x.before session h there)

@@ -17,7 +17,7 @@ use Rattle.itch_soup.specs.Packets.{PacketSpells, packet_spelling}
 use Rattle.itch_soup.specs.Servers.{judged, is_user, first_asked, acceptance, server_answer, server_after_packet}
 use Rattle.itch_live.specs.declared.progress.Progress.{Progress}
 use Rattle.itch_live.specs.declared.progress.Progress.TheVariants as progress
-use Rattle.itch_live.specs.Guests.{login_in}
+use Rattle.itch_live.specs.SnapshotClients.{login_in}
 use Rattle.itch_live.specs.Players as players
 use Rattle.itch_live.specs.Players.{Player, new_player, is_gone, pending, plays, wanted, is_playing, is_idle, is_played, after_end, has_room, is_empty, heard, message_packet, HearsHeld}
 use Rattle.itch_live.specs.Plays.{Happening, Hears, Plays, Takes, Ticks, Ends, Leaves, Becomes, Event, History, sent_bytes, sent_by, handed_in, handed_by, without_heartbeats, Came, IsNothing, IsRefusal, IsFeed, IsTold, IsSentRight}

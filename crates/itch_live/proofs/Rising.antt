@@ -21,9 +21,9 @@ use Rattle.itch_live.specs.declared.news.ServerKind.TheVariants as source
 use Rattle.itch_live.specs.declared.news.News.{News}
 use Rattle.itch_live.specs.Follows.{Following, ActsOn}
 use Rattle.itch_live.specs.Feeds.{Did, Connects, Ticks, Replays, Hears, Does}
-use Rattle.itch_live.specs.Desks as desks
-use Rattle.itch_live.specs.Desks.{Desk, shot_for, with_shot, answered_with, Call, Event, History}
-use Rattle.itch_live.specs.FeedDesks.{GoesOn}
+use Rattle.itch_live.specs.LiveServers as servers
+use Rattle.itch_live.specs.LiveServers.{LiveServer, encoded_for, with_encoded, answered_with, Call, Event, History}
+use Rattle.itch_live.specs.FeedServers.{GoesOn}
 
 -- the position then: it has no fewer messages, and is the same one if it has equally many
 pub record Advanced (was : Position) (o : Option Position) : Type 0 where
@@ -133,27 +133,27 @@ module _ {W : Type 0} (contents : W → Option (List ℕ)) (failures : W → Fai
       acted f.source answer f g old new result.1 acts
   does f g (Hears piece now result old new) (held, took, inr (none, says, kept, is)) = same_position _ _ (ap (λ x. x.joining.state.joined) is)
 
-  abbrev Of : Desk → Option Position
+  abbrev Of : LiveServer → Option Position
   Of d = d.following.joining.state.joined
 
-  pub called : (d e : Desk) (call : Call W) → desks.Step contents failures d call e → Advances (Of d) (Of e)
-  called d e (desks.Feeds did) (f, doing, is) = subst (Advances (Of d)) (sym (ap (λ x. Of x) is)) (does d.following f did doing)
-  called d e (desks.Admits config now (Ok (Some place))) (free, is) = same_position _ _ (ap (λ x. Of x) is)
-  called d e (desks.Admits config now (Ok None)) (taken, is) = same_position _ _ (ap (λ x. Of x) is)
-  called d e (desks.Admits config now (Err error)) is = same_position _ _ (ap (λ x. Of x) is)
-  called d e (desks.Hears place piece now count) (s, hears, is) = same_position _ _ (ap (λ x. Of x) is)
-  called d e (desks.Answers limit now count) is = same_position _ _ (ap (λ x. Of x) is ∙ by_joined (Of d)) where
+  pub called : (d e : LiveServer) (call : Call W) → servers.Step contents failures d call e → Advances (Of d) (Of e)
+  called d e (servers.Feeds did) (f, doing, is) = subst (Advances (Of d)) (sym (ap (λ x. Of x) is)) (does d.following f did doing)
+  called d e (servers.Admits config now (Ok (Some place))) (free, is) = same_position _ _ (ap (λ x. Of x) is)
+  called d e (servers.Admits config now (Ok None)) (taken, is) = same_position _ _ (ap (λ x. Of x) is)
+  called d e (servers.Admits config now (Err error)) is = same_position _ _ (ap (λ x. Of x) is)
+  called d e (servers.Hears place piece now count) (s, hears, is) = same_position _ _ (ap (λ x. Of x) is)
+  called d e (servers.Answers limit now count) is = same_position _ _ (ap (λ x. Of x) is ∙ by_joined (Of d)) where
     by_joined : (o : Option Position) → Of (answered_with o d limit count now) ≡ Of d
     by_joined None = refl
-    by_joined (Some j) = by_shot (shot_for limit d.seats j.market j.next) where
-      by_shot : (shot : Option (List ℕ)) → Of (with_shot shot d j.next count now) ≡ Of d
-      by_shot None = refl
-      by_shot (Some bytes) = refl
-  called d e (desks.Takes place count now) (fits, is) = same_position _ _ (ap (λ x. Of x) is)
-  called d e (desks.Ticks now) is = same_position _ _ (ap (λ x. Of x) is)
-  called d e (desks.Leaves place) is = same_position _ _ (ap (λ x. Of x) is)
+    by_joined (Some j) = by_encoded (encoded_for limit d.slots j.market j.next) where
+      by_encoded : (encoded : Option (List ℕ)) → Of (with_encoded encoded d j.next count now) ≡ Of d
+      by_encoded None = refl
+      by_encoded (Some bytes) = refl
+  called d e (servers.Takes place count now) (fits, is) = same_position _ _ (ap (λ x. Of x) is)
+  called d e (servers.Ticks now) is = same_position _ _ (ap (λ x. Of x) is)
+  called d e (servers.Leaves place) is = same_position _ _ (ap (λ x. Of x) is)
 
-  pub goes_on : (begun : Following) (later : List (Event W)) (at : Event W) (before : List (Event W)) (d : Desk)
+  pub goes_on : (begun : Following) (later : List (Event W)) (at : Event W) (before : List (Event W)) (d : LiveServer)
       → History contents failures begun (later ++ at ∷ before) d → GoesOn (Of at.before) (Of d)
   goes_on begun [] at before d (took, h) = goes_of (Of at.before) (Of d) (called at.before d at.call took)
   goes_on begun (x ∷ later) at before d (took, h) =

@@ -7,7 +7,7 @@ use Rattle.itch_market.specs.Content.{Content}
 use Rattle.itch_snapshot.specs.Snapshot.{snap}
 use Rattle.itch_soup.specs.Packets.{packet_spelling}
 use Rattle.itch_soup.specs.Sending.{session_packets}
-use Rattle.itch_live.specs.Guests.{session_bytes}
+use Rattle.itch_live.specs.SnapshotClients.{session_bytes}
 
 pub same_bytes : (m n : Content) (next : ℕ) → snap m ≡ snap n → session_bytes m next ≡ session_bytes n next
 same_bytes m n next same =

@@ -11,10 +11,10 @@ use Rattle.itch_soup.specs.Packets.{PacketSpells}
 use Rattle.itch_soup.specs.declared.server.ServerAct.{ServerAct}
 use Rattle.itch_soup.specs.declared.server.ServerAct.TheVariants as act
 use Rattle.itch_soup.specs.Servers.{judged, server_answer, server_after_packet}
-use Rattle.itch_live.specs.declared.gone.Gone.{Gone}
-use Rattle.itch_live.specs.declared.gone.Gone.TheVariants as reason
-use Rattle.itch_live.specs.Guests as guests
-use Rattle.itch_live.specs.Guests.{Guest, welcome, heartbeat, with_heartbeat, session_bytes, bytes_of, is_gone, is_silent, is_idle, gone_for, first_of, pending, is_waiting, new_guest, login_in, after_act, moved_by_words, answered, refusal, took_of}
+use Rattle.itch_live.specs.declared.disconnect_cause.DisconnectCause.{DisconnectCause}
+use Rattle.itch_live.specs.declared.disconnect_cause.DisconnectCause.TheVariants as reason
+use Rattle.itch_live.specs.SnapshotClients as clients
+use Rattle.itch_live.specs.SnapshotClients.{SnapshotClient, welcome, heartbeat, with_heartbeat, session_bytes, bytes_of, is_gone, is_silent, is_idle, gone_for, first_of, pending, is_waiting, new_snapshot_client, login_in, after_act, moved_by_words, answered, refusal, took_of}
 use Rattle.itch_live.specs.Stories.{Happening, Hears, Answers, Takes, Ticks, Leaves, Becomes, sent_by, IsLogin, greeting}
 use Rattle.itch_live.proofs.Logins.{IsBefore, IsAcceptance, IsDecision, decides, stays_past, accepts_first}
 
@@ -32,11 +32,11 @@ IsWhole config P (Some login) rejection None bytes = (beats : ℕ) × P Greeted 
 IsWhole config P (Some login) rejection (Some rest) bytes = (beats : ℕ) × P (Answered rest) × (bytes ≡ greeting config beats ++ rest)
 
 -- the bytes still to be sent, if the client is not gone
-abbrev pub rest_of : Guest → List ℕ
+abbrev pub rest_of : SnapshotClient → List ℕ
 rest_of g = g.notes ++ drop g.taken (bytes_of g.told)
 
 -- a client that was sent these bytes, where P holds of each kind of answer
-pub record IsSound (config : ServerConfig) (P : Kind → Type 0) (so_far : List ℕ) (g : Guest) : Type 0 where
+pub record IsSound (config : ServerConfig) (P : Kind → Type 0) (so_far : List ℕ) (g : SnapshotClient) : Type 0 where
   pub config_is : g.session.config ≡ config
   pub total_is : g.session.total ≡ 0
   pub unasked : IsBefore g.session.connection.stage → g.asked ≡ None
@@ -62,7 +62,7 @@ IsNothing (Some y) = ⊥
 none_some : {A : Type 0} {x : A} → None ≡ Some x → ⊥
 none_some {A} {x} h = subst IsNothing h tt
 
-pub new_sound : (config : ServerConfig) (P : Kind → Type 0) (begun : ℕ) → IsSound config P [] (new_guest config begun)
+pub new_sound : (config : ServerConfig) (P : Kind → Type 0) (begun : ℕ) → IsSound config P [] (new_snapshot_client config begun)
 new_sound config P begun = record {
   config_is = refl;
   total_is = refl;
@@ -81,7 +81,7 @@ more_whole config P Q None (Some code) told bytes more (may, is) = (more (Refuse
 more_whole config P Q (Some login) rejection None bytes more (beats, may, is) = (beats, more Greeted may, is)
 more_whole config P Q (Some login) rejection (Some rest) bytes more (beats, may, is) = (beats, more (Answered rest) may, is)
 
-pub weaken : (config : ServerConfig) (P Q : Kind → Type 0) (so_far : List ℕ) (g : Guest) → ((k : Kind) → P k → Q k) → IsSound config P so_far g → IsSound config Q so_far g
+pub weaken : (config : ServerConfig) (P Q : Kind → Type 0) (so_far : List ℕ) (g : SnapshotClient) → ((k : Kind) → P k → Q k) → IsSound config P so_far g → IsSound config Q so_far g
 weaken config P Q so_far g more s = record {
   config_is = s.config_is;
   total_is = s.total_is;
@@ -93,7 +93,7 @@ weaken config P Q so_far g more s = record {
   whole = more_whole config P Q g.asked g.rejection g.told (so_far ++ rest_of g) more s.whole;
 }
 
-either : (config : ServerConfig) (P : Kind → Type 0) (so_far : List ℕ) (b : Bool) (g h : Guest) → (b ≡ true → IsSound config P so_far g) → (b ≡ false → IsSound config P so_far h)
+either : (config : ServerConfig) (P : Kind → Type 0) (so_far : List ℕ) (b : Bool) (g h : SnapshotClient) → (b ≡ true → IsSound config P so_far g) → (b ≡ false → IsSound config P so_far h)
     → IsSound config P so_far (if b then g else h)
 either config P so_far true g h s t = s refl
 either config P so_far false g h s t = t refl
@@ -112,9 +112,9 @@ empty_front : (xs ys : List ℕ) → xs ++ ys ≡ [] → xs ≡ []
 empty_front [] ys h = refl
 empty_front (x ∷ xs) ys h = absurd (cc)
 
-module _ (config : ServerConfig) (P : Kind → Type 0) (so_far : List ℕ) (g : Guest) where
+module _ (config : ServerConfig) (P : Kind → Type 0) (so_far : List ℕ) (g : SnapshotClient) where
   -- a client with the same login and answers, in no earlier stage
-  kept : (h : Guest) → h.session.config ≡ g.session.config → h.session.total ≡ g.session.total → (IsBefore h.session.connection.stage → IsBefore g.session.connection.stage)
+  kept : (h : SnapshotClient) → h.session.config ≡ g.session.config → h.session.total ≡ g.session.total → (IsBefore h.session.connection.stage → IsBefore g.session.connection.stage)
       → h.asked ≡ g.asked → h.rejection ≡ g.rejection → h.told ≡ g.told → h.taken ≡ g.taken → h.notes ≡ g.notes → IsSound config P so_far g → IsSound config P so_far h
   kept h config_same total_same stage_same asked_same rejection_same told_same taken_same notes_same s =
       let rest_same : rest_of g ≡ rest_of h =
@@ -134,11 +134,11 @@ module _ (config : ServerConfig) (P : Kind → Type 0) (so_far : List ℕ) (g : 
       }
 
   -- a change of the held bytes, of the times, or of the reason why it is gone
-  idle : (held : List ℕ) (gone : Option Gone) (moved marked : ℕ) → IsSound config P so_far g → IsSound config P so_far (record g { held = held; gone = gone; moved = moved; marked = marked })
+  idle : (held : List ℕ) (gone : Option DisconnectCause) (moved marked : ℕ) → IsSound config P so_far g → IsSound config P so_far (record g { held = held; gone = gone; moved = moved; marked = marked })
   idle held gone moved marked s = kept (record g { held = held; gone = gone; moved = moved; marked = marked }) refl refl (λ b. b) refl refl refl refl refl s
 
 -- a packet for a client that was sent nothing before: it is everything then
-noted : (config : ServerConfig) (P : Kind → Type 0) (so_far notes : List ℕ) (g : Guest) → g.asked ≡ None → g.rejection ≡ None → IsSound config P so_far g
+noted : (config : ServerConfig) (P : Kind → Type 0) (so_far notes : List ℕ) (g : SnapshotClient) → g.asked ≡ None → g.rejection ≡ None → IsSound config P so_far g
     → so_far ++ (notes ++ drop g.taken (bytes_of g.told)) ≡ notes
 noted config P so_far notes g unasked unrejected s =
     let none : so_far ≡ [] = empty_front so_far (rest_of g) (none_told config P g.asked g.rejection g.told _ unasked unrejected s.whole) in
@@ -156,7 +156,7 @@ one_number : {n k : ℕ} → act.Accept n ≡ act.Accept k → n ≡ k
 one_number {n} {k} same = cc
 
 -- a packet arrives
-heard_by : (config : ServerConfig) (P : Kind → Type 0) (so_far : List ℕ) (g : Guest) (packet : Packet) (now moved : ℕ) (a : ServerAct) → server_answer g.session packet ≡ a
+heard_by : (config : ServerConfig) (P : Kind → Type 0) (so_far : List ℕ) (g : SnapshotClient) (packet : Packet) (now moved : ℕ) (a : ServerAct) → server_answer g.session packet ≡ a
     → ((login : LoginRequest) (code : ℕ) → login_in packet ≡ Some login → (judged config 0 login).0 ≡ act.Reject code → P (Refused code))
     → ((login : LoginRequest) → login_in packet ≡ Some login → (judged config 0 login).0 ≡ act.Accept 1 → P Greeted) → IsSound config P so_far g
     → IsSound config P so_far (after_act a (login_in packet) now (record g { held = []; session = server_after_packet g.session packet now; moved = moved }))
@@ -214,7 +214,7 @@ then_answered config P None login rejection told before after rest is untold may
 then_answered config P (Some other) login rejection (Some bytes) before after rest is untold may all was = absurd (none_some (sym untold))
 then_answered config P (Some other) login rejection None before after rest is untold may all (beats, greeted, front) = (beats, may, all ∙ ap (λ b. b ++ rest) front)
 
-answered_by : (config : ServerConfig) (P : Kind → Type 0) (so_far : List ℕ) (g : Guest) (bytes : List ℕ) (next now : ℕ) (b : Bool) → is_waiting g ≡ b
+answered_by : (config : ServerConfig) (P : Kind → Type 0) (so_far : List ℕ) (g : SnapshotClient) (bytes : List ℕ) (next now : ℕ) (b : Bool) → is_waiting g ≡ b
     → ((login : LoginRequest) → g.asked ≡ Some login → IsAcceptance (judged config 0 login).0 → P (Answered bytes)) → IsSound config P so_far g
     → IsSound config P so_far (if b then answered g bytes next now else g)
 answered_by config P so_far g bytes next now false waiting fits s = s
@@ -241,7 +241,7 @@ then_beats config P None login rejection told before after is untold all was = a
 then_beats config P (Some other) login rejection (Some bytes) before after is untold all was = absurd (none_some (sym untold))
 then_beats config P (Some other) login rejection None before after is untold all (beats, greeted, front) = (suc beats, greeted, all ∙ ap (λ b. b ++ heartbeat) front)
 
-beaten : (config : ServerConfig) (P : Kind → Type 0) (so_far : List ℕ) (g : Guest) (now : ℕ) → g.notes ≡ [] → is_waiting g ≡ true → IsSound config P so_far g
+beaten : (config : ServerConfig) (P : Kind → Type 0) (so_far : List ℕ) (g : SnapshotClient) (now : ℕ) → g.notes ≡ [] → is_waiting g ≡ true → IsSound config P so_far g
     → IsSound config P so_far (with_heartbeat g now)
 beaten config P so_far g now none waiting s =
     let w = waits g.asked g.told (is_gone g) waiting in
@@ -261,7 +261,7 @@ beaten config P so_far g now none waiting s =
     }
 
 -- the socket accepts the bytes that were next
-moves : (config : ServerConfig) (P : Kind → Type 0) (so_far more notes : List ℕ) (g : Guest) (taken moved marked : ℕ) → (g.told ≡ None → taken ≡ 0)
+moves : (config : ServerConfig) (P : Kind → Type 0) (so_far more notes : List ℕ) (g : SnapshotClient) (taken moved marked : ℕ) → (g.told ≡ None → taken ≡ 0)
     → more ++ (notes ++ drop taken (bytes_of g.told)) ≡ rest_of g → IsSound config P so_far g → IsSound config P (so_far ++ more) (record g { notes = notes; taken = taken; moved = moved; marked = marked })
 moves config P so_far more notes g taken moved marked none goes s = record {
   config_is = s.config_is;
@@ -300,11 +300,11 @@ notes_go notes rest count true fits =
       no_more h = omega (arith, h)
 notes_go notes rest count false fits = sym (append_assoc (take count notes) (drop count notes) rest) ∙ ap (λ xs. xs ++ rest) (take-append-drop count notes)
 
-either_taken : (config : ServerConfig) (P : Kind → Type 0) (all : List ℕ) (b : Bool) (g h : Guest) → IsSound config P all g → IsSound config P all h → IsSound config P all (if b then g else h)
+either_taken : (config : ServerConfig) (P : Kind → Type 0) (all : List ℕ) (b : Bool) (g h : SnapshotClient) → IsSound config P all g → IsSound config P all h → IsSound config P all (if b then g else h)
 either_taken config P all true g h s t = s
 either_taken config P all false g h s t = t
 
-took_by : (config : ServerConfig) (P : Kind → Type 0) (so_far : List ℕ) (g : Guest) (count now : ℕ) (notes : List ℕ) → g.notes ≡ notes
+took_by : (config : ServerConfig) (P : Kind → Type 0) (so_far : List ℕ) (g : SnapshotClient) (count now : ℕ) (notes : List ℕ) → g.notes ≡ notes
     → count ≤ length (if is_gone g then [] else first_of notes (drop g.taken (bytes_of g.told))) → IsSound config P so_far g
     → IsSound config P (so_far ++ take count (if is_gone g then [] else first_of notes (drop g.taken (bytes_of g.told)))) (took_of notes g count now)
 took_by config P so_far g count now [] none fits s =
@@ -319,20 +319,20 @@ took_by config P so_far g count now (b ∷ notes) some fits s =
     moves config P so_far _ (drop count (b ∷ notes)) g g.taken (if nat_lt 0 count then now else g.moved) g.marked s.untaken
     (notes_go (b ∷ notes) (drop g.taken (bytes_of g.told)) count (is_gone g) fits ∙ ap (λ n. n ++ drop g.taken (bytes_of g.told)) (sym some)) s
 
-nothing_more : (config : ServerConfig) (P : Kind → Type 0) (so_far : List ℕ) (g : Guest) → IsSound config P so_far g → IsSound config P (so_far ++ []) g
+nothing_more : (config : ServerConfig) (P : Kind → Type 0) (so_far : List ℕ) (g : SnapshotClient) → IsSound config P so_far g → IsSound config P (so_far ++ []) g
 nothing_more config P so_far g s = subst (λ all. IsSound config P all g) (sym (append-nil so_far)) s
 
 -- the snapshot that is passed in is permitted
-abbrev pub Permits : ServerConfig → (Kind → Type 0) → Guest → Happening → Type 0
+abbrev pub Permits : ServerConfig → (Kind → Type 0) → SnapshotClient → Happening → Type 0
 Permits config P g (Answers m next now) = (login : LoginRequest) → g.asked ≡ Some login → (judged config 0 login).0 ≡ act.Accept 1 → P (Answered (session_bytes m next))
 Permits config P g other = Unit {0}
 
 -- a rejection is permitted, and so is an acceptance
-abbrev pub Rejects : ServerConfig → (Kind → Type 0) → Guest → Happening → Type 0
+abbrev pub Rejects : ServerConfig → (Kind → Type 0) → SnapshotClient → Happening → Type 0
 Rejects config P g (Hears piece now count) = (login : LoginRequest) (code : ℕ) → IsLogin g.held piece count login → (judged config 0 login).0 ≡ act.Reject code → P (Refused code)
 Rejects config P g other = Unit {0}
 
-abbrev pub Greets : ServerConfig → (Kind → Type 0) → Guest → Happening → Type 0
+abbrev pub Greets : ServerConfig → (Kind → Type 0) → SnapshotClient → Happening → Type 0
 Greets config P g (Hears piece now count) = (login : LoginRequest) → IsLogin g.held piece count login → (judged config 0 login).0 ≡ act.Accept 1 → P Greeted
 Greets config P g other = Unit {0}
 
@@ -349,14 +349,14 @@ login_packet (is.UnsequencedData payload) login h = absurd (none_some h)
 login_packet is.ClientHeartbeat login h = absurd (none_some h)
 login_packet is.LogoutRequest login h = absurd (none_some h)
 
-is_idle_then : (g : Guest) (now : ℕ) (notes : List ℕ) → g.notes ≡ notes → (guests.is_none notes && is_waiting g && nat_lt 1000 (now - g.sent)) ≡ true → (g.notes ≡ []) × (is_waiting g ≡ true)
+is_idle_then : (g : SnapshotClient) (now : ℕ) (notes : List ℕ) → g.notes ≡ notes → (clients.is_none notes && is_waiting g && nat_lt 1000 (now - g.sent)) ≡ true → (g.notes ≡ []) × (is_waiting g ≡ true)
 is_idle_then g now [] none h = (none, first (is_waiting g) (nat_lt 1000 (now - g.sent)) h) where
   first : (a b : Bool) → (a && b) ≡ true → a ≡ true
   first true b h = refl
   first false b h = absurd (cc)
 is_idle_then g now (b ∷ notes) some h = absurd (cc)
 
-pub step : (config : ServerConfig) (P : Kind → Type 0) (so_far : List ℕ) (g h : Guest) (happening : Happening) → Becomes config g happening h → Permits config P g happening
+pub step : (config : ServerConfig) (P : Kind → Type 0) (so_far : List ℕ) (g h : SnapshotClient) (happening : Happening) → Becomes config g happening h → Permits config P g happening
     → Rejects config P g happening → Greets config P g happening → IsSound config P so_far g → IsSound config P (so_far ++ sent_by g happening) h
 step config P so_far g h (Hears piece now n) (inl (deaf, all, same)) permits refused greeted s = nothing_more config P so_far h (subst (λ x. IsSound config P so_far x) (sym same) s)
 step config P so_far g h (Hears piece now n) (inr (hears, (held, take_is, inl (payload, block, inl (packet, spelled, heard_is))))) permits refused greeted s =

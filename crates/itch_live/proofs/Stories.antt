@@ -2,7 +2,7 @@
 use Rattle.std.proofs.Common.{ℕ, List, [], ◌∷◌, ◌++◌, Option, None, Some, refl, sym, ap, subst, inl, inr}
 use Rattle.itch_soup.specs.declared.login.ServerConfig.{ServerConfig}
 use Rattle.itch_soup.specs.declared.packet.LoginRequest.{LoginRequest}
-use Rattle.itch_live.specs.Guests.{Guest, refusal}
+use Rattle.itch_live.specs.SnapshotClients.{SnapshotClient, refusal}
 use Rattle.itch_live.specs.Stories.{Happening, Hears, Answers, Takes, Ticks, Leaves, Story, IsAnswer, IsRefusal, IsWelcome, IsTold, IsSentRight}
 use Rattle.itch_live.proofs.Sound.{Kind, Refused, Greeted, Answered, IsWhole, rest_of, IsSound, Permits, Rejects, Greets, new_sound, weaken, step}
 
@@ -60,7 +60,7 @@ still_told config begun e past (Answered bytes) a = record {
 }
 
 -- an answer that is passed in now
-permitted : (config : ServerConfig) (begun : ℕ) (past : List Happening) (g : Guest) (so_far : List ℕ) (e : Happening) → Story config begun past g so_far
+permitted : (config : ServerConfig) (begun : ℕ) (past : List Happening) (g : SnapshotClient) (so_far : List ℕ) (e : Happening) → Story config begun past g so_far
     → Permits config (MayBeTold config begun (e ∷ past)) g e
 permitted config begun past g so_far (Hears piece now n) story = tt
 permitted config begun past g so_far (Answers m next now) story = λ login asked accepted. record {
@@ -83,7 +83,7 @@ permitted config begun past g so_far (Ticks now) story = tt
 permitted config begun past g so_far Leaves story = tt
 
 -- a rejection now
-refused_now : (config : ServerConfig) (begun : ℕ) (past : List Happening) (g : Guest) (so_far : List ℕ) (e : Happening) → Story config begun past g so_far
+refused_now : (config : ServerConfig) (begun : ℕ) (past : List Happening) (g : SnapshotClient) (so_far : List ℕ) (e : Happening) → Story config begun past g so_far
     → Rejects config (MayBeTold config begun (e ∷ past)) g e
 refused_now config begun past g so_far (Hears piece now n) story = λ login code came rejected. record {
   later = [];
@@ -107,7 +107,7 @@ refused_now config begun past g so_far (Ticks now) story = tt
 refused_now config begun past g so_far Leaves story = tt
 
 -- an acceptance now
-greeted_now : (config : ServerConfig) (begun : ℕ) (past : List Happening) (g : Guest) (so_far : List ℕ) (e : Happening) → Story config begun past g so_far
+greeted_now : (config : ServerConfig) (begun : ℕ) (past : List Happening) (g : SnapshotClient) (so_far : List ℕ) (e : Happening) → Story config begun past g so_far
     → Greets config (MayBeTold config begun (e ∷ past)) g e
 greeted_now config begun past g so_far (Hears piece now n) story = λ login came accepted. record {
   later = [];
@@ -128,7 +128,7 @@ greeted_now config begun past g so_far (Takes count now) story = tt
 greeted_now config begun past g so_far (Ticks now) story = tt
 greeted_now config begun past g so_far Leaves story = tt
 
-pub sound : (config : ServerConfig) (begun : ℕ) (past : List Happening) (g : Guest) (sent : List ℕ) → Story config begun past g sent → IsSound config (MayBeTold config begun past) sent g
+pub sound : (config : ServerConfig) (begun : ℕ) (past : List Happening) (g : SnapshotClient) (sent : List ℕ) → Story config begun past g sent → IsSound config (MayBeTold config begun past) sent g
 sound config begun [] g sent (is, none) =
     subst (λ x. IsSound config (MayBeTold config begun []) x g) (sym none)
     (subst (λ x. IsSound config (MayBeTold config begun []) [] x) (sym is) (new_sound config (MayBeTold config begun []) begun))
@@ -144,6 +144,6 @@ told_all config begun past None (Some code) told bytes (refused, is) = inr (inl 
 told_all config begun past (Some login) rejection None bytes (beats, welcomed, is) = inr (inr (inl (beats, welcomed, is)))
 told_all config begun past (Some login) rejection (Some rest) bytes (beats, answer, is) = inr (inr (inr (beats, rest, answer, is)))
 
-pub sent_right : (config : ServerConfig) (begun : ℕ) (past : List Happening) (g : Guest) (sent : List ℕ) → Story config begun past g sent → IsSentRight config begun past sent
+pub sent_right : (config : ServerConfig) (begun : ℕ) (past : List Happening) (g : SnapshotClient) (sent : List ℕ) → Story config begun past g sent → IsSentRight config begun past sent
 sent_right config begun past g sent story =
     (sent ++ rest_of g, told_all config begun past g.asked g.rejection g.told (sent ++ rest_of g) (sound config begun past g sent story).whole, (rest_of g, refl))

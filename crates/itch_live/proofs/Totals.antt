@@ -1,7 +1,7 @@
 -- A sum in which each number of a list counts once.
 use Rattle.std.proofs.Common.{◌≡◌, ℕ, ◌+◌, ◌≤◌, ◌||◌, ◌==◌, Bool, true, false, if◌then◌else◌, List, [], ◌∷◌, map, Option, None, Some, refl, sym, ap, ◌∙◌, arith}
 use Rattle.std.proofs.lemmas.Bool.{eqb-true}
-use Rattle.itch_live.specs.Guests.{is_at}
+use Rattle.itch_live.specs.SnapshotClients.{is_at}
 
 pub is_at_true : (number : ℕ) → is_at (Some number) number ≡ true
 is_at_true number = grind arith

@@ -4,37 +4,37 @@ use Rattle.std.specs.List.{list_any, sum_by}
 use Rattle.std.specs.Option.{option_or}
 use Rattle.itch_market.specs.Content.{Content}
 use Rattle.itch_snapshot.specs.Snapshot.{snap}
-use Rattle.itch_live.specs.Guests.{Guest, is_at, shot_in}
-use Rattle.itch_live.specs.Seats.{Seats}
+use Rattle.itch_live.specs.SnapshotClients.{SnapshotClient, is_at, encoded_in}
+use Rattle.itch_live.specs.Slots.{Slots}
 
 -- the number of the snapshot of the client at a place
-abbrev pub number_of : Option Guest → Option ℕ
+abbrev pub number_of : Option SnapshotClient → Option ℕ
 number_of None = None
 number_of (Some g) = g.snapshot
 
-abbrev pub is_sent : Option Guest → ℕ → Bool
-is_sent seat number = is_at (number_of seat) number
+abbrev pub is_sent : Option SnapshotClient → ℕ → Bool
+is_sent slot number = is_at (number_of slot) number
 
 -- the bytes of the snapshot of the client at a place, if it has this number
-abbrev pub bytes_at : Option Guest → ℕ → Option (List ℕ)
+abbrev pub bytes_at : Option SnapshotClient → ℕ → Option (List ℕ)
 bytes_at None number = None
-bytes_at (Some g) number = shot_in g.snapshot g.told number
+bytes_at (Some g) number = encoded_in g.snapshot g.told number
 
 -- the bytes of the snapshot with this number, if it is kept
-abbrev pub kept_bytes : Seats → ℕ → Option (List ℕ)
+abbrev pub kept_bytes : Slots → ℕ → Option (List ℕ)
 kept_bytes [] number = None
-kept_bytes (seat ∷ seats) number = option_or (bytes_at seat number) (kept_bytes seats number)
+kept_bytes (slot ∷ slots) number = option_or (bytes_at slot number) (kept_bytes slots number)
 
-abbrev pub is_kept : Seats → ℕ → Bool
-is_kept seats number = list_any (λ seat. is_sent seat number) seats
+abbrev pub is_kept : Slots → ℕ → Bool
+is_kept slots number = list_any (λ slot. is_sent slot number) slots
 
 -- a snapshot has this number, and none with this number is kept at the other places
-abbrev pub keeps_alone : Option ℕ → Seats → Bool
+abbrev pub keeps_alone : Option ℕ → Slots → Bool
 keeps_alone None others = false
 keeps_alone (Some number) others = not (is_kept others number)
 
 -- this number, if no snapshot with it is kept at the other places
-abbrev pub number_alone : Option ℕ → Seats → Option ℕ
+abbrev pub number_alone : Option ℕ → Slots → Option ℕ
 number_alone number others = if keeps_alone number others then number else None
 
 abbrev pub with_number : Option ℕ → List ℕ → List ℕ
@@ -42,22 +42,22 @@ with_number None numbers = numbers
 with_number (Some number) numbers = number ∷ numbers
 
 -- the numbers of the kept snapshots, each once
-abbrev pub kept : Seats → List ℕ
+abbrev pub kept : Slots → List ℕ
 kept [] = []
-kept (seat ∷ seats) = if keeps_alone (number_of seat) seats then with_number (number_of seat) (kept seats) else kept seats
+kept (slot ∷ slots) = if keeps_alone (number_of slot) slots then with_number (number_of slot) (kept slots) else kept slots
 
 abbrev pub length_or : Option (List ℕ) → ℕ
 length_or None = 0
 length_or (Some bytes) = length bytes
 
 -- the size in bytes of the snapshot with this number, or 0 if it is not kept
-abbrev pub bytes_under : Seats → Option ℕ → ℕ
-bytes_under seats None = 0
-bytes_under seats (Some number) = length_or (kept_bytes seats number)
+abbrev pub bytes_under : Slots → Option ℕ → ℕ
+bytes_under slots None = 0
+bytes_under slots (Some number) = length_or (kept_bytes slots number)
 
 -- the total size in bytes of the kept snapshots, each counted once
-abbrev pub snapshot_bytes : Seats → ℕ
-snapshot_bytes seats = sum_by (λ number. length_or (kept_bytes seats number)) (kept seats)
+abbrev pub snapshot_bytes : Slots → ℕ
+snapshot_bytes slots = sum_by (λ number. length_or (kept_bytes slots number)) (kept slots)
 
 -- the greatest size in bytes of the snapshot of a market
 abbrev pub most_bytes_of : Content → ℕ
@@ -68,5 +68,5 @@ abbrev pub fits : ℕ → ℕ → ℕ → Bool
 fits limit used more = (used == 0) || nat_le (used + more) limit
 
 -- there is room for the snapshot of a market in addition to the kept ones
-abbrev pub has_room : ℕ → Seats → Content → Bool
-has_room limit seats market = fits limit (snapshot_bytes seats) (most_bytes_of market)
+abbrev pub has_room : ℕ → Slots → Content → Bool
+has_room limit slots market = fits limit (snapshot_bytes slots) (most_bytes_of market)

@@ -1,7 +1,7 @@
-pub mod Guests
+pub mod SnapshotClients
 pub mod Players
 pub mod Stories
-pub mod Seats
+pub mod Slots
 pub mod Kept
 pub mod Sessions
 pub mod Follows
@@ -9,8 +9,8 @@ pub mod Feeds
 pub mod Identity
 pub mod Records
 pub mod Plays
-pub mod Desks
+pub mod LiveServers
 pub mod Memory
 pub mod Visits
-pub mod FeedDesks
+pub mod FeedServers
 pub mod Fairness

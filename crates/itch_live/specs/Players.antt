@@ -10,11 +10,11 @@ use Rattle.itch_soup.specs.declared.server.ServerAct.{ServerAct}
 use Rattle.itch_soup.specs.declared.server.ServerAct.TheVariants as act
 use Rattle.itch_soup.specs.Packets.{packet_spelling}
 use Rattle.itch_soup.specs.Servers.{Server, new_server, acceptance}
-use Rattle.itch_live.specs.declared.gone.Gone.{Gone}
-use Rattle.itch_live.specs.declared.gone.Gone.TheVariants as reason
+use Rattle.itch_live.specs.declared.disconnect_cause.DisconnectCause.{DisconnectCause}
+use Rattle.itch_live.specs.declared.disconnect_cause.DisconnectCause.TheVariants as reason
 use Rattle.itch_live.specs.declared.progress.Progress.{Progress}
 use Rattle.itch_live.specs.declared.progress.Progress.TheVariants.{Waiting, Refused, Playing, Ended}
-use Rattle.itch_live.specs.Guests.{Judges}
+use Rattle.itch_live.specs.SnapshotClients.{Judges}
 
 -- a client of a played feed: the bytes of an incomplete packet; its session; its progress; the number of the next message; the bytes that
 -- wait for its socket; why it is gone, if it is; when it last sent or accepted something; and when something was last sent to it
@@ -24,7 +24,7 @@ pub record Player : Type 0 where
   pub progress : Progress
   pub next : ℕ
   pub outbox : List ℕ
-  pub gone : Option Gone
+  pub gone : Option DisconnectCause
   pub moved : ℕ
   pub sent : ℕ
 
@@ -44,7 +44,7 @@ abbrev pub is_gone : Player → Bool
 is_gone p = is_some p.gone
 
 -- the client is gone for this reason, unless it was gone before
-abbrev pub gone_for : Gone → Player → Player
+abbrev pub gone_for : DisconnectCause → Player → Player
 gone_for why p = record p { gone = option_or p.gone (Some why) }
 
 -- the bytes still to be written

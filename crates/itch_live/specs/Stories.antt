@@ -10,8 +10,8 @@ use Rattle.itch_soup.specs.declared.origin.Origin.TheVariants.{Client}
 use Rattle.itch_soup.specs.declared.server.ServerAct.TheVariants as act
 use Rattle.itch_soup.specs.Packets.{PacketSpells}
 use Rattle.itch_soup.specs.Servers.{judged}
-use Rattle.itch_live.specs.Guests as guests
-use Rattle.itch_live.specs.Guests.{Guest, welcome, heartbeat, session_bytes, refusal, pending, new_guest}
+use Rattle.itch_live.specs.SnapshotClients as clients
+use Rattle.itch_live.specs.SnapshotClients.{SnapshotClient, welcome, heartbeat, session_bytes, refusal, pending, new_snapshot_client}
 
 -- an event of a client: some bytes of a piece are consumed; the snapshot of a market with the number of the next message is passed in, if the
 -- client waits; its socket accepts `count` bytes; the time is reported; the client is gone
@@ -23,23 +23,23 @@ pub data Happening : Type 0 where
   Leaves : Happening
 
 -- the effect of an event on a client
-abbrev pub Becomes : ServerConfig → Guest → Happening → Guest → Type 0
-Becomes config g (Hears piece now count) h = guests.Hears g piece now count h
-Becomes config g (Answers m next now) h = h ≡ guests.answered_if (session_bytes m next) next now g
-Becomes config g (Takes count now) h = (count ≤ length (pending g)) × (h ≡ guests.took g count now)
-Becomes config g (Ticks now) h = h ≡ guests.ticked g now
-Becomes config g Leaves h = h ≡ guests.left g
+abbrev pub Becomes : ServerConfig → SnapshotClient → Happening → SnapshotClient → Type 0
+Becomes config g (Hears piece now count) h = clients.Hears g piece now count h
+Becomes config g (Answers m next now) h = h ≡ clients.answered_if (session_bytes m next) next now g
+Becomes config g (Takes count now) h = (count ≤ length (pending g)) × (h ≡ clients.took g count now)
+Becomes config g (Ticks now) h = h ≡ clients.ticked g now
+Becomes config g Leaves h = h ≡ clients.left g
 
 -- the bytes that its socket accepts
-abbrev pub sent_by : Guest → Happening → List ℕ
+abbrev pub sent_by : SnapshotClient → Happening → List ℕ
 sent_by g (Takes count now) = take count (pending g)
 sent_by g other = []
 
 -- A client that connected at time `begun`, after all these events, and the bytes sent to it. The latest event comes first.
-abbrev pub Story : ServerConfig → ℕ → List Happening → Guest → List ℕ → Type 0
-Story config begun [] g sent = (g ≡ new_guest config begun) × (sent ≡ [])
+abbrev pub Story : ServerConfig → ℕ → List Happening → SnapshotClient → List ℕ → Type 0
+Story config begun [] g sent = (g ≡ new_snapshot_client config begun) × (sent ≡ [])
 Story config begun (happening ∷ past) g sent =
-    (f : Guest) × (so_far : List ℕ) × Story config begun past f so_far × Becomes config f happening g × (sent ≡ so_far ++ sent_by f happening)
+    (f : SnapshotClient) × (so_far : List ℕ) × Story config begun past f so_far × Becomes config f happening g × (sent ≡ so_far ++ sent_by f happening)
 
 -- bytes are a prefix of others
 abbrev pub IsBeginning : List ℕ → List ℕ → Type 0
@@ -61,7 +61,7 @@ pub record IsRefusal (config : ServerConfig) (begun : ℕ) (past : List Happenin
   pub now : ℕ
   pub count : ℕ
   pub place : past ≡ later ++ Hears piece now count ∷ before
-  pub hearing : Guest
+  pub hearing : SnapshotClient
   pub so_far : List ℕ
   pub story : Story config begun before hearing so_far
   pub login : LoginRequest
@@ -78,7 +78,7 @@ pub record IsWelcome (config : ServerConfig) (begun : ℕ) (past : List Happenin
   pub now : ℕ
   pub count : ℕ
   pub place : past ≡ later ++ Hears piece now count ∷ before
-  pub hearing : Guest
+  pub hearing : SnapshotClient
   pub so_far : List ℕ
   pub story : Story config begun before hearing so_far
   pub login : LoginRequest
@@ -93,7 +93,7 @@ pub record IsAnswer (config : ServerConfig) (begun : ℕ) (past : List Happening
   pub next : ℕ
   pub now : ℕ
   pub place : past ≡ later ++ Answers m next now ∷ before
-  pub waiting : Guest
+  pub waiting : SnapshotClient
   pub so_far : List ℕ
   pub story : Story config begun before waiting so_far
   pub login : LoginRequest

@@ -1,11 +1,11 @@
--- The events of one client of a desk.
+-- The events of one client of a server.
 use Rattle.std.specs.Prelude.{◌≡◌, ℕ, ◌==◌, nat_lt, ◌&&◌, Bool, is_some, List, [], ◌∷◌, Option, None, Some, Ok, Err, if◌then◌else◌}
 use Rattle.itch_join.specs.Positions.{Position}
 use Rattle.itch_soup.specs.declared.login.ServerConfig.{ServerConfig}
-use Rattle.itch_live.specs.Guests.{Guest}
+use Rattle.itch_live.specs.SnapshotClients.{SnapshotClient}
 use Rattle.itch_live.specs.Stories as stories
 use Rattle.itch_live.specs.Stories.{Happening, Story}
-use Rattle.itch_live.specs.Desks.{Desk, shot_for, Call, Feeds, Admits, Hears, Answers, Takes, Ticks, Leaves, Event}
+use Rattle.itch_live.specs.LiveServers.{LiveServer, encoded_for, Call, Feeds, Admits, Hears, Answers, Takes, Ticks, Leaves, Event}
 
 -- how a client arrived: the configuration that judges its login, and the time
 pub record Arrival : Type 0 where
@@ -22,12 +22,12 @@ with happening None = None
 with happening (Some v) = Some (record v { past = happening ∷ v.past })
 
 -- the current market is passed in, if there is one with a snapshot and this place is among the first ones
-abbrev pub answers : Option Position → Desk → ℕ → Bool → ℕ → Option Visit → Option Visit
+abbrev pub answers : Option Position → LiveServer → ℕ → Bool → ℕ → Option Visit → Option Visit
 answers None d limit here now visit = visit
-answers (Some j) d limit here now visit = if is_some (shot_for limit d.seats j.market j.next) && here then with (stories.Answers j.market j.next now) visit else visit
+answers (Some j) d limit here now visit = if is_some (encoded_for limit d.slots j.market j.next) && here then with (stories.Answers j.market j.next now) visit else visit
 
 -- Calls at other places are not part of the visit.
-abbrev pub visit_by : {W : Type 0} → Call W → Desk → ℕ → Option Visit → Option Visit
+abbrev pub visit_by : {W : Type 0} → Call W → LiveServer → ℕ → Option Visit → Option Visit
 visit_by (Feeds did) d k visit = visit
 visit_by (Admits config now (Ok (Some place))) d k visit = if place == k then Some (record { begun = record { config = config; now = now }; past = [] }) else visit
 visit_by (Admits config now (Ok None)) d k visit = visit
@@ -45,7 +45,7 @@ visit_at k (x ∷ past) = visit_by x.call x.before k (visit_at k past)
 
 -- the client at a place is the one that its visit leads to, and was sent these bytes, as if there were no other client; at a free place,
 -- nothing was sent
-abbrev pub IsVisit : Option Visit → Option Guest → List ℕ → Type 0
+abbrev pub IsVisit : Option Visit → Option SnapshotClient → List ℕ → Type 0
 IsVisit None None sent = sent ≡ []
 IsVisit (Some v) (Some g) sent = Story v.begun.config v.begun.now v.past g sent
-IsVisit visit seat sent = ⊥
+IsVisit visit slot sent = ⊥

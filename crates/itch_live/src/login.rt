@@ -1,6 +1,6 @@
 //! The state of a client's login.
 ghost use Rattle.std.specs.Prelude.{◌≡◌, None, is_some};
-ghost use Rattle.itch_live.specs.Guests as guests;
+ghost use Rattle.itch_live.specs.SnapshotClients as clients;
 
 use itch_soup::LoginRequest;
 
@@ -18,8 +18,8 @@ pub(crate) enum LoginState {
 impl LoginState {
     /// Returns the state after this login was accepted, if there is one.
     pub(crate) fn accepted(login: Option<LoginRequest>) -> LoginState
-        ensures asked { guests.asked_of result ≡ login }
-        ensures rejection { guests.rejection_of result ≡ None }
+        ensures asked { clients.asked_of result ≡ login }
+        ensures rejection { clients.rejection_of result ≡ None }
     {
         match login {
             Some(login) => LoginState::Accepted(login),
@@ -28,13 +28,13 @@ impl LoginState {
     }
 
     pub(crate) fn is_accepted(&self) -> bool
-        ensures { result ≡ is_some (guests.asked_of self.now) }
+        ensures { result ≡ is_some (clients.asked_of self.now) }
     {
         matches!(self, LoginState::Accepted(_))
     }
 
     pub(crate) fn rejection(&self) -> Option<u8>
-        ensures { result ≡ guests.rejection_of self.now }
+        ensures { result ≡ clients.rejection_of self.now }
     {
         match self {
             LoginState::Rejected { code } => Some(*code),

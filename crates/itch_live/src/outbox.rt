@@ -32,7 +32,7 @@ impl<A: Allocator> Model for Outbox<A> {
 }
 
 impl<A: Allocator> Outbox<A> {
-    /// Creates an empty outbox. It allocates all its memory here, exactly 131,076 bytes.
+    /// Creates an empty outbox. It allocates all its memory here: at least 131,076 bytes.
     pub(crate) fn new(alloc: A) -> Result<Outbox<A>, AllocError>
         ensures { IfOk result (λ o. o ≡ []) }
     {

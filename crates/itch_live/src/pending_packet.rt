@@ -2,7 +2,7 @@
 ghost use Rattle.std.specs.Prelude.{◌≡◌, ◌+◌, ◌++◌, ◌≤◌, [], length, drop};
 ghost use Rattle.arrayvec.specs.ArrayVec.{array_vec_len};
 ghost use Rattle.itch_frame.specs.Blocks.{block};
-ghost use Rattle.itch_live.specs.Guests as guests;
+ghost use Rattle.itch_live.specs.SnapshotClients as clients;
 
 use arrayvec::ArrayVec;
 use byteorder::{BigEndian, ByteOrder};
@@ -56,7 +56,7 @@ impl PendingPacket {
 
     /// Returns whether no bytes wait.
     pub fn is_empty(&self) -> bool
-        ensures { result ≡ guests.is_none self.now }
+        ensures { result ≡ clients.is_none self.now }
     {
         self.bytes().is_empty()
     }

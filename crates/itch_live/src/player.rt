@@ -2,8 +2,8 @@
 ghost use Rattle.std.specs.Prelude.{◌≡◌, ◌≤◌, ◌<◌, ◌^◌, length, IfOk, IsSome};
 ghost use Rattle.itch_live.specs.Players as players;
 
-use crate::gone::Gone;
-use crate::guest::hear_payload;
+use crate::client::hear_payload;
+use crate::disconnect_cause::DisconnectCause;
 use crate::outbox::Outbox;
 use crate::progress::Progress;
 use itch_frame::Splitter;
@@ -29,7 +29,7 @@ pub struct Player<A: Allocator> {
     progress: Progress,
     next: u64,
     outbox: Outbox<A>,
-    gone: Option<Gone>,
+    gone: Option<DisconnectCause>,
     moved: u64,
     sent: u64,
 }
@@ -114,8 +114,8 @@ impl<A: Allocator> Player<A> {
                 self.tell(Progress::Refused { code }, &packet, now_ms);
             }
             ServerAct::Nothing => {}
-            ServerAct::Close => self.go(Gone::Left),
-            ServerAct::Fault(_) => self.go(Gone::Fault),
+            ServerAct::Close => self.go(DisconnectCause::Left),
+            ServerAct::Fault(_) => self.go(DisconnectCause::Fault),
         }
     }
 
@@ -170,7 +170,7 @@ impl<A: Allocator> Player<A> {
         ensures { self.new ≡ players.ticked self.old now_ms }
     {
         if now_ms.saturating_sub(self.moved) >= SILENCE_MS {
-            self.go(Gone::Silent);
+            self.go(DisconnectCause::Silent);
         } else if self.is_idle(now_ms) {
             self.outbox.push(&ServerSession::heartbeat());
             self.sent = now_ms;
@@ -199,15 +199,15 @@ impl<A: Allocator> Player<A> {
         }
     }
 
-    /// Records that the client is gone. The reason is [`Gone::Left`], unless it was gone before.
+    /// Records that the client is gone. The reason is [`DisconnectCause::Left`], unless it was gone before.
     pub fn leave(&mut self)
         ensures { self.new ≡ players.left self.old }
     {
-        self.go(Gone::Left);
+        self.go(DisconnectCause::Left);
     }
 
     // Marks the client as gone for this reason, unless it was gone before.
-    fn go(&mut self, reason: Gone)
+    fn go(&mut self, reason: DisconnectCause)
         ensures { self.new ≡ players.gone_for reason self.old }
     {
         if self.gone.is_none() {
@@ -231,7 +231,7 @@ impl<A: Allocator> Player<A> {
     }
 
     /// Returns why the client is gone, if it is: the first reason that occurred.
-    pub fn why_gone(&self) -> Option<Gone>
+    pub fn why_gone(&self) -> Option<DisconnectCause>
         ensures { result ≡ self.now.gone }
     {
         self.gone

@@ -26,12 +26,12 @@ no_more range best = refl
 
 -- a range can be read from this row
 abbrev pub Begins : Range → IndexRow → Type 0
-Begins range row = may_begin range row.mark ≡ true
+Begins range row = may_begin range row.cursor ≡ true
 
 better_begins : (range : Range) (best : Option IndexRow) (row : IndexRow) → IfSome best (Begins range) → IfSome (better range best row) (Begins range)
 better_begins range best row begins =
-    by_test (nat_lt (most_of best) row.mark.count && may_begin range row.mark)
-    (λ is. subst (λ (b : Bool). IfSome (if b then Some row else best) (Begins range)) (sym is) (and_second (nat_lt (most_of best) row.mark.count) (may_begin range row.mark) is))
+    by_test (nat_lt (most_of best) row.cursor.count && may_begin range row.cursor)
+    (λ is. subst (λ (b : Bool). IfSome (if b then Some row else best) (Begins range)) (sym is) (and_second (nat_lt (most_of best) row.cursor.count) (may_begin range row.cursor) is))
     (λ not. subst (λ (b : Bool). IfSome (if b then Some row else best) (Begins range)) (sym not) begins)
 
 pub begins : (range : Range) (best : Option IndexRow) (rows : List IndexRow) → IfSome best (Begins range) → IfSome (begin_after range best rows) (Begins range)
@@ -41,19 +41,19 @@ begins range best (row ∷ rows) h = begins range (better range best row) rows (
 
 better_most : (range : Range) (best : Option IndexRow) (row : IndexRow) → most_of best ≤ most_of (better range best row)
 better_most range best row =
-    by_test (nat_lt (most_of best) row.mark.count && may_begin range row.mark)
+    by_test (nat_lt (most_of best) row.cursor.count && may_begin range row.cursor)
     (λ is.
-    let less : nat_lt (most_of best) row.mark.count ≡ true = and_first (nat_lt (most_of best) row.mark.count) (may_begin range row.mark) is in
+    let less : nat_lt (most_of best) row.cursor.count ≡ true = and_first (nat_lt (most_of best) row.cursor.count) (may_begin range row.cursor) is in
     subst (λ (b : Bool). most_of best ≤ most_of (if b then Some row else best)) (sym is) (grind (arith, nat_tests)))
     (λ not. subst (λ (b : Bool). most_of best ≤ most_of (if b then Some row else best)) (sym not) (omega arith))
 
-better_than : (range : Range) (best : Option IndexRow) (row : IndexRow) → Begins range row → row.mark.count ≤ most_of (better range best row)
+better_than : (range : Range) (best : Option IndexRow) (row : IndexRow) → Begins range row → row.cursor.count ≤ most_of (better range best row)
 better_than range best row here =
-    by_test (nat_lt (most_of best) row.mark.count)
-    (λ less. subst (λ (b : Bool). row.mark.count ≤ most_of (if b then Some row else best)) (sym (ap (λ b. b && may_begin range row.mark) less ∙ here)) (omega arith))
+    by_test (nat_lt (most_of best) row.cursor.count)
+    (λ less. subst (λ (b : Bool). row.cursor.count ≤ most_of (if b then Some row else best)) (sym (ap (λ b. b && may_begin range row.cursor) less ∙ here)) (omega arith))
     (λ not.
-    let enough : row.mark.count ≤ most_of best = grind (arith, nat_tests) in
-    subst (λ (b : Bool). row.mark.count ≤ most_of (if b then Some row else best)) (sym (ap (λ b. b && may_begin range row.mark) not)) enough)
+    let enough : row.cursor.count ≤ most_of best = grind (arith, nat_tests) in
+    subst (λ (b : Bool). row.cursor.count ≤ most_of (if b then Some row else best)) (sym (ap (λ b. b && may_begin range row.cursor) not)) enough)
 
 pub most_grows : (range : Range) (best : Option IndexRow) (rows : List IndexRow) → most_of best ≤ most_of (begin_after range best rows)
 unfolding begin_after
@@ -64,7 +64,7 @@ most_grows range best (row ∷ rows) =
     omega (arith, one, rest)
 
 pub most : (range : Range) (best : Option IndexRow) (rows : List IndexRow)
-    → AllByRecursion (λ row. Begins range row → row.mark.count ≤ most_of (begin_after range best rows)) rows
+    → AllByRecursion (λ row. Begins range row → row.cursor.count ≤ most_of (begin_after range best rows)) rows
 unfolding begin_after
 most range best [] = tt
 most range best (row ∷ rows) = (

@@ -11,8 +11,8 @@ use Rattle.itch_codec.specs.declared.message.Message.TheVariants as is
 use Rattle.itch_codec.specs.declared.stocks.StockDirectory.{StockDirectory}
 use Rattle.itch_codec.proofs.Spelling.{Spells-message_of}
 use Rattle.itch_frame.specs.Blocks.{IsFull, IsPayload, block, blocks}
-use Rattle.itch_day.specs.Marks.{mark_after, mark_past}
-use Rattle.itch_day.specs.declared.mark.Mark.{Mark}
+use Rattle.itch_day.specs.DayCursors.{cursor_after, cursor_past}
+use Rattle.itch_day.specs.declared.cursor.DayCursor.{DayCursor}
 use Rattle.itch_day.specs.Sinks.{TakesAll}
 use Rattle.itch_commands.specs.Choices.{directory_of}
 use Rattle.itch_commands.specs.Further.{AreListed}
@@ -91,7 +91,7 @@ each_entry P Q so (p ∷ ps) all =
 pub are_listed : (ps : List (List ℕ)) → AllByRecursion IsFull ps → AllByRecursion IsClean ps → AreListed (entries ps) (blocks (entries ps))
 are_listed ps full clean = record { whole = refl; each = each_entry IsFull IsPayload (λ p full. full.1) ps full; clean = each_entry IsClean IsClean (λ p clean. clean) ps clean }
 
--- the mark after some messages and others
-pub mark_append : (mark : Mark) (ps qs : List (List ℕ)) → mark_after (mark_after mark ps) qs ≡ mark_after mark (ps ++ qs)
-mark_append mark [] qs = refl
-mark_append mark (p ∷ ps) qs = mark_append (mark_past mark p) ps qs
+-- the cursor after some messages and others
+pub cursor_append : (cursor : DayCursor) (ps qs : List (List ℕ)) → cursor_after (cursor_after cursor ps) qs ≡ cursor_after cursor (ps ++ qs)
+cursor_append cursor [] qs = refl
+cursor_append cursor (p ∷ ps) qs = cursor_append (cursor_past cursor p) ps qs

@@ -1,6 +1,6 @@
 pub mod Beginnings
 pub mod Onward
-pub mod AfterMarks
+pub mod AfterCursors
 pub mod DirectoryLines
 pub mod Entries
 pub mod RowReadings

@@ -6,7 +6,7 @@ use Rattle.itch_codec.specs.Messages.{message_of}
 use Rattle.itch_codec.specs.declared.message.Message.{Message}
 use Rattle.itch_commands.specs.Choices.{Chosen, chosen_after, chosen_lines, chosen_past, is_about, is_located, is_typed, line_in}
 use Rattle.itch_commands.specs.Cuts.{is_of_stocks, kept_of, stock_of}
-use Rattle.itch_commands.specs.Sought.{is_sought}
+use Rattle.itch_commands.specs.Lookup.{is_sought}
 use Rattle.itch_commands.specs.Starts.{before_range, is_begun, start_after}
 use Rattle.itch_commands.specs.declared.form.ShowForm.{ShowForm}
 use Rattle.itch_commands.specs.declared.start.Start.{Start}

@@ -5,9 +5,9 @@ use Rattle.itch_commands.specs.declared.filters.Filters.{Filters}
 use Rattle.itch_commands.specs.declared.kind.FileKind.TheVariants.{Day}
 use Rattle.itch_commands.specs.declared.request.Command.{Command}
 use Rattle.itch_commands.specs.declared.request.Command.TheVariants.{Show, Cut}
-use Rattle.itch_day.specs.Marks.{is_in}
+use Rattle.itch_day.specs.DayCursors.{is_in}
 use Rattle.itch_day.specs.declared.limit.Limit.{Limit}
-use Rattle.itch_day.specs.declared.mark.Mark.{Mark}
+use Rattle.itch_day.specs.declared.cursor.DayCursor.{DayCursor}
 use Rattle.itch_offsets.specs.declared.begin.Range.{Range}
 use Rattle.itch_offsets.specs.declared.row.IndexRow.{IndexRow}
 
@@ -25,18 +25,18 @@ range_of (Show (Day limit) form filters) = range_in limit filters
 range_of (Cut limit filters) = range_in limit filters
 range_of command = None
 
--- all messages of a mark are before a range, and in the part of the file
-abbrev pub may_begin : Range → Mark → Bool
-may_begin range mark = is_beyond range.start mark && is_in range.limit mark
+-- all messages before a cursor are before a range, and in the part of the file
+abbrev pub may_begin : Range → DayCursor → Bool
+may_begin range cursor = is_beyond range.start cursor && is_in range.limit cursor
 
 -- the number of messages of a row, if there is one
 abbrev pub most_of : Option IndexRow → ℕ
 most_of None = 0
-most_of (Some row) = row.mark.count
+most_of (Some row) = row.cursor.count
 
 -- a row, if a range can be read from there and it has more messages than the best one so far
 abbrev pub better : Range → Option IndexRow → IndexRow → Option IndexRow
-better range best row = if nat_lt (most_of best) row.mark.count && may_begin range row.mark then Some row else best
+better range best row = if nat_lt (most_of best) row.cursor.count && may_begin range row.cursor then Some row else best
 
 -- the best one of these rows and of those before
 unfoldable pub begin_after : Range → Option IndexRow → List IndexRow → Option IndexRow

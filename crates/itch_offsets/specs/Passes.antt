@@ -7,15 +7,15 @@ use Rattle.itch_frame.specs.Blocks.{IsFull, block, blocks}
 use Rattle.itch_frame.specs.Reading.{Reading, bytes_left}
 use Rattle.itch_frame.specs.declared.tally.Failures.{Failures}
 use Rattle.itch_day.specs.Limits.{most_of}
-use Rattle.itch_day.specs.Marks.{RefusesMarked, TakesMarked, mark_after}
+use Rattle.itch_day.specs.DayCursors.{RefusesTracked, TakesTracked, cursor_after}
 use Rattle.itch_day.specs.Parts.{ReadsPart}
 use Rattle.itch_day.specs.declared.limit.Limit.{Limit}
-use Rattle.itch_day.specs.declared.mark.Mark.{Mark}
-use Rattle.itch_day.specs.declared.marked.Marked.{Marked}
+use Rattle.itch_day.specs.declared.cursor.DayCursor.{DayCursor}
+use Rattle.itch_day.specs.declared.tracked.Tracked.{Tracked}
 use Rattle.itch_day.specs.declared.stop.PartStop.{PartStop as Part}
 use Rattle.itch_day.specs.declared.stop.PartStop.TheVariants as part
 use Rattle.itch_commands.specs.Showing.{IsClean, IsFaultOf, answer_of}
-use Rattle.itch_commands.specs.Sought.{listed}
+use Rattle.itch_commands.specs.Lookup.{listed}
 use Rattle.itch_commands.specs.declared.fault.Source.TheVariants.{Only}
 use Rattle.itch_commands.specs.declared.fault.ToolFault.{ToolFault}
 use Rattle.itch_commands.specs.declared.fault.ToolFault.TheVariants as tool
@@ -46,9 +46,9 @@ RefusesEntry old number payload why new = IsClean payload × (why ≡ tool.OutOf
 abbrev pub row_part : Limit → ℕ → Limit
 row_part limit count = record { after = Some (min (min (count + 65536) (2 ^ 64 - 1)) (most_of limit.after)); until = limit.until }
 
--- the mark before some messages, with no blocks
-abbrev pub cleared : Mark → Marked (List ℕ)
-cleared mark = record { sink = []; mark = mark }
+-- the cursor before some messages, with no blocks
+abbrev pub cleared : DayCursor → Tracked (List ℕ)
+cleared cursor = record { sink = []; cursor = cursor }
 
 -- a part goes on after that many messages, by the reason why the reading stopped at a row or before
 abbrev pub goes_on : Limit → ℕ → Part ToolFault → Bool
@@ -60,16 +60,16 @@ abbrev pub row_answer : Limit → ℕ → Part ToolFault → Result Bool ToolFau
 row_answer limit count stop = answer_of limit.after count (goes_on limit count stop) stop
 
 module _ {R : Type 0} (remaining : R → Option (List ℕ)) (failures : R → Failures) (limit : Limit) where
-  -- The messages up to the next row came off the front: each is a valid message. The mark is after them, and the blocks of the Stock
+  -- The messages up to the next row came off the front: each is a valid message. The cursor is after them, and the blocks of the Stock
   -- Directory messages among them are kept, unless memory ran out.
-  pub record ReadsRow (old new : Reading R) (before : Mark) (after : Marked (List ℕ)) (result : Result Bool ToolFault) : Type 0 where
+  pub record ReadsRow (old new : Reading R) (before : DayCursor) (after : Tracked (List ℕ)) (result : Result Bool ToolFault) : Type 0 where
     pub stop : Part ToolFault
-    pub reads : ReadsPart remaining failures (TakesMarked TakesEntry) (RefusesMarked RefusesEntry) (row_part limit before.count) old new before.count after.mark.count
+    pub reads : ReadsPart remaining failures (TakesTracked TakesEntry) (RefusesTracked RefusesEntry) (row_part limit before.count) old new before.count after.cursor.count
         (cleared before) stop after
-    pub answer : result ≡ row_answer limit after.mark.count stop
+    pub answer : result ≡ row_answer limit after.cursor.count stop
     pub payloads : List (List ℕ)
     pub bytes : Consumes (bytes_left remaining old) (bytes_left remaining new) (blocks payloads)
     pub full : AllByRecursion IsFull payloads
     pub clean : AllByRecursion IsClean payloads
-    pub marked : after.mark ≡ mark_after before payloads
+    pub tracked : after.cursor ≡ cursor_after before payloads
     pub kept : OnOk result (after.sink ≡ blocks (entries payloads))

@@ -6,12 +6,12 @@ use Rattle.itch_checkpoints.specs.IndexLines.{digits_part, place_part}
 use Rattle.itch_checkpoints.specs.declared.fingerprint.Fingerprint.{Fingerprint}
 use Rattle.itch_checkpoints.specs.declared.latest.Latest.{Latest}
 use Rattle.itch_checkpoints.specs.declared.latest.Latest.TheVariants.{Known, Unknown}
-use Rattle.itch_day.specs.declared.mark.Mark.{Mark}
+use Rattle.itch_day.specs.declared.cursor.DayCursor.{DayCursor}
 use Rattle.itch_offsets.specs.declared.row.IndexRow.{IndexRow}
 
 -- the line of a row
-abbrev pub row_line : Mark → Fingerprint → List ℕ
-row_line mark fingerprint = place_part mark ++ (digits_part fingerprint ++ codes "}\n")
+abbrev pub row_line : DayCursor → Fingerprint → List ℕ
+row_line cursor fingerprint = place_part cursor ++ (digits_part fingerprint ++ codes "}\n")
 
 -- the line of the payload of a Stock Directory message
 abbrev pub directory_line : List ℕ → List ℕ
@@ -22,8 +22,8 @@ abbrev pub directory_lines : List (List ℕ) → List ℕ
 directory_lines payloads = flat_map directory_line payloads
 
 -- the lines for a row: those of the Stock Directory messages since the row before it, which have these payloads, and that of the row
-abbrev pub row_lines : List (List ℕ) → Mark → Fingerprint → List ℕ
-row_lines payloads mark fingerprint = directory_lines payloads ++ row_line mark fingerprint
+abbrev pub row_lines : List (List ℕ) → DayCursor → Fingerprint → List ℕ
+row_lines payloads cursor fingerprint = directory_lines payloads ++ row_line cursor fingerprint
 
 -- the last line, with the first digits of the digest of all lines before
 abbrev pub end_line : List ℕ → List ℕ
@@ -34,7 +34,7 @@ end_line digits = codes "{\"end\":\"" ++ digits ++ codes "\"}\n"
 abbrev pub row_of : ℕ → ℕ → Latest → Option Fingerprint → ℕ → Option IndexRow
 row_of count offset (Known latest) (Some fingerprint) listed =
     if nat_le count (10 ^ 19 - 1)
-    then Some (record { mark = record { count = count; offset = offset; latest = latest }; fingerprint = fingerprint; listed = listed })
+    then Some (record { cursor = record { count = count; offset = offset; latest = latest }; fingerprint = fingerprint; listed = listed })
     else None
 row_of count offset (Known latest) None listed = None
 row_of count offset Unknown fingerprint listed = None

@@ -4,7 +4,7 @@ ghost use Rattle.itch_offsets.specs.Beginnings.{begin_after, better, may_begin, 
 
 use crate::row::IndexRow;
 use itch_commands::{Command, FileKind, Filters, Limit, Start};
-use itch_day::Mark;
+use itch_day::DayCursor;
 
 /// A range of the messages of a day: its beginning, and the part of the file with which it ends.
 #[derive(Clone, Copy, Debug, PartialEq, Eq)]
@@ -42,11 +42,11 @@ fn range_in(limit: Limit, filters: &Filters<'_>) -> Option<Range>
     }
 }
 
-/// Returns whether a range can be read from a mark on: all messages of the mark are before the range, and in the part of the file.
-pub fn may_begin(mark: &Mark, range: Range) -> bool
-    ensures { result ≡ may_begin range mark.now }
+/// Returns whether a range can be read from a cursor on: all messages before the cursor are before the range, and in the part of the file.
+pub fn may_begin(cursor: &DayCursor, range: Range) -> bool
+    ensures { result ≡ may_begin range cursor.now }
 {
-    range.start.is_beyond(mark) && mark.is_in(range.limit)
+    range.start.is_beyond(cursor) && cursor.is_in(range.limit)
 }
 
 /// Returns the row with the most messages from which a range can be read, if there is one.
@@ -65,10 +65,10 @@ fn better(best: Option<IndexRow>, row: IndexRow, range: Range) -> Option<IndexRo
     ensures { result ≡ better range best row }
 {
     let most = match best {
-        Some(best) => best.mark.count,
+        Some(best) => best.cursor.count,
         None => 0,
     };
-    if most < row.mark.count && may_begin(&row.mark, range) {
+    if most < row.cursor.count && may_begin(&row.cursor, range) {
         Some(row)
     } else {
         best

@@ -4,7 +4,7 @@ ghost use Rattle.itch_offsets.specs.Passes.{row_answer, row_part};
 
 use crate::directory::{DirectoryBlocks, stopped};
 use itch_commands::{Limit, Source, ToolFault};
-use itch_day::{Mark, Marked, PartStop, read_part};
+use itch_day::{DayCursor, PartStop, Tracked, read_part};
 use itch_frame::{BlockReader, CountedRead};
 use itch_market::Stop;
 use std::alloc::Allocator;
@@ -16,53 +16,53 @@ const ROW: u64 = 65_536;
 #[derive(Drop)]
 pub struct IndexPass<R: CountedRead, A: Allocator, B: Allocator> {
     reader: BlockReader<R, A>,
-    marked: Marked<DirectoryBlocks<B>>,
-    ghost few: { marked.mark.count ≤ 10 ^ 19 - 1 },
+    tracked: Tracked<DirectoryBlocks<B>>,
+    ghost few: { tracked.cursor.count ≤ 10 ^ 19 - 1 },
 }
 
 impl<R: CountedRead, A: Allocator, B: Allocator> IndexPass<R, A, B> {
     ghost use Rattle.std.specs.Prelude.{◌≡◌, []};
-    ghost use Rattle.itch_day.specs.Marks.{first_mark};
+    ghost use Rattle.itch_day.specs.DayCursors.{first_cursor};
     ghost use Rattle.itch_offsets.specs.Passes.{ReadsRow};
 
     /// Creates a pass that begins at this reader's position, the beginning of a day file.
     pub fn new(alloc: B, reader: BlockReader<R, A>) -> IndexPass<R, A, B>
         ensures reader { result.reader ≡ reader }
-        ensures marked { result.marked ≡ record { sink = []; mark = first_mark } }
+        ensures tracked { result.tracked ≡ record { sink = []; cursor = first_cursor } }
     {
         IndexPass {
             reader,
-            marked: Marked {
+            tracked: Tracked {
                 sink: DirectoryBlocks::new(alloc),
-                mark: Mark::new(),
+                cursor: DayCursor::new(),
             },
         }
     }
 
-    /// Returns the mark after the messages read so far.
-    pub fn mark(&self) -> Mark
-        ensures { result ≡ self.now.marked.mark }
+    /// Returns the cursor after the messages read so far.
+    pub fn cursor(&self) -> DayCursor
+        ensures { result ≡ self.now.tracked.cursor }
     {
-        self.marked.mark
+        self.tracked.cursor
     }
 
     /// Returns the blocks of the Stock Directory messages since the last row, one after another.
     pub fn directory(&self) -> &[u8]
-        ensures { result.now ≡ self.now.marked.sink }
+        ensures { result.now ≡ self.now.tracked.sink }
     {
-        self.marked.sink.blocks()
+        self.tracked.sink.blocks()
     }
 
     /// Reads on to the next row of a part of the file, and returns true; or to the end of the part, and returns false.
     ///
     /// The faults are those of `show` for this part.
     pub fn read_row(&mut self, limit: Limit) -> Result<bool, ToolFault>
-        ensures { ReadsRow R.remaining R.failures limit self.old.reader self.new.reader self.old.marked.mark self.new.marked result }
+        ensures { ReadsRow R.remaining R.failures limit self.old.reader self.new.reader self.old.tracked.cursor self.new.tracked result }
     {
-        self.marked.sink.clear();
-        let mut count = self.marked.mark.count;
+        self.tracked.sink.clear();
+        let mut count = self.tracked.cursor.count;
         let part = row_part(limit, count);
-        let stop = read_part(&mut self.reader, &mut count, &mut self.marked, part);
+        let stop = read_part(&mut self.reader, &mut count, &mut self.tracked, part);
         answer(stop, limit, count)
     }
 }

@@ -4,14 +4,14 @@ ghost use Rattle.itch_offsets.specs.Rows.{row_of};
 
 use itch_checkpoints::{Checkpoint, Fingerprint, Latest};
 use itch_codec::MOST_MESSAGES;
-use itch_day::Mark;
+use itch_day::DayCursor;
 use std::alloc::{AllocError, Global};
 
 /// A place in a day file at which a message begins.
 #[derive(Clone, Copy, Debug, PartialEq, Eq)]
 pub struct IndexRow {
-    /// The mark of the messages before it.
-    pub mark: Mark,
+    /// The cursor of the messages before it.
+    pub cursor: DayCursor,
     /// The fingerprint of the file's bytes before it.
     pub fingerprint: Fingerprint,
     /// The number of bytes of the blocks of the Stock Directory messages before it.
@@ -50,7 +50,7 @@ fn row_of(
 {
     match (latest, fingerprint) {
         (Latest::Known(latest), Some(fingerprint)) if count <= MOST_MESSAGES => Some(IndexRow {
-            mark: Mark {
+            cursor: DayCursor {
                 count,
                 offset,
                 latest,

@@ -7,7 +7,7 @@ ghost use Rattle.sha2.specs.Hashers.{Holds256};
 
 use crate::directory::push_directory;
 use itch_checkpoints::{Fingerprint, first_digits, push_fingerprint, push_place};
-use itch_day::Mark;
+use itch_day::DayCursor;
 use sha2::{Digest, Sha256};
 use std::alloc::{AllocError, Allocator, Global};
 
@@ -31,21 +31,21 @@ impl IndexWriter {
         }
     }
 
-    /// Adds the row at a mark, with the blocks of the Stock Directory messages since the row before. Its lines are one for each of these
+    /// Adds the row at a cursor, with the blocks of the Stock Directory messages since the row before. Its lines are one for each of these
     /// messages, and that of the row.
     pub fn add(
         &mut self,
         directory: &[u8],
-        mark: Mark,
+        cursor: DayCursor,
         fingerprint: Fingerprint,
     ) -> Result<(), AllocError>
         ensures lines { (payloads : List (List ℕ)) → (rest : List ℕ) → Blocks directory.now payloads rest
-            → OnOk result (self.new.lines.items ≡ row_lines payloads mark fingerprint) }
+            → OnOk result (self.new.lines.items ≡ row_lines payloads cursor fingerprint) }
         ensures digest { (before : List ℕ) → Holds256 self.old.hasher before → OnOk result (Holds256 self.new.hasher (before ++ self.new.lines.items)) }
     {
         self.lines.clear();
         push_directory(self.alloc, &mut self.lines, directory)?;
-        push_row(&mut self.lines, mark, fingerprint)?;
+        push_row(&mut self.lines, cursor, fingerprint)?;
         self.hasher.update(&self.lines);
         Ok(())
     }
@@ -67,15 +67,15 @@ impl IndexWriter {
     }
 }
 
-// Appends the line of the row at a mark: a JSON object with the members of a checkpoint, other than the name of a snapshot file.
+// Appends the line of the row at a cursor: a JSON object with the members of a checkpoint, other than the name of a snapshot file.
 fn push_row<A: Allocator>(
     lines: &mut Vec<u8, A>,
-    mark: Mark,
+    cursor: DayCursor,
     fingerprint: Fingerprint,
 ) -> Result<(), AllocError>
-    ensures { OnOk result (lines.new.items ≡ lines.old.items ++ row_line mark fingerprint) }
+    ensures { OnOk result (lines.new.items ≡ lines.old.items ++ row_line cursor fingerprint) }
 {
-    push_place(lines, mark)?;
+    push_place(lines, cursor)?;
     push_fingerprint(lines, fingerprint)?;
     lines.extend_from_slice(b"}\n")
 }

@@ -1,11 +1,11 @@
 -- The messages of a record that a follower has applied as a sink.
 use Rattle.std.proofs.Common.{◌≡◌, ℕ, ◌+◌, List, [], ◌∷◌, Option, Result, Ok, Err, sym, ap, subst, ◌∙◌}
 use Rattle.std.specs.Prelude.{IfOk}
-use Rattle.itch_day.specs.Marks.{mark_after, mark_past}
+use Rattle.itch_day.specs.DayCursors.{cursor_after, cursor_past}
 use Rattle.itch_day.specs.Parts.{ReadsPart, StopsAt}
 use Rattle.itch_day.specs.Sinks.{TakesAll}
 use Rattle.itch_day.specs.declared.limit.Limit.{Limit}
-use Rattle.itch_day.specs.declared.mark.Mark.{Mark}
+use Rattle.itch_day.specs.declared.cursor.DayCursor.{DayCursor}
 use Rattle.itch_day.specs.declared.stop.PartStop.{PartStop}
 use Rattle.itch_day.specs.declared.stop.PartStop.TheVariants.{Full, Late, End, Frame, TooMany, Refused}
 use Rattle.itch_frame.specs.Reading.{Reading}
@@ -14,16 +14,16 @@ use Rattle.itch_frame.specs.declared.tally.Failures.{Failures}
 use Rattle.itch_live.specs.Follows.{Following}
 use Rattle.itch_records.specs.Replays.{IsRead, Replays, TakesRecorded}
 
-module _ {T N : Type 0} (at : T → Following) (name : T → N) (mark : T → Mark) where
+module _ {T N : Type 0} (at : T → Following) (name : T → N) (cursor : T → DayCursor) where
   abbrev pub Taken : T → ℕ → List ℕ → T → Type 0
-  Taken s number payload t = (name t ≡ name s) × TakesRecorded (at s) number payload (at t) × (mark t ≡ mark_past (mark s) payload)
+  Taken s number payload t = (name t ≡ name s) × TakesRecorded (at s) number payload (at t) × (cursor t ≡ cursor_past (cursor s) payload)
 
   taken_all : (s t : T) (count : ℕ) (ps : List (List ℕ)) → TakesAll Taken s count ps t
-      → (name t ≡ name s) × TakesAll TakesRecorded (at s) count ps (at t) × (mark t ≡ mark_after (mark s) ps)
-  taken_all s t count [] same = (ap name same, ap at same, ap mark same)
+      → (name t ≡ name s) × TakesAll TakesRecorded (at s) count ps (at t) × (cursor t ≡ cursor_after (cursor s) ps)
+  taken_all s t count [] same = (ap name same, ap at same, ap cursor same)
   taken_all s t count (p ∷ ps) (mid, took, rest) =
       let later = taken_all mid t (count + 1) ps rest in
-      (later.0 ∙ took.0, (at mid, took.1, later.1), later.2 ∙ ap (λ m. mark_after m ps) took.2)
+      (later.0 ∙ took.0, (at mid, took.1, later.1), later.2 ∙ ap (λ m. cursor_after m ps) took.2)
 
   module _ {F R : Type 0} (remaining : R → Option (List ℕ)) (failures : R → Failures) (refuses : T → ℕ → List ℕ → F → T → Type 0) (limit : Limit) where
     -- nothing changes where the part was read
@@ -38,8 +38,8 @@ module _ {T N : Type 0} (at : T → Following) (name : T → N) (mark : T → Ma
     unchanged count r s t TooMany stops is = absurd is
     unchanged count r s t (Refused why) stops is = absurd is
 
-    pub replays : (old new : Reading R) (before count : ℕ) (s t : T) (why : PartStop F) → ReadsPart remaining failures Taken refuses limit old new before count s why t → before ≡ (mark s).count → IsRead why
-        → (name t ≡ name s) × Replays remaining old new (mark s) (mark t) (at s) (at t)
+    pub replays : (old new : Reading R) (before count : ℕ) (s t : T) (why : PartStop F) → ReadsPart remaining failures Taken refuses limit old new before count s why t → before ≡ (cursor s).count → IsRead why
+        → (name t ≡ name s) × Replays remaining old new (cursor s) (cursor t) (at s) (at t)
     replays old new before count s t why reads same is =
         let still : t ≡ reads.last = unchanged count new reads.last t why reads.stops is in
         let all = taken_all s reads.last before reads.payloads reads.taken.taken in (
@@ -49,7 +49,7 @@ module _ {T N : Type 0} (at : T → Following) (name : T → N) (mark : T → Ma
             bytes = reads.taken.bytes;
             full = reads.taken.full;
             taken = subst (λ n. TakesAll TakesRecorded (at s) n reads.payloads (at t)) same (subst (λ x. TakesAll TakesRecorded (at s) before reads.payloads x) (sym (ap at still)) all.1);
-            marked = ap mark still ∙ all.2;
+            tracked = ap cursor still ∙ all.2;
           },
         )
 
@@ -58,7 +58,7 @@ pub if_ok : {X E : Type 0} {P Q : Type 0} (result : Result X E) → IfOk result 
 if_ok (Ok x) holds follows = follows holds
 if_ok (Err e) holds follows = tt
 
-module _ {T N F R : Type 0} (at : T → Following) (name : T → N) (mark : T → Mark) (remaining : R → Option (List ℕ)) (failures : R → Failures) (limit : Limit) where
+module _ {T N F R : Type 0} (at : T → Following) (name : T → N) (cursor : T → DayCursor) (remaining : R → Option (List ℕ)) (failures : R → Failures) (limit : Limit) where
   -- a sink has kept its name where the part stops
   abbrev pub Named : T → ℕ → List ℕ → F → T → Type 0
   Named s number payload why t = name t ≡ name s
@@ -74,6 +74,6 @@ module _ {T N F R : Type 0} (at : T → Following) (name : T → N) (mark : T �
   stops_named count r s t TooMany stops = ap name stops.0
   stops_named count r s t (Refused why) (before, (payload, next, full, few, early, named)) = named
 
-  pub keeps_name : (old new : Reading R) (before count : ℕ) (s t : T) (why : PartStop F) → ReadsPart remaining failures (Taken at name mark) Named limit old new before count s why t → name t ≡ name s
+  pub keeps_name : (old new : Reading R) (before count : ℕ) (s t : T) (why : PartStop F) → ReadsPart remaining failures (Taken at name cursor) Named limit old new before count s why t → name t ≡ name s
   keeps_name old new before count s t why reads =
-      stops_named count new reads.last t why reads.stops ∙ (taken_all at name mark s reads.last before reads.payloads reads.taken.taken).0
+      stops_named count new reads.last t why reads.stops ∙ (taken_all at name cursor s reads.last before reads.payloads reads.taken.taken).0

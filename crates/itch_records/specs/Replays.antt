@@ -2,9 +2,9 @@
 use Rattle.std.specs.Prelude.{◌≡◌, ℕ, ⊤, List, Option, Ok}
 use Rattle.std.specs.List.{AllByRecursion}
 use Rattle.std.specs.Io.KnownBytes.{Consumes}
-use Rattle.itch_day.specs.Marks.{mark_after}
+use Rattle.itch_day.specs.DayCursors.{cursor_after}
 use Rattle.itch_day.specs.Sinks.{TakesAll}
-use Rattle.itch_day.specs.declared.mark.Mark.{Mark}
+use Rattle.itch_day.specs.declared.cursor.DayCursor.{DayCursor}
 use Rattle.itch_day.specs.declared.stop.PartStop.{PartStop}
 use Rattle.itch_day.specs.declared.stop.PartStop.TheVariants.{Full, Late, End, Frame, TooMany, Refused}
 use Rattle.itch_frame.specs.Blocks.{blocks, IsFull}
@@ -29,11 +29,11 @@ IsRead (Frame TooLong) = ⊥
 IsRead TooMany = ⊥
 IsRead (Refused why) = ⊥
 
--- Some messages came off the front of the record. The follower applied them in order, each under its number, and the mark is the one after
+-- Some messages came off the front of the record. The follower applied them in order, each under its number, and the cursor is the one after
 -- them.
-pub record Replays {R : Type 0} (remaining : R → Option (List ℕ)) (old new : Reading R) (mark past : Mark) (before after : Following) : Type 0 where
+pub record Replays {R : Type 0} (remaining : R → Option (List ℕ)) (old new : Reading R) (cursor past : DayCursor) (before after : Following) : Type 0 where
   pub payloads : List (List ℕ)
   pub bytes : Consumes (bytes_left remaining old) (bytes_left remaining new) (blocks payloads)
   pub full : AllByRecursion IsFull payloads
-  pub taken : TakesAll TakesRecorded before mark.count payloads after
-  pub marked : past ≡ mark_after mark payloads
+  pub taken : TakesAll TakesRecorded before cursor.count payloads after
+  pub tracked : past ≡ cursor_after cursor payloads

@@ -131,7 +131,7 @@ impl LiveFault {
                 ..
             } => {
                 let place = feeds.get(*server).unwrap_or(feeds.first);
-                Some(Detail::Feed(place.words, *session))
+                Some(Detail::Feed(place.text, *session))
             }
             LiveFault::OtherSession { server, named, .. } => match server {
                 ServerKind::Glimpse => Some(Detail::GlimpseSession(*named)),

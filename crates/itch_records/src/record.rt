@@ -7,7 +7,7 @@ use crate::session_file::{read_session, write_session};
 use crate::step::record_fault;
 use crate::watch::{FileChange, Seen, change_of};
 use itch_codec::Alpha;
-use itch_day::Mark;
+use itch_day::DayCursor;
 use itch_frame::tally::Failures;
 use itch_sessions::SessionFault;
 use itch_sessions::log::Log;
@@ -55,7 +55,7 @@ impl<'a> RecordPlace<'a> {
 
 /// The options of a live server's record.
 #[derive(Clone, Copy, Debug, PartialEq, Eq)]
-pub struct RecordWords<'a> {
+pub struct RecordOptions<'a> {
     /// The day file to which each message is appended, or the folder of such files.
     pub place: RecordPlace<'a>,
     pub sync: SyncTime,
@@ -102,7 +102,7 @@ impl Record {
     /// A [`LiveFault`] if the file cannot be opened, another process uses it, or its session is unknown or another one.
     pub fn open<R: Files<File = File> + AllocGlobal>(
         rt: &R,
-        words: RecordWords<'_>,
+        words: RecordOptions<'_>,
         path: String,
         named: Option<Alpha<10>>,
     ) -> Result<Record, LiveFault> {
@@ -135,7 +135,7 @@ impl Record {
         Ok(Record { recording, kept })
     }
 
-    /// Returns a replay of its messages after those of a mark, if it has any bytes.
+    /// Returns a replay of its messages after a cursor, if it has any bytes.
     ///
     /// # Errors
     ///
@@ -143,12 +143,12 @@ impl Record {
     pub fn replay<R: Files<File = File> + AllocGlobal>(
         &self,
         rt: &R,
-        mark: Mark,
+        cursor: DayCursor,
     ) -> Result<Option<Replay>, LiveFault> {
         match &self.kept {
             Some(kept) if kept.opened.length > 0 => {
                 let file = open_again(rt, kept.path.as_str())?;
-                Ok(Some(Replaying::after(rt.alloc(), file, mark)?))
+                Ok(Some(Replaying::after(rt.alloc(), file, cursor)?))
             }
             _ => Ok(None),
         }
@@ -159,7 +159,11 @@ impl Record {
     /// # Errors
     ///
     /// A [`LiveFault`] if the file cannot be truncated.
-    pub fn cut<R: Eprint>(&mut self, log: &mut Log<'_, R>, whole: Mark) -> Result<(), LiveFault> {
+    pub fn cut<R: Eprint>(
+        &mut self,
+        log: &mut Log<'_, R>,
+        whole: DayCursor,
+    ) -> Result<(), LiveFault> {
         let Recording::File { file, .. } = &self.recording else {
             return Ok(());
         };

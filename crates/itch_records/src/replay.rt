@@ -1,6 +1,6 @@
 //! Replays the messages of a record in parts, before more are added.
 ghost use Rattle.std.specs.Prelude.{◌≡◌, ℕ, ◌+◌, List, IfOk};
-ghost use Rattle.itch_day.specs.Marks.{later, mark_past, time_at};
+ghost use Rattle.itch_day.specs.DayCursors.{later, cursor_past, time_at};
 ghost use Rattle.itch_day.specs.Sinks.{Decodes};
 ghost use Rattle.itch_records.specs.Readiness.{next_stop};
 ghost use Rattle.itch_records.specs.Replays.{IsRead, Replays};
@@ -9,7 +9,7 @@ use crate::fault::{LiveFault, RecordFault};
 use crate::step::stop_of;
 use itch_book::OrderBook;
 use itch_codec::{CodecFault, MOST_MESSAGES, Message};
-use itch_day::{Limit, Mark, PartStop, Sink, read_part};
+use itch_day::{DayCursor, Limit, PartStop, Sink, read_part};
 use itch_frame::{BlockReader, Buffered, CountedRead, FrameFault};
 use itch_join::{JoinFault, Live};
 use itch_live::Follower;
@@ -38,24 +38,24 @@ pub fn next_stop(every: u64, count: u64) -> u64
     }
 }
 
-// A follower of a feed that takes the messages of a record, or stops the replay with a reason; and the mark after these messages.
+// A follower of a feed that takes the messages of a record, or stops the replay with a reason; and the cursor after these messages.
 #[derive(Drop)]
 struct RecordSink<'x, B: OrderBook> {
     follower: &'x mut Follower<B>,
-    mark: Mark,
+    cursor: DayCursor,
 }
 
 impl<'x, B: OrderBook> Sink for RecordSink<'x, B> {
     ghost use Rattle.std.specs.Prelude.{◌≡◌, ◌+◌};
-    ghost use Rattle.itch_day.specs.Marks.{mark_past};
+    ghost use Rattle.itch_day.specs.DayCursors.{cursor_past};
     ghost use Rattle.itch_records.specs.Replays.{TakesRecorded};
 
     type Fault = Stop;
 
-    ghost is_ready = { λ s number. number ≡ s.mark.count + 1 };
+    ghost is_ready = { λ s number. number ≡ s.cursor.count + 1 };
 
     ghost takes = { λ s number payload t. (t.follower.ghost_name ≡ s.follower.ghost_name) × TakesRecorded s.follower.now number payload t.follower.now
-        × (t.mark ≡ mark_past s.mark payload) };
+        × (t.cursor ≡ cursor_past s.cursor payload) };
 
     ghost refuses = { λ s number payload why t. t.follower.ghost_name ≡ s.follower.ghost_name };
 
@@ -67,7 +67,7 @@ impl<'x, B: OrderBook> Sink for RecordSink<'x, B> {
     ) -> Result<(), Stop> {
         match self.follower.replay(number, payload, message) {
             Ok(Live::Applied { .. }) => {
-                self.mark = mark_past(self.mark, number, payload, message);
+                self.cursor = cursor_past(self.cursor, number, payload, message);
                 Ok(())
             }
             Err(JoinFault::Halted { cause, .. }) => Err(stop_of(cause)),
@@ -88,22 +88,22 @@ impl<'x, B: OrderBook> Sink for RecordSink<'x, B> {
     }
 }
 
-// Returns the mark after the message with this number, which follows the messages of a mark.
-fn mark_past(
-    mark: Mark,
+// Returns the cursor after the message with this number, which follows the messages before a cursor.
+fn cursor_past(
+    cursor: DayCursor,
     number: u64,
     payload: &[u8],
     message: &Result<Message<'_>, CodecFault>,
-) -> Mark
-    requires next { number ≡ mark.count + 1 }
+) -> DayCursor
+    requires next { number ≡ cursor.count + 1 }
     requires decoded { Decodes payload.now message.now }
-    ensures { result ≡ mark_past mark payload.now }
+    ensures { result ≡ cursor_past cursor payload.now }
 {
     let size = (payload.len() as u64).saturating_add(2);
-    Mark {
+    DayCursor {
         count: number,
-        offset: mark.offset.saturating_add(size),
-        latest: later(mark.latest, time_of(message)),
+        offset: cursor.offset.saturating_add(size),
+        latest: later(cursor.latest, time_of(message)),
     }
 }
 
@@ -134,21 +134,21 @@ fn later(before: Option<u64>, time: Option<u64>) -> Option<u64>
 pub struct Replaying<S: CountedRead + Drop> {
     blocks: BlockReader<S, Global>,
     // The messages that were replayed.
-    mark: Mark,
+    cursor: DayCursor,
 }
 
 /// Those of a file.
 pub type Replay = Replaying<Buffered<File>>;
 
 impl Replaying<Buffered<File>> {
-    /// Creates a replay of a record, starting after the messages of a mark.
+    /// Creates a replay of a record, starting at a cursor.
     ///
     /// # Errors
     ///
     /// A [`LiveFault`] if the file cannot be read or memory is refused.
-    pub fn after(alloc: Global, file: File, mark: Mark) -> Result<Replay, LiveFault> {
+    pub fn after(alloc: Global, file: File, cursor: DayCursor) -> Result<Replay, LiveFault> {
         let mut file = file;
-        if let Err(error) = file.seek(SeekFrom::Start(mark.offset)) {
+        if let Err(error) = file.seek(SeekFrom::Start(cursor.offset)) {
             return Err(LiveFault::Session(SessionFault::of_system(
                 error,
                 SessionFault::Open(error),
@@ -159,17 +159,17 @@ impl Replaying<Buffered<File>> {
         };
         Ok(Replaying {
             blocks: BlockReader::new(alloc, Buffered::new(buffered))?,
-            mark,
+            cursor,
         })
     }
 }
 
 impl<S: CountedRead + Drop> Replaying<S> {
-    /// Returns the mark of the messages replayed so far: their number, the size of their blocks in bytes, and the latest timestamp.
-    pub fn mark(&self) -> Mark
-        ensures { result ≡ self.now.mark }
+    /// Returns the cursor of the messages replayed so far: their number, the size of their blocks in bytes, and the latest timestamp.
+    pub fn cursor(&self) -> DayCursor
+        ensures { result ≡ self.now.cursor }
     {
-        self.mark
+        self.cursor
     }
 
     /// Continues the replay up to message `most` of the record, and returns whether more may follow. The follower has applied each message
@@ -183,19 +183,19 @@ impl<S: CountedRead + Drop> Replaying<S> {
         follower: &mut Follower<B>,
         most: u64,
     ) -> Result<bool, LiveFault>
-        ensures { IfOk result (λ _. Replays S.remaining self.old.blocks self.new.blocks self.old.mark self.new.mark follower.old follower.new) }
+        ensures { IfOk result (λ _. Replays S.remaining self.old.blocks self.new.blocks self.old.cursor self.new.cursor follower.old follower.new) }
     {
-        let mut count = self.mark.count;
+        let mut count = self.cursor.count;
         if count > MOST_MESSAGES {
             return Err(refused(count, Stop::TooManyMessages));
         }
         let mut recorded = RecordSink {
             follower,
-            mark: self.mark,
+            cursor: self.cursor,
         };
         let limit = Limit::counted(Some(most));
         let stop = read_part(&mut self.blocks, &mut count, &mut recorded, limit);
-        self.mark = recorded.mark;
+        self.cursor = recorded.cursor;
         is_more(stop, count)
     }
 }

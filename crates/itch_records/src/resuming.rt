@@ -8,7 +8,7 @@ use crate::snapshot_folder::snapshot_path;
 use itch_book::OrderBook;
 use itch_checkpoints::{Checkpoint, Unfit, fingerprint_before, nearest, why_unfit};
 use itch_codec::{Encoder, Message, Seq};
-use itch_day::{Limit, Mark};
+use itch_day::{DayCursor, Limit};
 use itch_frame::{BlockReader, Buffered};
 use itch_join::Joiner;
 use itch_sessions::SessionFault;
@@ -55,7 +55,7 @@ pub struct Replayed<'a> {
     pub length: u64,
 }
 
-/// Returns a joiner with the market of the newest snapshot in a folder that fits the record, and the mark of its messages. A snapshot that
+/// Returns a joiner with the market of the newest snapshot in a folder that fits the record, and the cursor of its messages. A snapshot that
 /// does not fit is reported, and an older one is tried.
 ///
 /// # Errors
@@ -65,7 +65,7 @@ pub fn newest<R: Files<File = File> + Eprint + AllocGlobal, B: OrderBook<Alloc =
     log: &mut Log<'_, R>,
     folder: &str,
     record: Replayed<'_>,
-) -> Result<Option<(Joiner<B>, Mark)>, LiveFault> {
+) -> Result<Option<(Joiner<B>, DayCursor)>, LiveFault> {
     let mut most = u64::MAX;
     for _ in 0..MOST_UNFIT {
         let rt = log.runtime();
@@ -147,13 +147,13 @@ impl Display for Unusable {
     }
 }
 
-// Returns a joiner with the market of a snapshot that fits the record, and its mark.
+// Returns a joiner with the market of a snapshot that fits the record, and its cursor.
 fn joined_at<R: Files<File = File> + AllocGlobal, B: OrderBook<Alloc = Global>>(
     rt: &R,
     folder: &str,
     record: Replayed<'_>,
     checkpoint: &Checkpoint,
-) -> Result<(Joiner<B>, Mark), Unusable> {
+) -> Result<(Joiner<B>, DayCursor), Unusable> {
     if checkpoint.only.is_some() {
         return Err(Unusable::Unfit(Unfit::Partial));
     }
@@ -161,22 +161,22 @@ fn joined_at<R: Files<File = File> + AllocGlobal, B: OrderBook<Alloc = Global>>(
         after: None,
         until: Some(u64::MAX),
     };
-    let Some(mark) = checkpoint.mark(until) else {
+    let Some(cursor) = checkpoint.cursor(until) else {
         return Err(Unusable::Unknown);
     };
     if checkpoint.fingerprint.is_none() {
         return Err(Unusable::Unknown);
     }
-    let found = if mark.offset <= record.length {
+    let found = if cursor.offset <= record.length {
         let mut file = fs::open(rt, record.path)?;
-        Some(fingerprint_before(rt.alloc(), &mut file, mark.offset)?)
+        Some(fingerprint_before(rt.alloc(), &mut file, cursor.offset)?)
     } else {
         None
     };
     if let Some(why) = why_unfit(checkpoint.fingerprint, found) {
         return Err(Unusable::Unfit(why));
     }
-    Ok((joined(rt, folder, mark.count)?, mark))
+    Ok((joined(rt, folder, cursor.count)?, cursor))
 }
 
 // Returns a joiner with the market of the snapshot of `messages` messages.

@@ -12,7 +12,7 @@ use crate::snapshot_folder::{KeptLines, clean, keep_lines, list, remove, snapsho
 use itch_book::OrderBook;
 use itch_checkpoints::fingerprint_before;
 use itch_codec::{GREATEST_SEQ, Seq};
-use itch_day::Mark;
+use itch_day::DayCursor;
 use itch_market::Market;
 use itch_sessions::SessionFault;
 use itch_sessions::log::Log;
@@ -31,7 +31,7 @@ const REPORT_MS: u64 = 60_000;
 
 /// The options for saving snapshots: the folder, after how many messages each one is written, and how many are kept, if not all are.
 #[derive(Clone, Copy, Debug, PartialEq, Eq)]
-pub struct SnapshotWords<'a> {
+pub struct SnapshotOptions<'a> {
     pub folder: &'a str,
     pub every: u64,
     pub keep: Option<u64>,
@@ -155,7 +155,7 @@ impl Saver {
     /// A [`LiveFault`] if the folder cannot be opened or read, or another process uses it.
     pub fn open<R: Files<File = File> + AllocGlobal>(
         rt: &R,
-        words: SnapshotWords<'_>,
+        words: SnapshotOptions<'_>,
         folder: String,
     ) -> Result<Saver, LiveFault> {
         let open = match open_folder(rt, folder.as_str()) {
@@ -341,12 +341,12 @@ fn list_part<R: Files<File = File> + AllocGlobal>(
 ) -> io::Result<()> {
     let mut record = fs::open(rt, part.path)?;
     let fingerprint = fingerprint_before(rt.alloc(), &mut record, part.offset)?;
-    let mark = Mark {
+    let cursor = DayCursor {
         count: messages,
         offset: part.offset,
         latest: part.latest,
     };
-    list(rt, folder, mark, fingerprint)
+    list(rt, folder, cursor, fingerprint)
 }
 
 // Opens a folder. A file is not a folder.

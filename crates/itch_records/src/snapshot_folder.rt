@@ -4,7 +4,7 @@ ghost use Rattle.std.specs.String.{string_bytes};
 ghost use Rattle.itch_records.specs.Savings.{path_of};
 
 use itch_checkpoints::{Checkpoint, Fingerprint, IndexReader, Latest, index_line};
-use itch_day::Mark;
+use itch_day::DayCursor;
 use std::alloc::{AllocError, Global};
 use std::fs::{self, File, OpenOptions};
 use std::io::{self, BufRead, BufReader, BufWriter, ErrorKind, Write};
@@ -115,12 +115,12 @@ pub fn remove<R: Files + AllocGlobal>(rt: &R, folder: &str, messages: u64) -> io
 pub fn list<R: Files<File = File> + AllocGlobal>(
     rt: &R,
     folder: &str,
-    mark: Mark,
+    cursor: DayCursor,
     fingerprint: Fingerprint,
 ) -> io::Result<()> {
     let alloc = rt.alloc();
     let path = format!(in alloc; "{folder}/index.jsonl")?;
-    let line = index_line(alloc, mark, fingerprint, None)?;
+    let line = index_line(alloc, cursor, fingerprint, None)?;
     let mut how = OpenOptions::new();
     how.append(true).create(true);
     let mut file = how.open(rt, path.as_str())?;
@@ -198,9 +198,9 @@ fn write_kept<R: Files<File = File> + AllocGlobal>(
             break;
         };
         if kept.has(checkpoint.count)
-            && let Some((mark, fingerprint)) = whole(&checkpoint)
+            && let Some((cursor, fingerprint)) = whole(&checkpoint)
         {
-            out.write_all(&index_line(alloc, mark, fingerprint, None)?)?;
+            out.write_all(&index_line(alloc, cursor, fingerprint, None)?)?;
         }
     }
     out.flush()?;
@@ -208,7 +208,7 @@ fn write_kept<R: Files<File = File> + AllocGlobal>(
 }
 
 // Returns the data in the line of a snapshot of all locates, if it is complete.
-fn whole(checkpoint: &Checkpoint) -> Option<(Mark, Fingerprint)> {
+fn whole(checkpoint: &Checkpoint) -> Option<(DayCursor, Fingerprint)> {
     let Latest::Known(latest) = checkpoint.latest else {
         return None;
     };
@@ -216,10 +216,10 @@ fn whole(checkpoint: &Checkpoint) -> Option<(Mark, Fingerprint)> {
     if checkpoint.only.is_some() {
         return None;
     }
-    let mark = Mark {
+    let cursor = DayCursor {
         count: checkpoint.count,
         offset: checkpoint.offset,
         latest,
     };
-    Some((mark, fingerprint))
+    Some((cursor, fingerprint))
 }

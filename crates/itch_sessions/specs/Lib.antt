@@ -1,4 +1,4 @@
-pub mod Departures
+pub mod SessionOutcomes
 pub mod LoginFiles
 pub mod Logins
 pub mod Outputs

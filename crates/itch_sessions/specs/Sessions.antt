@@ -18,10 +18,10 @@ use Rattle.itch_soup.specs.declared.fault.SoupFault.{SoupFault}
 use Rattle.itch_soup.specs.Serving.{Serves}
 use Rattle.itch_sessions.specs.declared.session_fault.SessionFault.{SessionFault}
 use Rattle.itch_sessions.specs.declared.session_fault.SessionFault.TheVariants as session_fault
-use Rattle.itch_sessions.specs.Departures.{departure_line}
-use Rattle.itch_sessions.specs.declared.departure.Departure.{Departure}
-use Rattle.itch_sessions.specs.declared.departure.Departure.TheVariants as departure
-use Rattle.itch_sessions.specs.declared.departure.Departure.TheVariants.{Played, Fault}
+use Rattle.itch_sessions.specs.SessionOutcomes.{outcome_line}
+use Rattle.itch_sessions.specs.declared.outcome.SessionOutcome.{SessionOutcome}
+use Rattle.itch_sessions.specs.declared.outcome.SessionOutcome.TheVariants as outcome
+use Rattle.itch_sessions.specs.declared.outcome.SessionOutcome.TheVariants.{Played, Fault}
 use Rattle.itch_sessions.specs.Outputs.{Wrote, WritesText}
 use Rattle.itch_sessions.specs.Sides.{Side, sound, unread}
 
@@ -63,15 +63,15 @@ module _ {R V : Type 0} (remaining : R → Option (List ℕ)) (reads : R → Fai
       × Serves remaining reads contents writes m next config reader writer result reader_after mid × Flushes contents writes result mid ending writer_after
 
 -- an ending as the end of any client's connection
-abbrev pub departure_after : Ending → Departure
-departure_after (Some (Accepted from packets)) = Played from packets
-departure_after (Some (Rejected code)) = departure.Rejected code
-departure_after (Some Left) = departure.Left
-departure_after None = Fault
+abbrev pub outcome_after : Ending → SessionOutcome
+outcome_after (Some (Accepted from packets)) = Played from packets
+outcome_after (Some (Rejected code)) = outcome.Rejected code
+outcome_after (Some Left) = outcome.Left
+outcome_after None = Fault
 
 -- the line of a connection
 abbrev pub connection_line : ℕ → Ending → List ℕ
-connection_line number ending = departure_line number (departure_after ending)
+connection_line number ending = outcome_line number (outcome_after ending)
 
 -- the lines of connections, the first of which has this number
 abbrev pub connection_lines : ℕ → List Ending → List ℕ

@@ -1,10 +1,10 @@
 //! The connection of a client.
 ghost use Rattle.std.specs.Prelude.{◌≡◌, ◌≤◌, ◌&&◌, ◌||◌, not, length};
-ghost use Rattle.itch_sessions.specs.Departures.{ending};
+ghost use Rattle.itch_sessions.specs.SessionOutcomes.{ending};
 
 use crate::socket::{Got, Socket};
 use crate::who::{User, Who};
-use itch_live::Gone;
+use itch_live::DisconnectCause;
 use mio::Registry;
 use mio::event::Event;
 use std::io;
@@ -114,17 +114,17 @@ impl SocketLink {
     }
 
     /// Returns the reason to close the connection, if there is one: its client is gone, its socket has failed, or the client has closed its
-    /// sending half and waits for nothing. A client that has closed its sending half counts as [`Gone::Left`], even if its socket fails
+    /// sending half and waits for nothing. A client that has closed its sending half counts as [`DisconnectCause::Left`], even if its socket fails
     /// afterwards.
-    pub fn ending(&self, gone: Option<Gone>, waits: bool) -> Option<Gone>
+    pub fn ending(&self, gone: Option<DisconnectCause>, waits: bool) -> Option<DisconnectCause>
         ensures { result ≡ ending gone self.now.has_ended (self.now.has_failed || (self.now.has_ended && not waits)) }
     {
         let is_over = self.has_failed || (self.has_ended && !waits);
         match gone {
             Some(gone) => Some(gone),
             None if !is_over => None,
-            None if self.has_ended => Some(Gone::Left),
-            None => Some(Gone::Fault),
+            None if self.has_ended => Some(DisconnectCause::Left),
+            None => Some(DisconnectCause::Fault),
         }
     }
 }

@@ -4,7 +4,7 @@ pub mod entry;
 pub mod form;
 pub mod lines;
 
-use crate::departure::write_departure;
+use crate::outcome::write_outcome;
 use crate::utc::unix_ms;
 use crate::who::{Happening, Visit};
 use entry::{LogEvent, LogLine};
@@ -134,9 +134,9 @@ impl<'a, R: Eprint> Log<'a, R> {
     /// Writes an event of a client's connection. In plain form only the end of the connection is written, to standard output.
     pub fn tell<W: CountedWrite>(&mut self, out: &mut W, visit: &Visit) {
         match (self.form, visit.happening) {
-            (LogForm::Plain, Happening::Ended(departure)) => {
+            (LogForm::Plain, Happening::Ended(outcome)) => {
                 let number = visit.who.number;
-                if !self.output.has_room() || write_departure(out, number, departure).is_err() {
+                if !self.output.has_room() || write_outcome(out, number, outcome).is_err() {
                     self.lost = self.lost.saturating_add(1);
                 }
             }

@@ -26,7 +26,7 @@ const USERS_BYTES: u64 = 65_536;
 #[derive(Clone, Copy)]
 pub enum LoginSource<'a> {
     /// A fixed user name and password.
-    Words { user: &'a str, password: &'a str },
+    Arguments { user: &'a str, password: &'a str },
     /// A user name, and the file whose first line is the password.
     PasswordFile { user: &'a str, path: &'a str },
     /// A file whose nonempty lines consist of a user name, a colon and a password.
@@ -37,7 +37,7 @@ impl<'a> LoginSource<'a> {
     /// Returns the path of the file, if there is one.
     pub fn path(&self) -> Option<&'a str> {
         match self {
-            LoginSource::Words { .. } => None,
+            LoginSource::Arguments { .. } => None,
             LoginSource::PasswordFile { path, .. } | LoginSource::UserFile { path } => Some(*path),
         }
     }
@@ -292,7 +292,7 @@ fn read_list<R: Files<File = File> + AllocGlobal>(
     source: LoginSource<'_>,
 ) -> Result<(Login, Vec<Login>), LoginsFault> {
     let login = match source {
-        LoginSource::Words { user, password } => Login::new(user, password)?,
+        LoginSource::Arguments { user, password } => Login::new(user, password)?,
         LoginSource::PasswordFile { user, path } => {
             let text = read_text(rt, path, PASSWORD_BYTES)?;
             Login::new(user, first_line(text.as_str()))?

@@ -7,7 +7,7 @@ pub const MOST_FEEDS: usize = 8;
 #[derive(Clone, Copy, Debug, PartialEq, Eq)]
 pub struct ServerAddress<'a> {
     /// Both as given on the command line.
-    pub words: &'a str,
+    pub text: &'a str,
     pub host: &'a str,
     pub port: u16,
 }

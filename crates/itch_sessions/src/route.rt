@@ -67,7 +67,7 @@ impl<'a> Route<'a> {
     /// Returns the name of that server on the command line.
     pub fn name(&self, live: bool) -> Option<&'a str> {
         match self.servers.get(live, self.spot.server) {
-            Some(place) => Some(place.words),
+            Some(place) => Some(place.text),
             None => None,
         }
     }

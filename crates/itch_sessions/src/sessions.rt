@@ -7,9 +7,9 @@
 //! messages from a number on, as received. A [`Login`] is the user name and the password of both ends.
 //!
 //! ```
-//! let login = Login::new("desk", "secret")?;
+//! let login = Login::new("server", "secret")?;
 //! assert_eq!(login.config(default_session()).session.text(), "ITCHSNAP");
-//! assert_eq!(login.credentials(Alpha::from_text("")?).username.text(), "desk");
+//! assert_eq!(login.credentials(Alpha::from_text("")?).username.text(), "server");
 //! ```
 
 mod connection;

@@ -4,4 +4,4 @@
 /// `./make-release` replaces the last words in the released program by a text of the same length: `release` and the beginning of the hash of
 /// the sources.
 pub const VERSION: &str =
-    "0.1.0 (proved with rattle-kit-13b logic dac8208d650f15bf, not a released build)";
+    "0.1.0 (proved with rattle-kit-13f logic dac8208d650f15bf, not a released build)";

@@ -1,10 +1,10 @@
 //! The client of a connection, and its events.
 
-use crate::departure::Departure;
 use crate::log::entry::{
     LogEvent, LogLevel, write_letter, write_number, write_seconds, write_shown, write_text,
 };
 use crate::log::form::LogForm;
+use crate::outcome::SessionOutcome;
 use std::fmt::{self, Display, Formatter};
 use std::net::IpAddr;
 use std::str;
@@ -63,7 +63,7 @@ pub enum Happening {
     LoggedIn,
     /// The first byte of its snapshot was sent.
     FirstByte,
-    Ended(Departure),
+    Ended(SessionOutcome),
 }
 
 /// An event of a client's connection, with the milliseconds since it connected.
@@ -95,7 +95,7 @@ impl LogEvent for Visit {
     fn level(&self) -> LogLevel {
         match self.happening {
             Happening::Connected | Happening::LoggedIn | Happening::FirstByte => LogLevel::Info,
-            Happening::Ended(departure) => level_of(departure),
+            Happening::Ended(outcome) => level_of(outcome),
         }
     }
 
@@ -119,45 +119,46 @@ impl LogEvent for Visit {
             Happening::LoggedIn | Happening::FirstByte => {
                 write_seconds(f, form, "seconds", self.passed_ms)
             }
-            Happening::Ended(departure) => {
+            Happening::Ended(outcome) => {
                 write_number(f, form, "bytes", self.who.sent)?;
                 write_seconds(f, form, "seconds", self.passed_ms)?;
-                write_departure(f, form, departure)
+                write_outcome(f, form, outcome)
             }
         }
     }
 }
 
-fn level_of(departure: Departure) -> LogLevel {
-    match departure {
-        Departure::Answered { .. } | Departure::Played { .. } | Departure::Left => LogLevel::Info,
+fn level_of(outcome: SessionOutcome) -> LogLevel {
+    match outcome {
+        SessionOutcome::Answered { .. } | SessionOutcome::Played { .. } | SessionOutcome::Left =>
+            LogLevel::Info,
         _ => LogLevel::Warn,
     }
 }
 
 // Writes how a connection ended, with its number or code.
-fn write_departure<W: fmt::Write>(
+fn write_outcome<W: fmt::Write>(
     f: &mut Formatter<W>,
     form: LogForm,
-    departure: Departure,
+    outcome: SessionOutcome,
 ) -> fmt::Result {
-    write_text(f, form, "reason", reason_of(departure))?;
-    match departure {
-        Departure::Answered { next, .. } => write_number(f, form, "next", next),
-        Departure::Played { from, .. } => write_number(f, form, "from", from),
-        Departure::Rejected(code) => write_letter(f, form, "code", code),
+    write_text(f, form, "reason", reason_of(outcome))?;
+    match outcome {
+        SessionOutcome::Answered { next, .. } => write_number(f, form, "next", next),
+        SessionOutcome::Played { from, .. } => write_number(f, form, "from", from),
+        SessionOutcome::Rejected(code) => write_letter(f, form, "code", code),
         _ => Ok(()),
     }
 }
 
-fn reason_of(departure: Departure) -> &'static str {
-    match departure {
-        Departure::Answered { .. } => "answered",
-        Departure::Played { .. } => "played",
-        Departure::Rejected(_) => "rejected",
-        Departure::Left => "left",
-        Departure::Fault => "fault",
-        Departure::CutOff => "cut off",
-        Departure::Slowest => "slowest",
+fn reason_of(outcome: SessionOutcome) -> &'static str {
+    match outcome {
+        SessionOutcome::Answered { .. } => "answered",
+        SessionOutcome::Played { .. } => "played",
+        SessionOutcome::Rejected(_) => "rejected",
+        SessionOutcome::Left => "left",
+        SessionOutcome::Fault => "fault",
+        SessionOutcome::CutOff => "cut off",
+        SessionOutcome::Slowest => "slowest",
     }
 }

@@ -1,6 +1,6 @@
 //! The first bytes of standard input, which show whether it is compressed.
 
-use itchsnap_cli::input::{MOST_MAGIC, Packing};
+use itchsnap_cli::input::{ContainerFormat, MOST_MAGIC};
 use std::cell::Cell;
 use std::io::{self, Read};
 
@@ -21,11 +21,11 @@ impl Beginning {
     }
 
     /// Returns the form of a packed file with these first bytes, if it is one.
-    pub fn packing(&self) -> Option<Packing> {
+    pub fn container_format(&self) -> Option<ContainerFormat> {
         if self.count.get() < MOST_MAGIC {
             return None;
         }
-        Packing::of(&self.bytes.get())
+        ContainerFormat::of(&self.bytes.get())
     }
 
     fn pass(&self, piece: &[u8]) {

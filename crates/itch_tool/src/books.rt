@@ -11,8 +11,8 @@ use itch_depth::{books_at, books_every};
 use itch_frame::{Counted, CountedWrite};
 use itch_market::LocateSet;
 use itch_sessions::sessions::PIECE;
+use itchsnap_cli::command_line::{BookArguments, Times};
 use itchsnap_cli::input::ProgressLine;
-use itchsnap_cli::words::{BookWords, Times};
 use std::alloc::Allocator;
 use std::io::{self, BufWriter, Read, Write};
 use std::rt::{Clock, Files};
@@ -20,25 +20,31 @@ use std::rt::{Clock, Files};
 /// Prints the books at each time on standard output. Those before a fault are printed too.
 pub fn run_books<R: Files + Input + Print + Eprint + AllocGlobal + Clock>(
     rt: &R,
-    words: &BookWords<'_>,
+    arguments: &BookArguments<'_>,
     beginning: &Beginning,
 ) -> Result<bool, Failure> {
     let alloc = rt.alloc();
-    let only = match words.request.selection.list() {
+    let only = match arguments.request.selection.list() {
         Some(list) => Some(read_only(rt, list)?),
         None => None,
     };
-    let progress = if words.progress {
+    let progress = if arguments.progress {
         ProgressLine::begin(rt)
     } else {
         None
     };
-    let file = open(rt, words.file, Source::Only, progress.as_ref(), beginning)?;
+    let file = open(
+        rt,
+        arguments.file,
+        Source::Only,
+        progress.as_ref(),
+        beginning,
+    )?;
     let Ok(buffered) = BufWriter::with_capacity(alloc, PIECE, io::writer(rt)) else {
         return Err(Failure::from(ToolFault::OutOfMemory));
     };
     let mut out = Counted::new(buffered);
-    let answer = print_books(alloc, words, only.as_ref(), file, &mut out);
+    let answer = print_books(alloc, arguments, only.as_ref(), file, &mut out);
     match (answer, out.into_inner().flush()) {
         (Ok(answer), Ok(())) => Ok(answer),
         (Err(fault), _) => Err(Failure::from(fault)),
@@ -49,17 +55,17 @@ pub fn run_books<R: Files + Input + Print + Eprint + AllocGlobal + Clock>(
 // Several times are looked at between messages, so their book keeps its price levels, and does not sort its orders anew for each.
 fn print_books<A: Allocator + Copy, R: Read + Drop, W: CountedWrite>(
     alloc: A,
-    words: &BookWords<'_>,
+    arguments: &BookArguments<'_>,
     only: Option<&LocateSet<A>>,
     file: R,
     out: &mut W,
 ) -> Result<bool, ToolFault> {
     let reader = blocks(alloc, file)?;
-    match &words.times {
+    match &arguments.times {
         // One time is the end of the reading.
         Times::At(times) if times.len() == 1 => books_at::<_, _, Book<A>, _>(
             alloc,
-            words.request,
+            arguments.request,
             only,
             times,
             reader,
@@ -67,7 +73,7 @@ fn print_books<A: Allocator + Copy, R: Read + Drop, W: CountedWrite>(
         ),
         Times::At(times) => books_at::<_, _, IndexedBook<A>, _>(
             alloc,
-            words.request,
+            arguments.request,
             only,
             times,
             reader,
@@ -75,7 +81,7 @@ fn print_books<A: Allocator + Copy, R: Read + Drop, W: CountedWrite>(
         ),
         Times::Every(step) => books_every::<_, _, IndexedBook<A>, _>(
             alloc,
-            words.request,
+            arguments.request,
             only,
             *step,
             reader,

@@ -1,8 +1,9 @@
 //! The numbers of messages that a command requests.
 ghost use Rattle.std.specs.Prelude.{◌<◌, IfSome};
 
+use itch_commands::snap::Points;
 use itch_commands::{Command, FileKind, PairCommand, Request};
-use itchsnap_cli::words::{IndexedWork, Job, PointWords, Points};
+use itchsnap_cli::command_line::{IndexedWork, Job, PointArguments};
 
 /// The number of messages after which a command stops, and the number that it expects.
 #[derive(Clone, Copy)]
@@ -15,13 +16,13 @@ impl Counts {
     pub fn of(job: &Job<'_>) -> Counts {
         match job {
             Job::Files { request, .. } => Counts::of_request(*request),
-            Job::Index(words) => Counts::after(words.limit.after),
-            Job::Indexed(words) => match &words.work {
+            Job::Index(arguments) => Counts::after(arguments.limit.after),
+            Job::Indexed(arguments) => match &arguments.work {
                 IndexedWork::Command(command) => Counts::of_command(*command),
-                IndexedWork::History(words) => Counts::after(words.limit.after),
+                IndexedWork::History(arguments) => Counts::after(arguments.limit.after),
             },
-            Job::History(words) => Counts::after(words.limit.after),
-            Job::Points(PointWords { points, .. }) => Counts::of_points(points),
+            Job::History(arguments) => Counts::after(arguments.limit.after),
+            Job::Points(PointArguments { points, .. }) => Counts::of_points(points),
             Job::Serve { kind, .. } => Counts::of_kind(*kind),
             _ => Counts::nothing(),
         }
@@ -65,7 +66,7 @@ impl Counts {
     // The last of several numbers is the greatest.
     fn of_points(points: &Points) -> Counts {
         match points {
-            Points::At(limits) => match limits.last() {
+            Points::At(limits) => match limits.as_slice().last() {
                 Some(limit) => Counts::after(limit.after),
                 None => Counts::nothing(),
             },

@@ -1,19 +1,19 @@
 //! Writes the messages on standard error, and returns the exit status for them.
 
 use crate::beginning::Beginning;
+use crate::container::{ContainerFile, container_file};
 use crate::counts::Counts;
 use crate::failure::Failure;
 use crate::final_status::{ends_by_closed_pipe, final_status};
 use crate::hints::{MixedUp, login_hint, mixup_of};
 use crate::lacked_locate::{bad_list, lacked_locate};
 use crate::names::{CommandFiles, InputFile, JobNames, Name, SessionNames, Subject};
-use crate::packed::{PackedFile, packed_file};
 use crate::second_look::{lacked_stock, last_event};
 use crate::selected::Selected;
 use clap::Error;
 use clap::error::ErrorKind;
 use itch_checkpoints::Unfit;
-use itch_commands::{Source, ToolFault, Unmet, system_fault};
+use itch_commands::{Source, ToolFault, UnmetExpectation, system_fault};
 use itch_offsets::IndexUnfit;
 use itch_records::{LiveFault, Names};
 use itch_sessions::{SessionCause, SessionDevice, SessionFault};
@@ -146,7 +146,7 @@ fn say<R: Files + Eprint + AllocGlobal>(
         }
         Failure::Index { why, detail } => {
             let file = InputFile {
-                words: "",
+                arguments: "",
                 ..names.files.last()
             };
             say_index(rt, *why, detail.as_str(), file, beginning)
@@ -200,8 +200,8 @@ fn say_subject<R: Files + Eprint>(
     if !matches!(fault, ToolFault::Stopped { .. } | ToolFault::Snap { .. }) {
         return Ok(());
     }
-    match packed_file(rt, subject, beginning) {
-        Some(packed) => eprintln!(rt; "  {packed}"),
+    match container_file(rt, subject, beginning) {
+        Some(container) => eprintln!(rt; "  {container}"),
         None => say_mixup(rt, fault, subject),
     }
 }
@@ -244,7 +244,9 @@ fn say_lack<R: Files + Eprint + AllocGlobal>(
             Some(lacked) => eprintln!(rt; "  {lacked}"),
             None => Ok(()),
         },
-        (ToolFault::Unmet(Unmet::NoEnd), _, _) => match last_event(rt, file, part) {
+        (ToolFault::UnmetExpectation(UnmetExpectation::NoEnd), _, _) => match last_event(
+            rt, file, part,
+        ) {
             Some(event) => eprintln!(rt; "  {event}"),
             None => Ok(()),
         },
@@ -279,11 +281,11 @@ fn say_unfit<R: Files + Eprint>(
     beginning: &Beginning,
 ) -> io::Result<()> {
     eprintln!(rt; "itchsnap: {why}")?;
-    let packed = match why {
-        Unfit::Beyond | Unfit::OtherDay => packed_file(rt, feed, beginning),
+    let container = match why {
+        Unfit::Beyond | Unfit::OtherDay => container_file(rt, feed, beginning),
         Unfit::Partial => None,
     };
-    say_detail(rt, packed, detail)
+    say_detail(rt, container, detail)
 }
 
 // Writes why an index does not fit. The file may have other bytes because it is compressed.
@@ -295,18 +297,22 @@ fn say_index<R: Files + Eprint>(
     beginning: &Beginning,
 ) -> io::Result<()> {
     eprintln!(rt; "itchsnap: {why}")?;
-    let packed = match why {
+    let container = match why {
         IndexUnfit::Beyond | IndexUnfit::OtherDay => {
-            packed_file(rt, Subject::Input(file), beginning)
+            container_file(rt, Subject::Input(file), beginning)
         }
         IndexUnfit::Invalid => None,
     };
-    say_detail(rt, packed, detail)
+    say_detail(rt, container, detail)
 }
 
-fn say_detail(rt: &impl Eprint, packed: Option<PackedFile<'_>>, detail: &str) -> io::Result<()> {
-    match packed {
-        Some(packed) => eprintln!(rt; "  {packed}"),
+fn say_detail(
+    rt: &impl Eprint,
+    container: Option<ContainerFile<'_>>,
+    detail: &str,
+) -> io::Result<()> {
+    match container {
+        Some(container) => eprintln!(rt; "  {container}"),
         None => eprintln!(rt; "  {detail}"),
     }
 }

@@ -5,7 +5,7 @@ use crate::opened::{read_fault, size};
 use itch_checkpoints::{Checkpoint, Fingerprint, Passed, Unfit, fingerprint_before, why_unfit};
 use itch_commands::{Source, ToolFault, system_fault};
 use itch_sessions::sessions::PIECE;
-use itchsnap_cli::input::{Opened, ProgressLine, Watched};
+use itchsnap_cli::input::{InputStream, ProgressLine, ProgressReader};
 use std::alloc::{AllocError, Global};
 use std::fs;
 use std::io::{self, ErrorKind, Read};
@@ -38,11 +38,11 @@ pub fn open_after<'a, R: Files + Input + Eprint + AllocGlobal + Clock>(
     checkpoint: &Checkpoint,
     progress: Option<&'a ProgressLine<'a, R>>,
     beginning: &'a Beginning,
-) -> Result<Watched<'a, Opened<R::File, BegunInput<'a, R::Reader>>, R>, FeedFault> {
+) -> Result<ProgressReader<'a, InputStream<R::File, BegunInput<'a, R::Reader>>, R>, FeedFault> {
     let offset = checkpoint.offset;
     let Some(path) = path else {
         let standard = BegunInput::new(rt.reader(), beginning);
-        return read_after(rt, Opened::Standard(standard), checkpoint, progress);
+        return read_after(rt, InputStream::Standard(standard), checkpoint, progress);
     };
     let mut file = match fs::open(rt, path) {
         Ok(file) => file,
@@ -57,7 +57,7 @@ pub fn open_after<'a, R: Files + Input + Eprint + AllocGlobal + Clock>(
         }
     };
     let Some(size) = size(rt, path) else {
-        return read_after(rt, Opened::File(file), checkpoint, progress);
+        return read_after(rt, InputStream::File(file), checkpoint, progress);
     };
     if size < offset {
         return Err(FeedFault::Unfit(Unfit::Beyond));
@@ -70,20 +70,20 @@ pub fn open_after<'a, R: Files + Input + Eprint + AllocGlobal + Clock>(
     if let Some(progress) = progress {
         progress.add_file(Some(size - offset));
     }
-    Ok(Watched::new(Opened::File(file), progress))
+    Ok(ProgressReader::new(InputStream::File(file), progress))
 }
 
 // Does the same if the offset can only be reached by reading all bytes before it.
 fn read_after<'a, R: Files + Input + Eprint + AllocGlobal + Clock>(
     rt: &R,
-    opened: Opened<R::File, BegunInput<'a, R::Reader>>,
+    opened: InputStream<R::File, BegunInput<'a, R::Reader>>,
     checkpoint: &Checkpoint,
     progress: Option<&'a ProgressLine<'a, R>>,
-) -> Result<Watched<'a, Opened<R::File, BegunInput<'a, R::Reader>>, R>, FeedFault> {
+) -> Result<ProgressReader<'a, InputStream<R::File, BegunInput<'a, R::Reader>>, R>, FeedFault> {
     if let Some(progress) = progress {
         progress.add_file(None);
     }
-    let mut opened = Watched::new(opened, progress);
+    let mut opened = ProgressReader::new(opened, progress);
     let offset = checkpoint.offset;
     let found = found_in(read_before(rt.alloc(), &mut opened, offset), checkpoint)?;
     refuse(why_unfit(checkpoint.fingerprint, found))?;

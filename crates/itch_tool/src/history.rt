@@ -10,26 +10,26 @@ use crate::run::{blocks, request_to};
 use itch_commands::{Source, ToolFault};
 use itch_history::{SearchFault, first_reference};
 use itch_market::{ReplayEnd, Stop};
+use itchsnap_cli::command_line::HistoryArguments;
 use itchsnap_cli::input::ProgressLine;
-use itchsnap_cli::words::HistoryWords;
 use std::rt::{Clock, Files};
 use std::{fs, io};
 
 /// Finds the first reference number of the order's history, and then shows the messages about the order from that number on.
 pub fn run_history<R: Files + Input + Print + Eprint + AllocGlobal + Clock>(
     rt: &R,
-    words: &HistoryWords<'_>,
+    arguments: &HistoryArguments<'_>,
     beginning: &Beginning,
 ) -> Result<bool, Failure> {
-    let only = match words.filters.only {
+    let only = match arguments.filters.only {
         Some(list) => Some(read_only(rt, list)?),
         None => None,
     };
-    let first = find_first(rt, words, beginning)?;
+    let first = find_first(rt, arguments, beginning)?;
     request_to(
         rt,
-        words.request(first),
-        words.progress,
+        arguments.request(first),
+        arguments.progress,
         beginning,
         only,
         io::writer(rt),
@@ -39,32 +39,32 @@ pub fn run_history<R: Files + Input + Print + Eprint + AllocGlobal + Clock>(
 // Reads the file up to the first message that names the order.
 fn find_first<R: Files + Input + Eprint + AllocGlobal + Clock>(
     rt: &R,
-    words: &HistoryWords<'_>,
+    arguments: &HistoryArguments<'_>,
     beginning: &Beginning,
 ) -> Result<u64, Failure> {
     let alloc = rt.alloc();
-    if !may_be_read_twice(rt, words.file) {
+    if !may_be_read_twice(rt, arguments.file) {
         return Err(Failure::OnlyOnce {
-            path: String::from_str(alloc, words.file)?,
+            path: String::from_str(alloc, arguments.file)?,
         });
     }
-    let progress = if words.progress {
+    let progress = if arguments.progress {
         ProgressLine::begin(rt)
     } else {
         None
     };
     let file = open(
         rt,
-        Some(words.file),
+        Some(arguments.file),
         Source::Only,
         progress.as_ref(),
         beginning,
     )?;
     let mut reader = blocks(alloc, file)?;
-    match first_reference(alloc, &mut reader, words.limit, words.reference) {
+    match first_reference(alloc, &mut reader, arguments.limit, arguments.reference) {
         Ok(Some(first)) => Ok(first),
         Ok(None) => Err(Failure::NoOrder {
-            reference: words.reference,
+            reference: arguments.reference,
         }),
         Err(fault) => Err(Failure::from(tool_fault(fault))),
     }

@@ -14,8 +14,8 @@ use itch_frame::{Counted, CountedWrite};
 use itch_market::LocateSet;
 use itch_offsets::{DayIndex, IndexRow, IndexUnfit, begin_from, range_of, why_unfit};
 use itch_sessions::sessions::PIECE;
-use itchsnap_cli::input::{Opened, ProgressLine, Watched};
-use itchsnap_cli::words::{IndexedWords, IndexedWork};
+use itchsnap_cli::command_line::{IndexedArguments, IndexedWork};
+use itchsnap_cli::input::{InputStream, ProgressLine, ProgressReader};
 use std::alloc::{AllocError, Global};
 use std::fs::{self, File};
 use std::io::{self, BufReader, BufWriter, ErrorKind, Read, Seek, SeekFrom, Write};
@@ -25,32 +25,32 @@ use std::rt::{Clock, Files};
 /// the file is read from its beginning.
 pub fn run_indexed<R: Files<File = File> + Input + Print + Eprint + AllocGlobal + Clock>(
     rt: &R,
-    words: &IndexedWords<'_>,
+    arguments: &IndexedArguments<'_>,
     beginning: &Beginning,
 ) -> Result<bool, Failure> {
-    let command = match &words.work {
+    let command = match &arguments.work {
         IndexedWork::Command(command) => *command,
         IndexedWork::History(history) => {
-            let _file = open_fitting(rt, words)?;
+            let _file = open_fitting(rt, arguments)?;
             return run_history(rt, history, beginning);
         }
     };
-    let only = match words.request(command).only() {
+    let only = match arguments.request(command).only() {
         Some(list) => Some(read_only(rt, list)?),
         None => None,
     };
-    let Some(path) = words.output else {
-        return command_to(rt, words, command, only.as_ref(), io::writer(rt));
+    let Some(path) = arguments.output else {
+        return command_to(rt, arguments, command, only.as_ref(), io::writer(rt));
     };
     let (output, file) = Output::create(rt, path)?;
-    let outcome = command_to(rt, words, command, only.as_ref(), file);
+    let outcome = command_to(rt, arguments, command, only.as_ref(), file);
     output.finish(rt, outcome)
 }
 
 // Performs a command, with its output to a writer.
 fn command_to<R: Files + Input + Eprint + AllocGlobal + Clock, W: Write + Drop>(
     rt: &R,
-    words: &IndexedWords<'_>,
+    arguments: &IndexedArguments<'_>,
     command: Command<'_>,
     only: Option<&LocateSet<Global>>,
     writer: W,
@@ -59,12 +59,12 @@ fn command_to<R: Files + Input + Eprint + AllocGlobal + Clock, W: Write + Drop>(
         return Err(Failure::from(ToolFault::OutOfMemory));
     };
     let mut out = Counted::new(buffered);
-    let progress = if words.progress {
+    let progress = if arguments.progress {
         ProgressLine::begin(rt)
     } else {
         None
     };
-    let answer = perform_indexed(rt, words, command, only, progress.as_ref(), &mut out)?;
+    let answer = perform_indexed(rt, arguments, command, only, progress.as_ref(), &mut out)?;
     match out.into_inner().flush() {
         Ok(()) => Ok(answer),
         Err(error) => Err(Failure::from(ToolFault::Write(error))),
@@ -73,34 +73,34 @@ fn command_to<R: Files + Input + Eprint + AllocGlobal + Clock, W: Write + Drop>(
 
 fn perform_indexed<R: Files + Input + Eprint + AllocGlobal + Clock, W: CountedWrite>(
     rt: &R,
-    words: &IndexedWords<'_>,
+    arguments: &IndexedArguments<'_>,
     command: Command<'_>,
     only: Option<&LocateSet<Global>>,
     progress: Option<&ProgressLine<'_, R>>,
     out: &mut W,
 ) -> Result<bool, Failure> {
-    let mut fitting = open_fitting(rt, words)?;
+    let mut fitting = open_fitting(rt, arguments)?;
     let row = match range_of(&command) {
         Some(range) => begin_from(fitting.index.rows(), range),
         None => None,
     };
-    let offset = fitting.move_to(rt, words, row)?;
+    let offset = fitting.move_to(rt, arguments, row)?;
     if let Some(progress) = progress {
         progress.add_file(Some(fitting.size.saturating_sub(offset)));
     }
-    let opened: Opened<R::File, BegunInput<'_, R::Reader>> = Opened::File(fitting.file);
-    let file = Watched::new(opened, progress);
+    let opened: InputStream<R::File, BegunInput<'_, R::Reader>> = InputStream::File(fitting.file);
+    let file = ProgressReader::new(opened, progress);
     let Some(row) = row else {
         return Ok(perform_over(rt.alloc(), command, only, file, out)?);
     };
     let begun = Begun {
-        mark: row.mark,
+        cursor: row.cursor,
         directory: fitting.index.directory(&row),
     };
     Ok(perform_after(rt.alloc(), command, only, begun, file, out)?)
 }
 
-// Performs a command over the bytes of a day file after the messages of a mark.
+// Performs a command over the bytes of a day file after the messages before a cursor.
 fn perform_after<R: Read + Drop, W: CountedWrite>(
     alloc: Global,
     command: Command<'_>,
@@ -137,16 +137,16 @@ struct Fitting<F> {
 // Opens the day file and reads its index. The file must have the fingerprint of the last row.
 fn open_fitting<R: Files + AllocGlobal>(
     rt: &R,
-    words: &IndexedWords<'_>,
+    arguments: &IndexedArguments<'_>,
 ) -> Result<Fitting<R::File>, Failure> {
-    let (file, size) = open_file(rt, words.file)?;
-    let Some(index) = read_index(rt, words.index)? else {
-        return Err(unfit(rt.alloc(), IndexUnfit::Invalid, words)?);
+    let (file, size) = open_file(rt, arguments.file)?;
+    let Some(index) = read_index(rt, arguments.index)? else {
+        return Err(unfit(rt.alloc(), IndexUnfit::Invalid, arguments)?);
     };
     let last = index.rows().last().copied();
     let mut fitting = Fitting { file, size, index };
     if let Some(last) = last {
-        fitting.compare(rt, words, &last)?;
+        fitting.compare(rt, arguments, &last)?;
     }
     Ok(fitting)
 }
@@ -190,12 +190,12 @@ impl<F: Read + Seek> Fitting<F> {
     fn move_to<R: AllocGlobal>(
         &mut self,
         rt: &R,
-        words: &IndexedWords<'_>,
+        arguments: &IndexedArguments<'_>,
         row: Option<IndexRow>,
     ) -> Result<u64, Failure> {
         if let Some(row) = row {
-            self.compare(rt, words, &row)?;
-            return Ok(row.mark.offset);
+            self.compare(rt, arguments, &row)?;
+            return Ok(row.cursor.offset);
         }
         match self.file.seek(SeekFrom::Start(0)) {
             Ok(_) => Ok(0),
@@ -207,29 +207,33 @@ impl<F: Read + Seek> Fitting<F> {
     fn compare<R: AllocGlobal>(
         &mut self,
         rt: &R,
-        words: &IndexedWords<'_>,
+        arguments: &IndexedArguments<'_>,
         row: &IndexRow,
     ) -> Result<(), Failure> {
         let alloc = rt.alloc();
-        let found = if self.size < row.mark.offset {
+        let found = if self.size < row.cursor.offset {
             None
         } else {
-            match fingerprint_before(alloc, &mut self.file, row.mark.offset) {
+            match fingerprint_before(alloc, &mut self.file, row.cursor.offset) {
                 Ok(found) => Some(found),
                 Err(error) if error.kind() == ErrorKind::UnexpectedEof => None,
                 Err(error) => return Err(Failure::from(read_fault(0, error))),
             }
         };
         match why_unfit(row.fingerprint, found) {
-            Some(why) => Err(unfit(alloc, why, words)?),
+            Some(why) => Err(unfit(alloc, why, arguments)?),
             None => Ok(()),
         }
     }
 }
 
 // Returns the failure for an index that is not used, with the details for its message.
-fn unfit(alloc: Global, why: IndexUnfit, words: &IndexedWords<'_>) -> Result<Failure, AllocError> {
-    let (file, index) = (words.file, words.index);
+fn unfit(
+    alloc: Global,
+    why: IndexUnfit,
+    arguments: &IndexedArguments<'_>,
+) -> Result<Failure, AllocError> {
+    let (file, index) = (arguments.file, arguments.index);
     let detail = match why {
         IndexUnfit::Invalid => {
             format!(in alloc; "{index}: not an index of `itchsnap index`, or changed since")?

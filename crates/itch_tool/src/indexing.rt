@@ -10,8 +10,8 @@ use itch_commands::{Limit, Source, ToolFault};
 use itch_frame::{BlockReader, CountedRead};
 use itch_offsets::{IndexPass, IndexWriter};
 use itch_sessions::sessions::PIECE;
+use itchsnap_cli::command_line::IndexArguments;
 use itchsnap_cli::input::ProgressLine;
-use itchsnap_cli::words::IndexWords;
 use std::alloc::{Allocator, Global};
 use std::fs::{File, OpenFile};
 use std::io::{self, BufWriter, ErrorKind, Write};
@@ -20,15 +20,15 @@ use std::rt::{Clock, Files};
 /// Reads a day file, or a part of it, and writes its index.
 pub fn run_index<R: Files<File = File> + Input + Print + Eprint + AllocGlobal + Clock>(
     rt: &R,
-    words: &IndexWords<'_>,
+    arguments: &IndexArguments<'_>,
     beginning: &Beginning,
 ) -> Result<bool, Failure> {
-    let Some(path) = words.output else {
-        let _standard = index_to(rt, words, beginning, io::writer(rt))?;
+    let Some(path) = arguments.output else {
+        let _standard = index_to(rt, arguments, beginning, io::writer(rt))?;
         return Ok(true);
     };
     let (output, file) = Output::create(rt, path)?;
-    let outcome = match index_to(rt, words, beginning, file) {
+    let outcome = match index_to(rt, arguments, beginning, file) {
         Ok(file) => synced(file.sync_all()),
         Err(failure) => Err(failure),
     };
@@ -47,23 +47,29 @@ fn synced(outcome: io::Result<()>) -> Result<bool, Failure> {
 // Writes the index to a writer, and returns the writer.
 fn index_to<R: Files + Input + Eprint + AllocGlobal + Clock, W: Write + Drop>(
     rt: &R,
-    words: &IndexWords<'_>,
+    arguments: &IndexArguments<'_>,
     beginning: &Beginning,
     writer: W,
 ) -> Result<W, Failure> {
     let alloc = rt.alloc();
-    let progress = if words.progress {
+    let progress = if arguments.progress {
         ProgressLine::begin(rt)
     } else {
         None
     };
-    let file = open(rt, words.file, Source::Only, progress.as_ref(), beginning)?;
+    let file = open(
+        rt,
+        arguments.file,
+        Source::Only,
+        progress.as_ref(),
+        beginning,
+    )?;
     let notes = Notes::new(alloc)?;
     let reader = blocks(alloc, Noted::new(file, &notes))?;
     let Ok(mut out) = BufWriter::with_capacity(alloc, PIECE, writer) else {
         return Err(Failure::from(ToolFault::OutOfMemory));
     };
-    write_index(alloc, reader, words.limit, &notes, &mut out)?;
+    write_index(alloc, reader, arguments.limit, &notes, &mut out)?;
     match out.into_inner() {
         Ok(writer) => Ok(writer),
         Err(error) => Err(Failure::from(ToolFault::Write(error.into_error()))),
@@ -83,15 +89,15 @@ fn write_index<S: CountedRead + Drop, A: Allocator, W: Write>(
     let mut last = 0;
     for _ in 0..u64::MAX {
         let is_more = pass.read_row(limit)?;
-        let mark = pass.mark();
-        if last < mark.count {
-            let fingerprint = match notes.fingerprint(mark.offset) {
+        let cursor = pass.cursor();
+        if last < cursor.count {
+            let fingerprint = match notes.fingerprint(cursor.offset) {
                 Ok(fingerprint) => fingerprint,
-                Err(error) => return Err(Failure::from(read_fault(mark.count, error))),
+                Err(error) => return Err(Failure::from(read_fault(cursor.count, error))),
             };
-            writer.add(pass.directory(), mark, fingerprint)?;
+            writer.add(pass.directory(), cursor, fingerprint)?;
             write(out, writer.lines())?;
-            last = mark.count;
+            last = cursor.count;
         }
         if !is_more {
             break;

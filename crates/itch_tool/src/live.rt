@@ -9,7 +9,7 @@ use itch_live::Sessions;
 use itch_records::{DayFault, DayPaths, Names};
 use itch_sessions::sessions::{PIECE, Sending};
 use itch_sessions::{ServerAddress, Servers, SessionFault};
-use itchsnap_cli::words::{FeedWords, FollowWords, LiveWords, session_of_file};
+use itchsnap_cli::command_line::{FeedArguments, FollowArguments, LiveArguments, session_of_file};
 use itchsnap_live::{Accounts, Following, Serving, follow_feed, serve_live};
 use std::fs::File;
 use std::io::{self, BufWriter};
@@ -17,40 +17,40 @@ use std::net::{Net, ToSocketAddrs};
 use std::rt::{Clock, Files};
 
 /// Follows a feed, and serves snapshots of its current market. The line of each client is written once it is gone.
-pub fn run_live<R>(rt: &R, words: &LiveWords<'_>) -> Result<bool, Failure>
+pub fn run_live<R>(rt: &R, arguments: &LiveArguments<'_>) -> Result<bool, Failure>
 where
     R: Net + Clock + Files<File = File> + Print + Eprint + AllocGlobal,
 {
     let accounts = Accounts {
-        users: read_users(rt, words.users)?,
-        own: read_account(rt, words.feed_login)?,
+        users: read_users(rt, arguments.users)?,
+        own: read_account(rt, arguments.feed_login)?,
     };
     let servers = Servers {
-        feeds: words.feeds,
-        glimpse: words.glimpse,
+        feeds: arguments.feeds,
+        glimpse: arguments.glimpse,
     };
     let serving = Serving {
-        address: words.address,
-        session: words.session,
-        glimpse_session: words.glimpse_session,
-        clients: places(words.clients),
-        clients_per_address: match words.clients_per_address {
+        address: arguments.address,
+        session: arguments.session,
+        glimpse_session: arguments.glimpse_session,
+        clients: places(arguments.clients),
+        clients_per_address: match arguments.clients_per_address {
             Some(count) => places(count),
             None => usize::MAX,
         },
-        snapshot_memory: words.snapshot_memory,
-        from_snapshot: words.glimpse.is_some(),
-        record: words.record,
-        snapshots: words.snapshots,
-        stay: words.stay,
-        ready: words.ready,
-        status: words.status,
-        log: words.log,
+        snapshot_memory: arguments.snapshot_memory,
+        from_snapshot: arguments.glimpse.is_some(),
+        record: arguments.record,
+        snapshots: arguments.snapshots,
+        stay: arguments.stay,
+        ready: arguments.ready,
+        status: arguments.status,
+        log: arguments.log,
     };
     let mut out = Counted::new(io::writer(rt));
     match serve_live(rt, servers, &serving, accounts, &mut out) {
         Ok(answer) => Ok(answer),
-        Err(DayFault { fault, paths }) => said(rt, live_names(words, &paths), Err(fault)),
+        Err(DayFault { fault, paths }) => said(rt, live_names(arguments, &paths), Err(fault)),
     }
 }
 
@@ -59,45 +59,45 @@ fn places(count: u64) -> usize {
 }
 
 /// Fetches a snapshot, joins a feed to it, and writes the messages of the feed from there on.
-pub fn run_follow<R>(rt: &R, words: &FollowWords<'_>) -> Result<bool, Failure>
+pub fn run_follow<R>(rt: &R, arguments: &FollowArguments<'_>) -> Result<bool, Failure>
 where
     R: Net + Clock + Files<File = File> + Print + Eprint + AllocGlobal,
 {
-    let account = read_account(rt, words.login)?;
-    look_up(rt, words.feeds.first)?;
-    look_up(rt, words.glimpse)?;
+    let account = read_account(rt, arguments.login)?;
+    look_up(rt, arguments.feeds.first)?;
+    look_up(rt, arguments.glimpse)?;
     let servers = Servers {
-        feeds: words.feeds,
-        glimpse: Some(words.glimpse),
+        feeds: arguments.feeds,
+        glimpse: Some(arguments.glimpse),
     };
     let following = Following {
         sessions: Sessions {
-            feed: words.session,
-            glimpse: words.glimpse_session,
+            feed: arguments.session,
+            glimpse: arguments.glimpse_session,
         },
-        form: words.form,
+        form: arguments.form,
     };
     let Ok(buffered) = BufWriter::with_capacity(rt.alloc(), PIECE, io::writer(rt)) else {
         return Err(Failure::Session(SessionFault::OutOfMemory));
     };
     let out = &mut Sending::new(buffered);
     let followed = follow_feed(rt, servers, &following, account, out);
-    said(rt, follow_names(words), followed)
+    said(rt, follow_names(arguments), followed)
 }
 
 /// Plays a day file as a live feed. The line of each client is written once it is gone.
-pub fn run_feed<R>(rt: &R, words: &FeedWords<'_>) -> Result<bool, Failure>
+pub fn run_feed<R>(rt: &R, arguments: &FeedArguments<'_>) -> Result<bool, Failure>
 where
     R: Net + Clock + Files<File = File> + Print + Eprint + AllocGlobal,
 {
-    let users = read_users(rt, words.users)?;
+    let users = read_users(rt, arguments.users)?;
     let playing = Playing {
-        path: words.file,
-        address: words.address,
-        session: words.session.unwrap_or(session_of_file(words.file)),
-        pace: words.pace,
-        count: words.count,
-        stay: words.stay,
+        path: arguments.file,
+        address: arguments.address,
+        session: arguments.session.unwrap_or(session_of_file(arguments.file)),
+        pace: arguments.pace,
+        count: arguments.count,
+        stay: arguments.stay,
     };
     let mut out = Counted::new(io::writer(rt));
     Ok(play_feed(rt, &playing, users, &mut out)?)
@@ -107,12 +107,12 @@ where
 fn look_up<R: Net + AllocGlobal>(rt: &R, place: ServerAddress<'_>) -> Result<(), Failure> {
     match (place.host, place.port).to_socket_addrs(rt) {
         Ok(_) => Ok(()),
-        Err(error) => Err(Failure::open(rt.alloc(), place.words, error)),
+        Err(error) => Err(Failure::open(rt.alloc(), place.text, error)),
     }
 }
 
 // Returns the names of the files and servers of a live server.
-fn live_names<'x>(words: &LiveWords<'x>, paths: &'x DayPaths) -> Names<'x> {
+fn live_names<'x>(arguments: &LiveArguments<'x>, paths: &'x DayPaths) -> Names<'x> {
     Names {
         record: match &paths.record {
             Some(path) => path.as_str(),
@@ -122,20 +122,20 @@ fn live_names<'x>(words: &LiveWords<'x>, paths: &'x DayPaths) -> Names<'x> {
             Some(path) => path.as_str(),
             None => "",
         },
-        status: match words.status {
-            Some(place) => place.words,
+        status: match arguments.status {
+            Some(place) => place.text,
             None => "",
         },
-        feeds: words.feeds,
+        feeds: arguments.feeds,
     }
 }
 
 // Returns the names of a follower's servers. It has no file.
-fn follow_names<'a>(words: &FollowWords<'a>) -> Names<'a> {
+fn follow_names<'a>(arguments: &FollowArguments<'a>) -> Names<'a> {
     Names {
         record: "",
         snapshots: "",
         status: "",
-        feeds: words.feeds,
+        feeds: arguments.feeds,
     }
 }

@@ -16,10 +16,10 @@ const MOST_BYTES: usize = 1 << 16;
 /// An error is `BadLocates`, a fault of the file, or `OutOfMemory`.
 pub fn read_only<R: Files + AllocGlobal>(
     rt: &R,
-    words: &str,
+    arguments: &str,
 ) -> Result<LocateSet<Global>, Failure> {
-    let Some(path) = list_file(words) else {
-        return Ok(read_locates(rt.alloc(), words)?);
+    let Some(path) = list_file(arguments) else {
+        return Ok(read_locates(rt.alloc(), arguments)?);
     };
     match fs::open(rt, path) {
         Ok(file) => read_file(rt.alloc(), path, file),

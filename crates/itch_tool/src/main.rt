@@ -1,6 +1,6 @@
 //! `itchsnap`: market snapshots from day files of TotalView-ITCH 5.0 messages.
 //!
-//! `itchsnap_cli::words` parses the command line. The commands over files are those of `itch_commands`; `run` opens files and standard
+//! `itchsnap_cli::command_line` parses the command line. The commands over files are those of `itch_commands`; `run` opens files and standard
 //! streams for them. `serve` and `fetch` use `itch_sessions`, over sockets; `live`, `follow` and `feed` use `itchsnap_live` and
 //! `itch_clients`, and `status` asks a live server over HTTP.
 #![tactic(auto)]
@@ -11,6 +11,7 @@ mod beginning;
 mod books;
 mod changes;
 mod checkpoints;
+mod container;
 mod counts;
 mod explaining;
 mod failure;
@@ -27,7 +28,6 @@ mod names;
 mod noted;
 mod opened;
 mod output;
-mod packed;
 mod password;
 mod points;
 mod run;
@@ -46,7 +46,7 @@ use crate::password::password_of_environment;
 use crate::run::run;
 use crate::standard_streams::Occupied;
 use clap::Error;
-use itchsnap_cli::words::{read_job, usage_error};
+use itchsnap_cli::command_line::{read_job, usage_error};
 use std::alloc::{AllocError, Global};
 use std::env::{self, Args, Env};
 use std::io::{self, IsTerminal};
@@ -61,20 +61,20 @@ struct CommandLine {
 
 fn main(rt: HostRuntime) -> ExitCode {
     let _occupied = Occupied::open(&rt);
-    ExitCode::from(match read_words(&rt) {
-        Ok(words) => perform(&rt, &words),
+    ExitCode::from(match read_arguments(&rt) {
+        Ok(arguments) => perform(&rt, &arguments),
         Err(error) => explain(&rt, error),
     })
 }
 
 // Runs the command line, and returns the exit status.
-fn perform(rt: &HostRuntime, words: &CommandLine) -> u8 {
-    let password = match &words.password {
+fn perform(rt: &HostRuntime, arguments: &CommandLine) -> u8 {
+    let password = match &arguments.password {
         Some(password) => Some(password.as_str()),
         None => None,
     };
     let terminal = rt.stdout().is_terminal();
-    match read_job(rt.alloc(), words.line.as_slice(), terminal, password) {
+    match read_job(rt.alloc(), arguments.line.as_slice(), terminal, password) {
         Ok(job) => {
             let beginning = Beginning::new();
             let outcome = run(rt, &job, &beginning);
@@ -84,7 +84,7 @@ fn perform(rt: &HostRuntime, words: &CommandLine) -> u8 {
     }
 }
 
-fn read_words<R: Env + AllocGlobal>(rt: &R) -> Result<CommandLine, Error> {
+fn read_arguments<R: Env + AllocGlobal>(rt: &R) -> Result<CommandLine, Error> {
     Ok(CommandLine {
         line: read_line(rt.alloc(), env::args(rt))?,
         password: password_of_environment(rt)?,
@@ -93,7 +93,7 @@ fn read_words<R: Env + AllocGlobal>(rt: &R) -> Result<CommandLine, Error> {
 
 fn read_line(alloc: Global, args: io::Result<Args>) -> Result<Vec<String>, Error> {
     match args {
-        Ok(words) => Ok(words.collect(alloc)?),
+        Ok(arguments) => Ok(arguments.collect(alloc)?),
         Err(error) if matches!(error.kind(), io::ErrorKind::OutOfMemory) => {
             Err(Error::from(AllocError))
         }

@@ -6,9 +6,9 @@ use crate::counts::Counts;
 use crate::selected::Selected;
 use itch_commands::{Command, FileKind, PairCommand, Request, Source};
 use itch_sessions::{SessionDevice, SessionFault};
-use itchsnap_cli::words::{
-    FeedWords, FetchServer, FollowWords, HistoryWords, IndexWords, IndexedWords, IndexedWork, Job,
-    LiveWords, PointWords, StatusWords,
+use itchsnap_cli::command_line::{
+    FeedArguments, FetchServer, FollowArguments, HistoryArguments, IndexArguments,
+    IndexedArguments, IndexedWork, Job, LiveArguments, PointArguments, StatusArguments,
 };
 use std::fmt;
 use std::net::SocketAddr;
@@ -84,7 +84,7 @@ impl<'a> Subject<'a> {
 #[derive(Clone, Copy)]
 pub struct InputFile<'a> {
     pub path: Option<&'a str>,
-    pub words: &'static str,
+    pub arguments: &'static str,
     pub flag: SnapshotFlag,
 }
 
@@ -119,7 +119,7 @@ pub struct CommandFiles<'a> {
 impl<'a> CommandFiles<'a> {
     fn of_one(
         path: Option<&'a str>,
-        words: &'static str,
+        arguments: &'static str,
         flag: SnapshotFlag,
         output: Option<&'a str>,
     ) -> Self
@@ -127,7 +127,11 @@ impl<'a> CommandFiles<'a> {
         ensures last { result.last.path ≡ path.entry }
         ensures output { result.output ≡ output.entry }
     {
-        let file = InputFile { path, words, flag };
+        let file = InputFile {
+            path,
+            arguments,
+            flag,
+        };
         CommandFiles {
             first: file,
             last: file,
@@ -143,7 +147,7 @@ impl<'a> CommandFiles<'a> {
         match request {
             Request::One { file, command } => CommandFiles::of_one(
                 *file,
-                words_of(command),
+                arguments_of(command),
                 flag_of(command),
                 output,
             ),
@@ -152,17 +156,17 @@ impl<'a> CommandFiles<'a> {
                 second,
                 command,
             } => {
-                let (first_words, second_words) = words_of_pair(command);
+                let (first_arguments, second_arguments) = arguments_of_pair(command);
                 let flag = flag_of_pair(command);
                 CommandFiles {
                     first: InputFile {
                         path: *first,
-                        words: first_words,
+                        arguments: first_arguments,
                         flag,
                     },
                     last: InputFile {
                         path: *second,
-                        words: second_words,
+                        arguments: second_arguments,
                         flag,
                     },
                     output,
@@ -177,36 +181,46 @@ impl<'a> CommandFiles<'a> {
         }
     }
 
-    pub fn of_history(words: &HistoryWords<'a>) -> Self
-        ensures { result.last.path ≡ Some words.now.file }
+    pub fn of_history(arguments: &HistoryArguments<'a>) -> Self
+        ensures { result.last.path ≡ Some arguments.now.file }
     {
-        CommandFiles::of_one(Some(words.file), "", SnapshotFlag::NotTaken, None)
+        CommandFiles::of_one(Some(arguments.file), "", SnapshotFlag::NotTaken, None)
     }
 
-    pub fn of_index(words: &IndexWords<'a>) -> Self
-        ensures file { result.last.path ≡ words.now.file }
-        ensures output { result.output ≡ words.now.output }
+    pub fn of_index(arguments: &IndexArguments<'a>) -> Self
+        ensures file { result.last.path ≡ arguments.now.file }
+        ensures output { result.output ≡ arguments.now.output }
     {
-        CommandFiles::of_one(words.file, "index", SnapshotFlag::NotTaken, words.output)
+        CommandFiles::of_one(
+            arguments.file,
+            "index",
+            SnapshotFlag::NotTaken,
+            arguments.output,
+        )
     }
 
-    pub fn of_indexed(words: &IndexedWords<'a>) -> Self
-        ensures file { result.last.path ≡ Some words.now.file }
-        ensures output { result.output ≡ words.now.output }
+    pub fn of_indexed(arguments: &IndexedArguments<'a>) -> Self
+        ensures file { result.last.path ≡ Some arguments.now.file }
+        ensures output { result.output ≡ arguments.now.output }
     {
-        let (standard, flag) = match &words.work {
-            IndexedWork::Command(command) => (words_of(command), flag_of(command)),
+        let (standard, flag) = match &arguments.work {
+            IndexedWork::Command(command) => (arguments_of(command), flag_of(command)),
             IndexedWork::History(_) => ("", SnapshotFlag::NotTaken),
         };
-        CommandFiles::of_one(Some(words.file), standard, flag, words.output)
+        CommandFiles::of_one(Some(arguments.file), standard, flag, arguments.output)
     }
 
-    pub fn of_points(words: &PointWords<'a>) -> Self
-        ensures file { result.last.path ≡ words.now.file }
-        ensures folder { result.output ≡ Some words.now.folder }
+    pub fn of_points(arguments: &PointArguments<'a>) -> Self
+        ensures file { result.last.path ≡ arguments.now.file }
+        ensures folder { result.output ≡ Some arguments.now.folder }
     {
-        let folder = Some(words.folder);
-        CommandFiles::of_one(words.file, "snap --to ..", SnapshotFlag::NotTaken, folder)
+        let folder = Some(arguments.folder);
+        CommandFiles::of_one(
+            arguments.file,
+            "snap --to ..",
+            SnapshotFlag::NotTaken,
+            folder,
+        )
     }
 
     pub fn of_books(path: Option<&'a str>) -> Self
@@ -252,7 +266,7 @@ impl<'a> CommandFiles<'a> {
 }
 
 // Returns the words of a command that reads its file from standard input.
-fn words_of(command: &Command<'_>) -> &'static str {
+fn arguments_of(command: &Command<'_>) -> &'static str {
     match command {
         Command::Snap { .. } => "snap",
         Command::Check { .. } => "check",
@@ -281,7 +295,7 @@ fn flag_of_pair(command: &PairCommand<'_>) -> SnapshotFlag {
 }
 
 // Returns the words for the first file, and for the second.
-fn words_of_pair(command: &PairCommand<'_>) -> (&'static str, &'static str) {
+fn arguments_of_pair(command: &PairCommand<'_>) -> (&'static str, &'static str) {
     match command {
         PairCommand::Compare { .. } => ("compare - ..", "compare .. -"),
         PairCommand::CompareFirst { .. } => ("compare --first - ..", "compare --first .. -"),
@@ -321,31 +335,34 @@ impl<'a> SessionNames<'a> {
         SessionNames::of_peer(Name::Server(server.host, server.port), output)
     }
 
-    pub fn of_live(words: &LiveWords<'a>) -> Self {
+    pub fn of_live(arguments: &LiveArguments<'a>) -> Self {
         SessionNames {
-            peer: Name::Address(words.address),
-            day_file: words.record.map(|record| record.place.path()),
-            folder: words.snapshots.map(|snapshots| snapshots.folder),
+            peer: Name::Address(arguments.address),
+            day_file: arguments.record.map(|record| record.place.path()),
+            folder: arguments.snapshots.map(|snapshots| snapshots.folder),
             output: None,
         }
     }
 
-    pub fn of_follow(words: &FollowWords<'a>) -> Self {
-        let feed = words.feeds.first;
+    pub fn of_follow(arguments: &FollowArguments<'a>) -> Self {
+        let feed = arguments.feeds.first;
         SessionNames::of_peer(Name::Server(feed.host, feed.port), None)
     }
 
-    pub fn of_feed(words: &FeedWords<'a>) -> Self {
+    pub fn of_feed(arguments: &FeedArguments<'a>) -> Self {
         SessionNames {
-            peer: Name::Address(words.address),
-            day_file: Some(words.file),
+            peer: Name::Address(arguments.address),
+            day_file: Some(arguments.file),
             folder: None,
             output: None,
         }
     }
 
-    pub fn of_status(words: &StatusWords<'a>) -> Self {
-        SessionNames::of_peer(Name::Server(words.place.host, words.place.port), None)
+    pub fn of_status(arguments: &StatusArguments<'a>) -> Self {
+        SessionNames::of_peer(
+            Name::Server(arguments.place.host, arguments.place.port),
+            None,
+        )
     }
 
     /// Returns the name of the device that failed in a session, or of its peer.
@@ -393,12 +410,12 @@ impl<'a> JobNames<'a> {
                 output,
                 ..
             } => JobNames::of_files(CommandFiles::of_request(request, *output)),
-            Job::Index(words) => JobNames::of_files(CommandFiles::of_index(words)),
-            Job::Indexed(words) => JobNames::of_files(CommandFiles::of_indexed(words)),
-            Job::History(words) => JobNames::of_files(CommandFiles::of_history(words)),
-            Job::Points(words) => JobNames::of_files(CommandFiles::of_points(words)),
-            Job::Books(words) => JobNames::of_files(CommandFiles::of_books(words.file)),
-            Job::Changes(words) => JobNames::of_files(CommandFiles::of_books(words.file)),
+            Job::Index(arguments) => JobNames::of_files(CommandFiles::of_index(arguments)),
+            Job::Indexed(arguments) => JobNames::of_files(CommandFiles::of_indexed(arguments)),
+            Job::History(arguments) => JobNames::of_files(CommandFiles::of_history(arguments)),
+            Job::Points(arguments) => JobNames::of_files(CommandFiles::of_points(arguments)),
+            Job::Books(arguments) => JobNames::of_files(CommandFiles::of_books(arguments.file)),
+            Job::Changes(arguments) => JobNames::of_files(CommandFiles::of_books(arguments.file)),
             Job::Serve {
                 file,
                 kind,
@@ -412,10 +429,10 @@ impl<'a> JobNames<'a> {
             Job::Fetch { server, output, .. } => {
                 JobNames::of_session(SessionNames::of_fetched(server, *output))
             }
-            Job::Live(words) => JobNames::of_session(SessionNames::of_live(words)),
-            Job::Follow(words) => JobNames::of_session(SessionNames::of_follow(words)),
-            Job::Feed(words) => JobNames::of_session(SessionNames::of_feed(words)),
-            Job::Status(words) => JobNames::of_session(SessionNames::of_status(words)),
+            Job::Live(arguments) => JobNames::of_session(SessionNames::of_live(arguments)),
+            Job::Follow(arguments) => JobNames::of_session(SessionNames::of_follow(arguments)),
+            Job::Feed(arguments) => JobNames::of_session(SessionNames::of_feed(arguments)),
+            Job::Status(arguments) => JobNames::of_session(SessionNames::of_status(arguments)),
             Job::Completions(_) => JobNames::none(),
         }
     }

@@ -4,7 +4,7 @@ use crate::beginning::{Beginning, BegunInput};
 use itch_commands::{Source, ToolFault, system_fault};
 use itch_frame::FrameFault;
 use itch_market::{ReplayEnd, Stop};
-use itchsnap_cli::input::{Opened, ProgressLine, Watched};
+use itchsnap_cli::input::{InputStream, ProgressLine, ProgressReader};
 use std::rt::Files;
 use std::{fs, io};
 
@@ -18,13 +18,13 @@ pub fn open<'a, R: Files + Input + Eprint>(
     source: Source,
     progress: Option<&'a ProgressLine<'a, R>>,
     beginning: &'a Beginning,
-) -> Result<Watched<'a, Opened<R::File, BegunInput<'a, R::Reader>>, R>, ToolFault> {
+) -> Result<ProgressReader<'a, InputStream<R::File, BegunInput<'a, R::Reader>>, R>, ToolFault> {
     let Some(path) = path else {
         if let Some(progress) = progress {
             progress.add_file(None);
         }
         let standard = BegunInput::new(rt.reader(), beginning);
-        return Ok(Watched::new(Opened::Standard(standard), progress));
+        return Ok(ProgressReader::new(InputStream::Standard(standard), progress));
     };
     let file = match fs::open(rt, path) {
         Ok(file) => file,
@@ -41,7 +41,7 @@ pub fn open<'a, R: Files + Input + Eprint>(
     if let Some(progress) = progress {
         progress.add_file(size(rt, path));
     }
-    Ok(Watched::new(Opened::File(file), progress))
+    Ok(ProgressReader::new(InputStream::File(file), progress))
 }
 
 /// Returns the fault for a day file that cannot be read after that many messages.

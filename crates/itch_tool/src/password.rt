@@ -3,7 +3,7 @@
 use crate::failure::Failure;
 use itch_sessions::sessions::first_line;
 use itch_sessions::{LoginSource, Logins, LoginsFault};
-use itchsnap_cli::words::{LoginWords, Password, UserWords};
+use itchsnap_cli::command_line::{LoginArguments, Password, UserArguments};
 use std::alloc::AllocError;
 use std::env::{self, Env, VarError};
 use std::fs::{self, File};
@@ -25,22 +25,22 @@ pub fn password_of_environment<R: Env + AllocGlobal>(rt: &R) -> Result<Option<St
 /// Reads the users of a server.
 pub fn read_users<'a, R: Files<File = File> + AllocGlobal>(
     rt: &R,
-    users: UserWords<'a>,
+    users: UserArguments<'a>,
 ) -> Result<Logins<'a>, Failure> {
     match users {
-        UserWords::One(login) => read_account(rt, login),
-        UserWords::Listed(path) => read_logins(rt, LoginSource::UserFile { path }),
+        UserArguments::One(login) => read_account(rt, login),
+        UserArguments::Listed(path) => read_logins(rt, LoginSource::UserFile { path }),
     }
 }
 
 /// Reads one login.
 pub fn read_account<'a, R: Files<File = File> + AllocGlobal>(
     rt: &R,
-    login: LoginWords<'a>,
+    login: LoginArguments<'a>,
 ) -> Result<Logins<'a>, Failure> {
     let user = login.user;
     let source = match login.password {
-        Password::Word(password) => LoginSource::Words { user, password },
+        Password::Word(password) => LoginSource::Arguments { user, password },
         Password::File(path) => LoginSource::PasswordFile { user, path },
     };
     read_logins(rt, source)

@@ -1,4 +1,6 @@
 //! Writes snapshots of several points of a day file to the files of a folder.
+ghost use Rattle.itch_day.specs.Passing.{left_by};
+ghost use Rattle.itch_commands.specs.Points.{IsRead};
 
 use crate::beginning::Beginning;
 use crate::failure::Failure;
@@ -8,13 +10,13 @@ use crate::opened::{open, read_fault};
 use crate::output::{Output, in_use};
 use crate::run::blocks;
 use itch_checkpoints::index_line;
-use itch_commands::snap::Pass;
-use itch_commands::{Book, Limit, Selection, Source, ToolFault, stock_locates, write_locates};
+use itch_commands::snap::{Followed, PointReader, PointSaver, save_points};
+use itch_commands::{Book, Selection, Source, ToolFault, stock_locates, write_locates};
 use itch_frame::{BlockReader, Counted, CountedRead};
 use itch_market::LocateSet;
 use itch_sessions::sessions::PIECE;
+use itchsnap_cli::command_line::PointArguments;
 use itchsnap_cli::input::ProgressLine;
-use itchsnap_cli::words::{PointWords, Points};
 use std::alloc::{Allocator, Global};
 use std::fs::{self, File, TryLockError};
 use std::io::{BufWriter, ErrorKind, Write};
@@ -23,42 +25,54 @@ use std::rt::{Clock, Files};
 /// Writes the snapshot of each point into the folder, and its line into the index there. Files that were written before a fault are kept.
 pub fn run_points<R: Files<File = File> + Input + Eprint + AllocGlobal + Clock>(
     rt: &R,
-    words: &PointWords<'_>,
+    arguments: &PointArguments<'_>,
     beginning: &Beginning,
 ) -> Result<bool, Failure> {
     let alloc = rt.alloc();
-    let kept = KeptLocates::of(rt, words.selection)?;
-    let progress = if words.progress {
+    let kept = KeptLocates::of(rt, arguments.selection)?;
+    let progress = if arguments.progress {
         ProgressLine::begin(rt)
     } else {
         None
     };
-    let file = open(rt, words.file, Source::Only, progress.as_ref(), beginning)?;
+    let file = open(
+        rt,
+        arguments.file,
+        Source::Only,
+        progress.as_ref(),
+        beginning,
+    )?;
     let notes = Notes::new(alloc)?;
     let reader = blocks(alloc, Noted::new(file, &notes))?;
-    save_points(rt, words, &kept, &notes, reader)
+    save_into(rt, arguments, &kept, &notes, reader)
 }
 
-fn save_points<R: Files<File = File> + AllocGlobal, S: CountedRead + Drop, A: Allocator>(
+fn save_into<R: Files<File = File> + AllocGlobal, S: CountedRead + Drop, A: Allocator>(
     rt: &R,
-    words: &PointWords<'_>,
+    arguments: &PointArguments<'_>,
     kept: &KeptLocates<'_>,
     notes: &Notes,
     reader: BlockReader<S, A>,
 ) -> Result<bool, Failure> {
-    let mut folder = Folder::create(rt, words.folder, kept, notes)?;
-    let mut pass = Pass::new(rt.alloc(), reader);
-    match &words.points {
-        Points::At(limits) => save_each(&mut folder, &mut pass, limits),
-        Points::Every(count) => save_every(&mut folder, &mut pass, *count),
-    }
+    let mut folder = Folder::create(rt, arguments.folder, kept, notes)?;
+    save_points::<_, _, Book<Global>, _>(
+        rt.alloc(),
+        reader,
+        kept.followed(),
+        &arguments.points,
+        &mut folder,
+    )
 }
 
 // The locates that the snapshots keep.
 #[derive(Drop)]
 enum KeptLocates<'a> {
     All,
-    Listed(LocateSet<Global>),
+    // Those of a set, and their list.
+    Listed {
+        set: LocateSet<Global>,
+        list: String,
+    },
     // Those that have one of these stocks at the point.
     OfStocks(&'a str),
 }
@@ -70,9 +84,21 @@ impl<'a> KeptLocates<'a> {
     ) -> Result<KeptLocates<'a>, Failure> {
         Ok(match selection {
             Selection::All => KeptLocates::All,
-            Selection::Locates(list) => KeptLocates::Listed(read_only(rt, list)?),
+            Selection::Locates(list) => {
+                let set = read_only(rt, list)?;
+                let list = write_locates(rt.alloc(), &set)?;
+                KeptLocates::Listed { set, list }
+            }
             Selection::Stocks(names) => KeptLocates::OfStocks(names),
         })
+    }
+
+    fn followed(&self) -> Followed<'_, Global> {
+        match self {
+            KeptLocates::All => Followed::Nothing,
+            KeptLocates::Listed { set, .. } => Followed::Locates(set),
+            KeptLocates::OfStocks(names) => Followed::Stocks(names),
+        }
     }
 }
 
@@ -119,49 +145,60 @@ impl<'a, R: Files<File = File> + AllocGlobal> Folder<'a, R> {
         }
     }
 
-    // Writes the snapshot of the messages that were read, unless the last one has the same number of messages.
-    fn save<S: CountedRead, A: Allocator>(
-        &mut self,
-        pass: &Pass<S, A, Book<Global>>,
-    ) -> Result<(), Failure> {
-        if self.last == Some(pass.mark().count) {
-            return Ok(());
-        }
-        match self.kept {
-            KeptLocates::All => self.save_locates(pass, None),
-            KeptLocates::Listed(set) => self.save_locates(pass, Some(set)),
-            KeptLocates::OfStocks(names) => {
-                let set = stock_locates(self.rt.alloc(), pass.market(), names)?;
-                self.save_locates(pass, Some(&set))
-            }
-        }
-    }
-
-    // Writes the snapshot of these locates, and its line in the index.
+    // Writes the snapshot of these locates, or of all, and its line in the index, with the list of the locates.
     fn save_locates<S: CountedRead, A: Allocator>(
         &mut self,
-        pass: &Pass<S, A, Book<Global>>,
+        pass: &PointReader<'_, S, A, Book<Global>>,
         only: Option<&LocateSet<Global>>,
-    ) -> Result<(), Failure> {
-        let mark = pass.mark();
-        let fingerprint = match self.notes.fingerprint(mark.offset) {
+        list: Option<&str>,
+    ) -> Result<(), Failure>
+        requires { IsRead S.remaining S.failures pass.now.limit.value pass.now.first.value (left_by pass.now.stop.value pass.now.reader)
+            pass.now.tracked.sink pass.now.tracked.cursor }
+    {
+        let cursor = pass.cursor();
+        let fingerprint = match self.notes.fingerprint(cursor.offset) {
             Ok(fingerprint) => fingerprint,
-            Err(error) => return Err(Failure::from(read_fault(mark.count, error))),
+            Err(error) => return Err(Failure::from(read_fault(cursor.count, error))),
         };
-        let (alloc, folder, count) = (self.rt.alloc(), self.path, mark.count);
+        let (alloc, folder, count) = (self.rt.alloc(), self.path, cursor.count);
         let path = format!(in alloc; "{folder}/{count}.snap")?;
         let (output, file) = Output::create(self.rt, path.as_str())?;
         output.finish(self.rt, write_file(alloc, pass, only, file))?;
         self.last = Some(count);
-        let list = match only {
-            Some(only) => Some(write_locates(alloc, only)?),
-            None => None,
-        };
-        let list = list.as_ref().map(String::as_str);
-        let line = index_line(alloc, mark, fingerprint, list)?;
+        let line = index_line(alloc, cursor, fingerprint, list)?;
         match self.index.write_all(&line) {
             Ok(()) => Ok(()),
             Err(error) => Err(Failure::from(ToolFault::Write(error))),
+        }
+    }
+}
+
+// Each snapshot becomes a file of the folder, with a line in its index. No clause can say what the system makes of them.
+impl<'a, R: Files<File = File> + AllocGlobal, S: CountedRead, A: Allocator> PointSaver<
+    S,
+    A,
+    Book<Global>,
+> for Folder<'a, R> {
+    type Fault = Failure;
+
+    ghost saves = { λ _ _ _ _ _ _ _. Unit {0} };
+
+    // Writes the snapshot of the messages that were read, unless the last one has the same number of messages.
+    fn save(&mut self, pass: &PointReader<'_, S, A, Book<Global>>) -> Result<(), Failure> {
+        if self.last == Some(pass.cursor().count) {
+            return Ok(());
+        }
+        match self.kept {
+            KeptLocates::All => self.save_locates(pass, None, None),
+            KeptLocates::Listed { set, list } => {
+                self.save_locates(pass, Some(set), Some(list.as_str()))
+            }
+            KeptLocates::OfStocks(names) => {
+                let alloc = self.rt.alloc();
+                let set = stock_locates(alloc, pass.market(), names)?;
+                let list = write_locates(alloc, &set)?;
+                self.save_locates(pass, Some(&set), Some(list.as_str()))
+            }
         }
     }
 }
@@ -180,10 +217,13 @@ fn lock_folder<R: Files<File = File> + AllocGlobal>(rt: &R, path: &str) -> Resul
 
 fn write_file<S: CountedRead, A: Allocator, W: Write + Drop>(
     alloc: Global,
-    pass: &Pass<S, A, Book<Global>>,
+    pass: &PointReader<'_, S, A, Book<Global>>,
     only: Option<&LocateSet<Global>>,
     file: W,
-) -> Result<bool, Failure> {
+) -> Result<bool, Failure>
+    requires { IsRead S.remaining S.failures pass.now.limit.value pass.now.first.value (left_by pass.now.stop.value pass.now.reader)
+        pass.now.tracked.sink pass.now.tracked.cursor }
+{
     let Ok(buffered) = BufWriter::with_capacity(alloc, PIECE, file) else {
         return Err(Failure::from(ToolFault::OutOfMemory));
     };
@@ -193,33 +233,4 @@ fn write_file<S: CountedRead, A: Allocator, W: Write + Drop>(
         Ok(()) => Ok(answer),
         Err(error) => Err(Failure::from(ToolFault::Write(error))),
     }
-}
-
-// Writes the snapshots at the ends of these parts of the file.
-fn save_each<R: Files<File = File> + AllocGlobal, S: CountedRead, A: Allocator>(
-    folder: &mut Folder<'_, R>,
-    pass: &mut Pass<S, A, Book<Global>>,
-    limits: &[Limit],
-) -> Result<bool, Failure> {
-    for limit in limits {
-        pass.read_to(*limit)?;
-        folder.save(pass)?;
-    }
-    Ok(true)
-}
-
-// Writes one snapshot per that many messages, and one at the end.
-fn save_every<R: Files<File = File> + AllocGlobal, S: CountedRead, A: Allocator>(
-    folder: &mut Folder<'_, R>,
-    pass: &mut Pass<S, A, Book<Global>>,
-    count: u64,
-) -> Result<bool, Failure> {
-    for _ in 0..u64::MAX {
-        let is_more = pass.read_more(count)?;
-        folder.save(pass)?;
-        if !is_more {
-            break;
-        }
-    }
-    Ok(true)
 }

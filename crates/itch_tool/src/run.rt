@@ -23,8 +23,8 @@ use itch_commands::{
 use itch_frame::{BlockReader, Buffered, Counted, CountedWrite};
 use itch_market::LocateSet;
 use itch_sessions::sessions::{PIECE, default_session};
+use itchsnap_cli::command_line::{Completions, Job, Shell};
 use itchsnap_cli::input::ProgressLine;
-use itchsnap_cli::words::{Completions, Job, Shell};
 use std::alloc::{Allocator, Global};
 use std::fs::File;
 use std::io::{self, BufReader, BufWriter, Read, Write};
@@ -47,12 +47,12 @@ where
             progress,
             output,
         } => run_request(rt, *request, *progress, beginning, *output),
-        Job::Index(words) => run_index(rt, words, beginning),
-        Job::Indexed(words) => run_indexed(rt, words, beginning),
-        Job::History(words) => run_history(rt, words, beginning),
-        Job::Points(words) => run_points(rt, words, beginning),
-        Job::Books(words) => run_books(rt, words, beginning),
-        Job::Changes(words) => run_changes(rt, words, beginning),
+        Job::Index(arguments) => run_index(rt, arguments, beginning),
+        Job::Indexed(arguments) => run_indexed(rt, arguments, beginning),
+        Job::History(arguments) => run_history(rt, arguments, beginning),
+        Job::Points(arguments) => run_points(rt, arguments, beginning),
+        Job::Books(arguments) => run_books(rt, arguments, beginning),
+        Job::Changes(arguments) => run_changes(rt, arguments, beginning),
         Job::Serve {
             file,
             kind,
@@ -73,10 +73,10 @@ where
             from,
             output,
         } => run_fetch(rt, server, login, *from, *output),
-        Job::Live(words) => run_live(rt, words),
-        Job::Follow(words) => run_follow(rt, words),
-        Job::Feed(words) => run_feed(rt, words),
-        Job::Status(words) => run_status(rt, words),
+        Job::Live(arguments) => run_live(rt, arguments),
+        Job::Follow(arguments) => run_follow(rt, arguments),
+        Job::Feed(arguments) => run_feed(rt, arguments),
+        Job::Status(arguments) => run_status(rt, arguments),
         Job::Completions(shell) => Ok(print_completions(rt, *shell)?),
     }
 }
@@ -119,7 +119,7 @@ fn run_request<R: Files<File = File> + Input + Print + Eprint + AllocGlobal + Cl
     output: Option<&str>,
 ) -> Result<bool, Failure> {
     let only = match request.only() {
-        Some(words) => Some(read_only(rt, words)?),
+        Some(arguments) => Some(read_only(rt, arguments)?),
         None => None,
     };
     let Some(path) = output else {

@@ -1,8 +1,9 @@
 //! The selection of a request, and the part of its file.
 
 use itch_commands::{Command, FileKind, Limit, PairCommand, Request, Selection};
-use itchsnap_cli::words::{
-    BookWords, ChangeWords, HistoryWords, IndexedWords, IndexedWork, Job, PointWords, Times,
+use itchsnap_cli::command_line::{
+    BookArguments, ChangeArguments, HistoryArguments, IndexedArguments, IndexedWork, Job,
+    PointArguments, Times,
 };
 
 /// The list of locates or of stocks that a request selects, and the part of its one file that it reads.
@@ -18,15 +19,15 @@ impl<'a> Selected<'a> {
     pub fn of(job: &Job<'a>) -> Selected<'a> {
         match job {
             Job::Files { request, .. } => Selected::of_request(*request),
-            Job::Indexed(IndexedWords { work, .. }) => match work {
+            Job::Indexed(IndexedArguments { work, .. }) => match work {
                 IndexedWork::Command(command) => Selected::of_command(*command),
-                IndexedWork::History(words) => Selected::of_history(words),
+                IndexedWork::History(arguments) => Selected::of_history(arguments),
             },
-            Job::History(words) => Selected::of_history(words),
-            Job::Points(PointWords { selection, .. }) => Selected::by(*selection, None),
-            Job::Books(words) => Selected::of_books(words),
+            Job::History(arguments) => Selected::of_history(arguments),
+            Job::Points(PointArguments { selection, .. }) => Selected::by(*selection, None),
+            Job::Books(arguments) => Selected::of_books(arguments),
             Job::Changes(
-                ChangeWords {
+                ChangeArguments {
                     selection,
                     limit,
                     ..
@@ -36,9 +37,9 @@ impl<'a> Selected<'a> {
         }
     }
 
-    fn of_history(words: &HistoryWords<'a>) -> Selected<'a> {
-        let filters = words.filters;
-        Selected::new(filters.only, filters.stocks, Some(words.limit))
+    fn of_history(arguments: &HistoryArguments<'a>) -> Selected<'a> {
+        let filters = arguments.filters;
+        Selected::new(filters.only, filters.stocks, Some(arguments.limit))
     }
 
     pub fn nothing() -> Selected<'a> {
@@ -54,12 +55,15 @@ impl<'a> Selected<'a> {
     }
 
     // The directory is that at the last time, or at the end of the file.
-    fn of_books(words: &BookWords<'a>) -> Selected<'a> {
-        let until = match &words.times {
+    fn of_books(arguments: &BookArguments<'a>) -> Selected<'a> {
+        let until = match &arguments.times {
             Times::At(times) => times.last().copied(),
             Times::Every(_) => None,
         };
-        Selected::by(words.request.selection, Some(Limit { after: None, until }))
+        Selected::by(
+            arguments.request.selection,
+            Some(Limit { after: None, until }),
+        )
     }
 
     fn of_request(request: Request<'a>) -> Selected<'a> {

@@ -13,8 +13,8 @@ use itch_commands::{Book, FileKind, Source};
 use itch_frame::{BlockReader, Buffered, Counted};
 use itch_sessions::SessionFault;
 use itch_sessions::sessions::{Login, PIECE, fetch, fetch_rest};
+use itchsnap_cli::command_line::{FetchServer, LoginArguments};
 use itchsnap_cli::input::ProgressLine;
-use itchsnap_cli::words::{FetchServer, LoginWords};
 use std::alloc::Global;
 use std::fs::File;
 use std::io::{self, BufReader, BufWriter, Write};
@@ -28,7 +28,7 @@ pub fn run_serve<R>(
     file: Option<&str>,
     kind: FileKind,
     address: SocketAddr,
-    login: &LoginWords<'_>,
+    login: &LoginArguments<'_>,
     session: Alpha<10>,
     count: u64,
     progress: bool,
@@ -66,7 +66,7 @@ where
 pub fn run_fetch<R>(
     rt: &R,
     server: &FetchServer<'_>,
-    login: &LoginWords<'_>,
+    login: &LoginArguments<'_>,
     from: Option<Seq>,
     output: Option<&str>,
 ) -> Result<bool, Failure>
@@ -128,7 +128,7 @@ where
 /// Reads the login of the command line.
 pub fn read_login<R: Files + AllocGlobal>(
     rt: &R,
-    login: &LoginWords<'_>,
+    login: &LoginArguments<'_>,
 ) -> Result<Login, Failure> {
     let password = read_password(rt, login.password)?;
     Ok(Login::new(login.user, password.as_str())?)

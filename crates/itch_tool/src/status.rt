@@ -5,7 +5,7 @@ use crate::sockets::connect_within;
 use itch_commands::{ToolFault, system_fault};
 use itch_sessions::{ServerAddress, SessionFault};
 use itch_status::{body_of, is_ready};
-use itchsnap_cli::words::StatusWords;
+use itchsnap_cli::command_line::StatusArguments;
 use std::io::{self, ErrorKind, Read, Write};
 use std::net::{Net, TcpStream};
 use std::rt::Clock;
@@ -22,14 +22,14 @@ const PAUSE_MS: u64 = 200;
 const LONGEST: u64 = 1 << 20;
 
 /// Prints the status of a live server, and returns whether it is ready. For that many seconds it asks again until the server is ready.
-pub fn run_status<R>(rt: &R, words: &StatusWords<'_>) -> Result<bool, Failure>
+pub fn run_status<R>(rt: &R, arguments: &StatusArguments<'_>) -> Result<bool, Failure>
 where
     R: Print + AllocGlobal + Clock + Net<Stream = TcpStream>,
 {
-    let patience = Duration::from_secs(words.wait);
+    let patience = Duration::from_secs(arguments.wait);
     let begun = called(Instant::now(rt))?;
     for _request in 0..u64::MAX {
-        let answer = ask(rt, words);
+        let answer = ask(rt, arguments);
         let is_over = called(begun.elapsed(rt))? >= patience;
         match answer {
             Ok(response) if is_over || says_ready(&response) => return print(rt, &response),
@@ -41,16 +41,16 @@ where
 }
 
 // Sends one request, and returns the complete response.
-fn ask<R>(rt: &R, words: &StatusWords<'_>) -> io::Result<Vec<u8>>
+fn ask<R>(rt: &R, arguments: &StatusArguments<'_>) -> io::Result<Vec<u8>>
 where
     R: AllocGlobal + Net<Stream = TcpStream>,
 {
-    let ServerAddress { host, port, .. } = words.place;
+    let ServerAddress { host, port, .. } = arguments.place;
     let patience = Duration::from_secs(PATIENCE_S);
     let mut stream = connect_within(rt, (host, port), patience)?;
     stream.set_read_timeout(Some(patience))?;
     stream.set_write_timeout(Some(patience))?;
-    stream.write_all(request_of(words.json))?;
+    stream.write_all(request_of(arguments.json))?;
     let mut response = Vec::new(rt.alloc());
     (&stream).take(LONGEST).read_to_end(&mut response)?;
     match body_of(response.as_slice()) {

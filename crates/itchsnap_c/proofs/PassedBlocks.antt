@@ -8,24 +8,24 @@ use Rattle.itch_frame.specs.Reading.{Reading, bytes_left}
 use Rattle.itch_frame.specs.declared.fault.FrameFault.TheVariants.{Read, Truncated, Write, TooLong}
 use Rattle.itch_frame.specs.declared.tally.Failures.{Failures}
 use Rattle.itch_day.specs.Limits.{IsNotLate}
-use Rattle.itch_day.specs.Marks.{RefusesMarked, TakesMarked, first_mark, mark_after, mark_past}
+use Rattle.itch_day.specs.DayCursors.{RefusesTracked, TakesTracked, first_cursor, cursor_after, cursor_past}
 use Rattle.itch_day.specs.Parts.{Counts, ReadsPart, StopsAt}
 use Rattle.itch_day.specs.declared.limit.Limit.{Limit}
-use Rattle.itch_day.specs.declared.mark.Mark.{Mark}
-use Rattle.itch_day.specs.declared.marked.Marked.{Marked}
+use Rattle.itch_day.specs.declared.cursor.DayCursor.{DayCursor}
+use Rattle.itch_day.specs.declared.tracked.Tracked.{Tracked}
 use Rattle.itch_day.specs.declared.stop.PartStop.{PartStop}
 use Rattle.itch_day.specs.declared.stop.PartStop.TheVariants.{Full, Late, End, Frame, TooMany, Refused}
-use Rattle.itch_day.proofs.Marks.{marked_after}
+use Rattle.itch_day.proofs.DayCursors.{tracked_after}
 use Rattle.itchsnap_c.specs.Times.{Finds, IsPassed, before}
 
 length-block : (p : List ℕ) → length (block p) ≡ length p + 2
 length-block p = omega arith
 
--- the end of the blocks of a mark
-offset_after : (mark : Mark) (ps : List (List ℕ)) → mark.offset ≤ 2 ^ 64 - 1 → Mark.offset (mark_after mark ps) ≡ min (mark.offset + length (blocks ps)) (2 ^ 64 - 1)
-offset_after mark [] within = omega (arith, within)
-offset_after mark (p ∷ ps) within =
-    let rest = offset_after (mark_past mark p) ps (omega arith) in omega (arith, rest, length-append (block p) (blocks ps), length-block p)
+-- the end of the blocks before a cursor
+offset_after : (cursor : DayCursor) (ps : List (List ℕ)) → cursor.offset ≤ 2 ^ 64 - 1 → DayCursor.offset (cursor_after cursor ps) ≡ min (cursor.offset + length (blocks ps)) (2 ^ 64 - 1)
+offset_after cursor [] within = omega (arith, within)
+offset_after cursor (p ∷ ps) within =
+    let rest = offset_after (cursor_past cursor p) ps (omega arith) in omega (arith, rest, length-append (block p) (blocks ps), length-block p)
 
 many_bytes : (ps : List (List ℕ)) → AllByRecursion IsFull ps → 3 * length ps ≤ length (blocks ps)
 many_bytes [] full = omega arith
@@ -60,8 +60,8 @@ Nothing s number payload why t = ⊥
 -- All messages are passed up to the first late one, if no read of the bytes fails.
 module _ {R S F : Type 0} (remaining : R → Option (List ℕ)) (failures : R → Failures) (takes : S → ℕ → List ℕ → S → Type 0) (none : Failures) (error_free : none.last ≡ None)
     (never_fails : (r : R) → failures r ≡ none) (bytes : List ℕ) (short : length bytes ≤ 2 ^ 64 - 1) (time : ℕ) (old new : Reading R) (known : bytes_left remaining old ≡ Some bytes) (count : ℕ)
-    (s t : Marked S) (first : s.mark ≡ first_mark) (stop : PartStop F)
-    (reads : ReadsPart remaining failures (TakesMarked takes) (RefusesMarked Nothing) (before time) old new 0 count s stop t) where
+    (s t : Tracked S) (first : s.cursor ≡ first_cursor) (stop : PartStop F)
+    (reads : ReadsPart remaining failures (TakesTracked takes) (RefusesTracked Nothing) (before time) old new 0 count s stop t) where
   record Left : Type 0 where
     pub rest : List ℕ
     pub is : bytes_left remaining new ≡ Some rest
@@ -77,15 +77,15 @@ module _ {R S F : Type 0} (remaining : R → Option (List ℕ)) (failures : R �
   within : length (blocks reads.payloads) ≤ length bytes
   within = omega (arith, ap length left.whole, length-append (blocks reads.payloads) left.rest)
 
-  offset_is : t.mark.offset ≡ length (blocks reads.payloads)
+  offset_is : t.cursor.offset ≡ length (blocks reads.payloads)
   offset_is =
-      let after = ap Mark.offset (marked_after remaining failures takes Nothing (before time) old new 0 count s stop t reads ∙ ap (λ m. mark_after m reads.payloads) first) in
-      let size = offset_after first_mark reads.payloads (omega arith) in
+      let after = ap DayCursor.offset (tracked_after remaining failures takes Nothing (before time) old new 0 count s stop t reads ∙ ap (λ m. cursor_after m reads.payloads) first) in
+      let size = offset_after first_cursor reads.payloads (omega arith) in
       omega (arith, after, size, within, short)
 
-  pub late_found : stop ≡ Late → Finds (before time) bytes (Some t.mark.offset)
-  late_found is = by_stop (subst (λ w. StopsAt remaining (RefusesMarked Nothing) (before time) count new reads.last w t) is reads.stops) where
-    by_stop : StopsAt {F = F} remaining (RefusesMarked Nothing) (before time) count new reads.last Late t → Finds (before time) bytes (Some t.mark.offset)
+  pub late_found : stop ≡ Late → Finds (before time) bytes (Some t.cursor.offset)
+  late_found is = by_stop (subst (λ w. StopsAt remaining (RefusesTracked Nothing) (before time) count new reads.last w t) is reads.stops) where
+    by_stop : StopsAt {F = F} remaining (RefusesTracked Nothing) (before time) count new reads.last Late t → Finds (before time) bytes (Some t.cursor.offset)
     by_stop (same, wanted, (p, next, full, few, late)) =
         let starts = begins new.held p left.rest (remaining new.reader) next.0.1 left.is in (
           reads.payloads,
@@ -95,7 +95,7 @@ module _ {R S F : Type 0} (remaining : R → Option (List ℕ)) (failures : R �
           offset_is,
         )
 
-  ended : (w : PartStop F) → (w ≡ Late → ⊥) → StopsAt remaining (RefusesMarked Nothing) (before time) count new reads.last w t → Counts w (failures old.reader) (failures new.reader)
+  ended : (w : PartStop F) → (w ≡ Late → ⊥) → StopsAt remaining (RefusesTracked Nothing) (before time) count new reads.last w t → Counts w (failures old.reader) (failures new.reader)
       → Ends left.rest ⊎ Open left.rest
   ended Full other (same, (most, is, all)) counts = absurd (no_number is)
   ended Late other stops counts = absurd (other refl)
@@ -111,7 +111,7 @@ module _ {R S F : Type 0} (remaining : R → Option (List ℕ)) (failures : R �
   ended TooMany other (same, wanted, (p, next, full, many)) counts =
       let least = many_bytes reads.payloads reads.taken.full in
       absurd (omega (arith, many, reads.taken.counted, least, within, short))
-  ended (Refused why) other (wanted, (p, next, full, room, early, (never, marked))) counts = absurd never
+  ended (Refused why) other (wanted, (p, next, full, room, early, (never, tracked))) counts = absurd never
 
   pub none_found : (stop ≡ Late → ⊥) → Finds (before time) bytes None
   none_found other = (

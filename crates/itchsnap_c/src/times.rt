@@ -6,7 +6,7 @@ use crate::answers::Count;
 use crate::codes::{ABSENT, OUT_OF_MEMORY, counted, no_count};
 use crate::slice::SliceReader;
 use itch_codec::{CodecFault, Message};
-use itch_day::{Limit, Mark, Marked, PartStop, Sink, read_part};
+use itch_day::{DayCursor, Limit, PartStop, Sink, Tracked, read_part};
 use itch_frame::BlockReader;
 use std::alloc::{AllocError, Global};
 
@@ -31,9 +31,9 @@ fn bytes_before(alloc: Global, blocks: &[u8], time: u64) -> Result<Option<u64>, 
     ensures { IfOk result (λ count. Finds (before time) blocks.now count) }
 {
     let mut reader = BlockReader::new(alloc, SliceReader { rest: blocks })?;
-    let mut passed = Marked {
+    let mut passed = Tracked {
         sink: Anything,
-        mark: Mark::new(),
+        cursor: DayCursor::new(),
     };
     let limit = Limit {
         after: None,
@@ -41,7 +41,7 @@ fn bytes_before(alloc: Global, blocks: &[u8], time: u64) -> Result<Option<u64>, 
     };
     let mut count = 0;
     match read_part(&mut reader, &mut count, &mut passed, limit) {
-        PartStop::Late => Ok(Some(passed.mark.offset)),
+        PartStop::Late => Ok(Some(passed.cursor.offset)),
         _ => Ok(None),
     }
 }

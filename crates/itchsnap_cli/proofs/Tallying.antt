@@ -5,8 +5,8 @@ use Rattle.std.proofs.Math.Seq.{take-suc}
 use Rattle.std.proofs.lemmas.List.{length-replicate}
 use Rattle.itch_frame.specs.Blocks.{IsPayload, block, blocks, IsBlock, HasNoBlock}
 use Rattle.itch_frame.proofs.BlockLemmas.{same_block, blocks-push, each-push, nothing_left}
-use Rattle.itchsnap_cli.specs.declared.input.messages.Place.{Place}
-use Rattle.itchsnap_cli.specs.declared.input.messages.Place.TheVariants.{Border, Length, Payload}
+use Rattle.itchsnap_cli.specs.declared.input.messages.BlockPosition.{BlockPosition}
+use Rattle.itchsnap_cli.specs.declared.input.messages.BlockPosition.TheVariants.{Border, Length, Payload}
 use Rattle.itchsnap_cli.specs.declared.input.messages.BlockCounter.{BlockCounter}
 use Rattle.itchsnap_cli.specs.Tallies.{IsWholeAfter, IsAt, Reaches, Counts, CountsOn}
 
@@ -25,7 +25,7 @@ byte_open : (byte : ℕ) → HasNoBlock (byte ∷ [])
 byte_open byte payload more fits is = omega (arith, ap length is, length-append (block payload) more)
 
 -- bytes at a place do not begin with a block
-at_open : (place : Place) (bytes : List ℕ) → IsAt place bytes → HasNoBlock bytes
+at_open : (place : BlockPosition) (bytes : List ℕ) → IsAt place bytes → HasNoBlock bytes
 at_open Border bytes is = subst HasNoBlock (sym is) (nothing_left IsPayload)
 at_open (Length high) bytes is = subst HasNoBlock (sym is.0) (byte_open high)
 at_open (Payload count) bytes is = unfinished_open count bytes is.0 is.1
@@ -89,7 +89,7 @@ pub one_on : (old new : BlockCounter) (byte : ℕ) → ((bytes : List ℕ) → I
     → (new.place ≡ Border → new.messages ≡ min (old.messages + 1) (2 ^ 64 - 1)) → ((new.place ≡ Border → ⊥) → new.messages ≡ old.messages)
     → CountsOn old (byte ∷ []) new
 one_on old new byte moves more same bytes so_far = by_place new.place refl (moves so_far.rest so_far.place) where
-  by_place : (place : Place) → new.place ≡ place → Reaches place (so_far.rest ++ byte ∷ []) → Counts new (bytes ++ byte ∷ [])
+  by_place : (place : BlockPosition) → new.place ≡ place → Reaches place (so_far.rest ++ byte ∷ []) → Counts new (bytes ++ byte ∷ [])
   by_place Border is reached = after_block old new bytes byte so_far reached is (more is)
   by_place (Length high) is reached =
       within_block old new bytes byte so_far (subst (λ place. IsAt place (so_far.rest ++ byte ∷ [])) (sym is) reached) (same (λ border. let no_one : ⊥ = cc in no_one))

@@ -7,9 +7,9 @@ use Rattle.itch_commands.specs.declared.request.Command.TheVariants.{Show, ShowO
 use Rattle.itch_commands.specs.declared.request.Request.{Request}
 use Rattle.itch_commands.specs.declared.request.Request.TheVariants.{One}
 use Rattle.itch_day.specs.declared.limit.Limit.{Limit}
-use Rattle.itchsnap_cli.specs.declared.words.history.HistoryForm.{HistoryForm}
-use Rattle.itchsnap_cli.specs.declared.words.history.HistoryForm.TheVariants.{Messages, Orders}
-use Rattle.itchsnap_cli.specs.declared.words.history.HistoryWords.{HistoryWords}
+use Rattle.itchsnap_cli.specs.declared.command_line.history.HistoryForm.{HistoryForm}
+use Rattle.itchsnap_cli.specs.declared.command_line.history.HistoryForm.TheVariants.{Messages, Orders}
+use Rattle.itchsnap_cli.specs.declared.command_line.history.HistoryArguments.{HistoryArguments}
 
 -- `show` in this form, of a part of a day file
 abbrev pub command_in : HistoryForm → Limit → Filters → Command
@@ -17,5 +17,5 @@ command_in (Messages form) limit filters = Show (Day limit) form filters
 command_in (Orders form) limit filters = ShowOrders limit form filters
 
 -- the same filters follow the order from this number on
-abbrev pub request_from : HistoryWords → ℕ → Request
-request_from words first = One (Some words.file) (command_in words.form words.limit (record words.filters { reference = Some first }))
+abbrev pub request_from : HistoryArguments → ℕ → Request
+request_from arguments first = One (Some arguments.file) (command_in arguments.form arguments.limit (record arguments.filters { reference = Some first }))

@@ -1,8 +1,8 @@
 -- The first bytes of files that hold a day file in another form.
 use Rattle.std.specs.Prelude.{ℕ, Bool, cond, ◌||◌, nat_eq, List, [], ◌∷◌, Option, Some, None}
 use Rattle.std.specs.List.{starts_with}
-use Rattle.itchsnap_cli.specs.declared.input.packed.Packing.{Packing}
-use Rattle.itchsnap_cli.specs.declared.input.packed.Packing.TheVariants.{Gzip, Bzip2, Zstd, Xz, Lz4, Zip, Capture}
+use Rattle.itchsnap_cli.specs.declared.input.container.ContainerFormat.{ContainerFormat}
+use Rattle.itchsnap_cli.specs.declared.input.container.ContainerFormat.TheVariants.{Gzip, Bzip2, Zstd, Xz, Lz4, Zip, Capture}
 
 -- a file begins with this magic number
 abbrev pub begins : List ℕ → List ℕ → Bool
@@ -15,8 +15,8 @@ is_capture bytes =
     || (begins (161 ∷ 178 ∷ 60 ∷ 77 ∷ []) bytes || (begins (77 ∷ 60 ∷ 178 ∷ 161 ∷ []) bytes || begins (10 ∷ 13 ∷ 13 ∷ 10 ∷ []) bytes)))
 
 -- the form of a file with these first bytes: gzip (RFC 1952), bzip2, zstd (RFC 8878), xz, a frame of lz4, zip, or captured packets
-abbrev pub packing_of : List ℕ → Option Packing
-packing_of bytes =
+abbrev pub container_format_of : List ℕ → Option ContainerFormat
+container_format_of bytes =
     cond (begins (31 ∷ 139 ∷ []) bytes) (Some Gzip)
     (cond (begins (66 ∷ 90 ∷ 104 ∷ []) bytes) (Some Bzip2)
     (cond (begins (40 ∷ 181 ∷ 47 ∷ 253 ∷ []) bytes) (Some Zstd)

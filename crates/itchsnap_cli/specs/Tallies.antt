@@ -1,8 +1,8 @@
 -- The tally of messages in a stream of blocks, as far as the stream has arrived.
 use Rattle.std.specs.Prelude.{◌≡◌, ℕ, ◌-◌, ◌^◌, ◌<◌, min, List, [], ◌∷◌, ◌++◌, length}
 use Rattle.itch_frame.specs.Blocks.{IsBlock, Blocks}
-use Rattle.itchsnap_cli.specs.declared.input.messages.Place.{Place}
-use Rattle.itchsnap_cli.specs.declared.input.messages.Place.TheVariants.{Border, Length, Payload}
+use Rattle.itchsnap_cli.specs.declared.input.messages.BlockPosition.{BlockPosition}
+use Rattle.itchsnap_cli.specs.declared.input.messages.BlockPosition.TheVariants.{Border, Length, Payload}
 use Rattle.itchsnap_cli.specs.declared.input.messages.BlockCounter.{BlockCounter}
 
 -- this many more bytes, whatever they are, make these bytes a block
@@ -10,13 +10,13 @@ abbrev pub IsWholeAfter : ℕ → List ℕ → Type 0
 IsWholeAfter count bytes = (more : List ℕ) → length more ≡ count → IsBlock (bytes ++ more)
 
 -- the place after these bytes of an incomplete block
-abbrev pub IsAt : Place → List ℕ → Type 0
+abbrev pub IsAt : BlockPosition → List ℕ → Type 0
 IsAt Border bytes = bytes ≡ []
 IsAt (Length high) bytes = (bytes ≡ high ∷ []) × (high < 256)
 IsAt (Payload count) bytes = (0 < count) × IsWholeAfter count bytes
 
 -- the place after these bytes, the last of which may have completed a block
-abbrev pub Reaches : Place → List ℕ → Type 0
+abbrev pub Reaches : BlockPosition → List ℕ → Type 0
 Reaches Border bytes = IsBlock bytes
 Reaches place bytes = IsAt place bytes
 

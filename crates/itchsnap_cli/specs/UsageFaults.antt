@@ -1,6 +1,6 @@
 -- Usage faults.
-use Rattle.itchsnap_cli.specs.declared.words.fault.Fault.{Fault}
-use Rattle.itchsnap_cli.specs.declared.words.fault.Fault.TheVariants.{Usage, OutOfMemory}
+use Rattle.itchsnap_cli.specs.declared.command_line.fault.Fault.{Fault}
+use Rattle.itchsnap_cli.specs.declared.command_line.fault.Fault.TheVariants.{Usage, OutOfMemory}
 use Rattle.clap.specs.declared.error.kind.ErrorKind.{ErrorKind}
 use Rattle.clap.specs.declared.error.kind.ErrorKind.TheVariants as kind
 

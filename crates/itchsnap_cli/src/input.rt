@@ -1,8 +1,8 @@
 //! The input of a command, a file or standard input, and the progress of reading, shown on standard error.
 //!
-//! [`Opened`] is either kind of input. A [`Watched`] reader reads as its inner reader does. A [`BlockCounter`] counts the bytes that pass through
+//! [`InputStream`] is either kind of input. A [`ProgressReader`] reads as its inner reader does. A [`BlockCounter`] counts the bytes that pass through
 //! it: the bytes, and the complete messages in them. [`ProgressLine`] sums up all files of a command, and updates its line every 64 MiB.
-//! [`Packing`] recognises a compressed file, or one of captured packets, by its first bytes.
+//! [`ContainerFormat`] recognises a compressed file, or one of captured packets, by its first bytes.
 //!
 //! ```
 //! let mut tally = Tally::new();
@@ -11,12 +11,12 @@
 //! assert_eq!(tally.messages(), 2);
 //! ```
 
+mod container;
+mod input_stream;
 mod messages;
-mod opened;
-mod packed;
 mod progress;
 
-pub use messages::{BlockCounter, Place};
-pub use opened::Opened;
-pub use packed::{MOST_MAGIC, Packing};
-pub use progress::{Amount, ProgressLine, Watched};
+pub use container::{ContainerFormat, MOST_MAGIC};
+pub use input_stream::InputStream;
+pub use messages::{BlockCounter, BlockPosition};
+pub use progress::{Amount, ProgressLine, ProgressReader};

@@ -13,7 +13,7 @@ use itch_live::{Follower, PendingPacket};
 use itch_records::{LiveFault, Step, step_of};
 use itch_sessions::log::Log;
 use itch_sessions::sessions::{Login, current_session};
-use itch_sessions::{Got, Logins, MOST_FEEDS, Piece, Route, Servers, Socket, Turns};
+use itch_sessions::{Got, Logins, MOST_FEEDS, PollLoop, ReadBuffer, Route, Servers, Socket};
 use itch_soup::{ClientSession, Tick};
 use itch_status::LossCause;
 use mio::Registry;
@@ -73,7 +73,7 @@ pub(crate) struct FeedSide<'a> {
     glance: Glance,
     // The timestamp of the last message.
     market_ns: Option<u64>,
-    piece: Piece,
+    piece: ReadBuffer,
     // How many more bytes may be read in this turn.
     share: usize,
 }
@@ -91,7 +91,7 @@ impl<'a> FeedSide<'a> {
         glimpse_session: Option<Alpha<10>>,
         token: usize,
     ) -> Result<FeedSide<'a>, AllocError> {
-        let piece = Piece::new(alloc)?;
+        let piece = ReadBuffer::new(alloc)?;
         Ok(FeedSide {
             route: Route::new(alloc, servers),
             account,
@@ -141,7 +141,7 @@ impl<'a> FeedSide<'a> {
     >(
         &mut self,
         log: &mut Log<'_, R>,
-        turns: &Turns<'_, R>,
+        poll_loop: &PollLoop<'_, R>,
         follower: &mut Follower<B>,
         now_ms: u64,
     ) {
@@ -153,7 +153,7 @@ impl<'a> FeedSide<'a> {
         let live = follower.next().is_some();
         self.address = self.route.next(log.runtime(), live);
         // Resolving a name may take long.
-        let now_ms = turns.now().unwrap_or(now_ms);
+        let now_ms = poll_loop.now().unwrap_or(now_ms);
         let Some(address) = self.address else {
             let why = if live {
                 Trouble::Unknown
@@ -162,7 +162,13 @@ impl<'a> FeedSide<'a> {
             };
             return self.lose(log, follower, Some(why), now_ms);
         };
-        match self.connect(log.runtime(), turns.registry(), address, follower, now_ms) {
+        match self.connect(
+            log.runtime(),
+            poll_loop.registry(),
+            address,
+            follower,
+            now_ms,
+        ) {
             Ok(connection) => self.connection = Some(connection),
             Err(error) => self.break_off(log, follower, cause_of(error), now_ms),
         }

@@ -11,7 +11,7 @@ use itch_records::{LiveFault, Step};
 use itch_sessions::log::Log;
 use itch_sessions::log::form::LogForm;
 use itch_sessions::sessions::{Sending, current_session, write_text};
-use itch_sessions::{FollowForm, Logins, Servers, SessionFault, Turns};
+use itch_sessions::{FollowForm, Logins, PollLoop, Servers, SessionFault};
 use itch_snapshot::SnapshotIter;
 use std::alloc::{AllocError, Global};
 use std::fs::File;
@@ -64,7 +64,7 @@ where
 #[derive(Drop)]
 struct Tail<'r, 'a, R: Clock, B: OrderBook> {
     log: Log<'r, R>,
-    turns: Turns<'r, R>,
+    poll_loop: PollLoop<'r, R>,
     feed: FeedSide<'a>,
     follower: Follower<B>,
     // Whether the feed's session is named.
@@ -89,11 +89,11 @@ where
         let credentials = account.first().credentials(current_session());
         let follower = Follower::new(rt.alloc(), credentials, sessions, joiner, 0)?;
         let log = Log::new(rt, LogForm::Plain)?;
-        let turns = Turns::begin(rt, rt, EVENTS)?;
+        let poll_loop = PollLoop::begin(rt, rt, EVENTS)?;
         let feed = FeedSide::new(rt.alloc(), servers, account, sessions.glimpse, FEED)?;
         Ok(Tail {
             log,
-            turns,
+            poll_loop,
             feed,
             follower,
             is_named: sessions.feed.is_some(),
@@ -118,12 +118,12 @@ where
         out: &mut Sending<W>,
     ) -> Result<bool, LiveFault> {
         let most_ms = if self.feed.is_busy() { 0 } else { MOMENT_MS };
-        let now_ms = self.turns.wait(most_ms)?;
-        for event in self.turns.events().iter() {
+        let now_ms = self.poll_loop.wait(most_ms)?;
+        for event in self.poll_loop.events().iter() {
             self.feed.note(event);
         }
         self.feed
-            .begin_turn(&mut self.log, &self.turns, &mut self.follower, now_ms);
+            .begin_turn(&mut self.log, &self.poll_loop, &mut self.follower, now_ms);
         let ended = match self.steps(form, now_ms, out) {
             Err(fault) if !self.is_named => Err(fault.after_glimpse()),
             ended => ended,

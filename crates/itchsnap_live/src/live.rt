@@ -17,14 +17,14 @@ use itch_book::{IndexedBook, OrderBook};
 use itch_codec::Alpha;
 use itch_frame::CountedWrite;
 use itch_join::Joiner;
-use itch_live::Desk;
+use itch_live::LiveServer;
 use itch_records::{
-    DayFault, DayPaths, LiveFault, Ready, RecordLoss, RecordPlace, RecordWords, SnapshotWords,
+    DayFault, DayPaths, LiveFault, Ready, RecordLoss, RecordOptions, RecordPlace, SnapshotOptions,
     Step, is_caught_up,
 };
 use itch_sessions::log::Log;
 use itch_sessions::log::form::LogForm;
-use itch_sessions::{Logins, ServerAddress, Servers, Spare, Turns, Visit};
+use itch_sessions::{Logins, PollLoop, ServerAddress, Servers, Spare, Visit};
 use mio::Token;
 use std::alloc::Global;
 use std::fs::File;
@@ -65,10 +65,10 @@ pub struct Serving<'a> {
     pub snapshot_memory: Option<u64>,
     /// Whether it starts from a snapshot instead of the feed's first message.
     pub from_snapshot: bool,
-    pub record: Option<RecordWords<'a>>,
+    pub record: Option<RecordOptions<'a>>,
     /// Where snapshots are written: in the folder itself, or in a folder for each session inside it, if the record has a file for each
     /// session.
-    pub snapshots: Option<SnapshotWords<'a>>,
+    pub snapshots: Option<SnapshotOptions<'a>>,
     /// Whether it continues to serve after the feed has ended.
     pub stay: bool,
     /// When it starts to send snapshots.
@@ -148,16 +148,16 @@ where
     answer
 }
 
-// A desk, its sockets and its files.
+// A server, its sockets and its files.
 #[derive(Drop)]
 struct Server<'r, 'a, R: Clock, B: OrderBook> {
     serving: &'a Serving<'a>,
     log: Log<'r, R>,
-    turns: Turns<'r, R>,
+    poll_loop: PollLoop<'r, R>,
     spare: Spare,
     status: Option<StatusPort>,
     feed: FeedSide<'a>,
-    desk: Desk<B>,
+    live_server: LiveServer<B>,
     client_side: ServingSide<'a>,
     // The paths of the day's record and snapshots.
     paths: DayPaths,
@@ -198,7 +198,7 @@ where
     // Clients that connected before the session was known are accepted now. If the feed has confirmed the session, it is written to the
     // record.
     fn begin(&mut self) -> Result<(), LiveFault> {
-        self.client_side.callers.note();
+        self.client_side.port.note();
         if self.feed.was_accepted() {
             self.begin_record()?;
         }
@@ -218,14 +218,14 @@ where
     fn turn<W: CountedWrite>(&mut self, out: &mut W) -> Result<(), LiveFault> {
         self.begin_day_if_due()?;
         let most_ms = self.patience_ms();
-        let now_ms = self.turns.wait(most_ms)?;
+        let now_ms = self.poll_loop.wait(most_ms)?;
         self.log.look_at_clock();
         self.note();
         if self.day.replay.is_some() {
             self.replay(now_ms)?;
         } else {
             self.follow(now_ms)?;
-            let next = self.desk.follower().next();
+            let next = self.live_server.follower().next();
             self.day.tally.see(next, now_ms);
             self.look_for_a_day(now_ms);
         }
@@ -241,12 +241,12 @@ where
         if self.day.replay.is_some()
             || self.is_scouting()
             || self.feed.is_busy()
-            || self.client_side.is_busy(&self.desk)
+            || self.client_side.is_busy(&self.live_server)
             || self.is_asked()
         {
             return 0;
         }
-        if self.client_side.clients.any_waits(&self.desk) {
+        if self.client_side.clients.any_waits(&self.live_server) {
             return SOON_MS;
         }
         MOMENT_MS
@@ -255,10 +255,10 @@ where
     // Records which sockets are ready.
     fn note(&mut self) {
         let first_room = FIRST_CLIENT.saturating_add(self.serving.clients);
-        for event in self.turns.events().iter() {
+        for event in self.poll_loop.events().iter() {
             let Token(token) = event.token();
             match token {
-                LISTENER => self.client_side.callers.note(),
+                LISTENER => self.client_side.port.note(),
                 FEED => self.feed.note(event),
                 SCOUT => {
                     if let Some(scout) = &mut self.scout {
@@ -280,10 +280,15 @@ where
         if self.feed.is_due(now_ms) {
             self.spare.release();
         }
-        self.feed.begin_turn(&mut self.log, &self.turns, self.desk.follower_mut(), now_ms);
+        self.feed.begin_turn(
+            &mut self.log,
+            &self.poll_loop,
+            self.live_server.follower_mut(),
+            now_ms,
+        );
         let done = self.read_feed(now_ms);
         self.feed
-            .end_turn(&mut self.log, self.desk.follower_mut(), now_ms);
+            .end_turn(&mut self.log, self.live_server.follower_mut(), now_ms);
         let flushed = match self.day.record.flush() {
             Ok(()) => Ok(()),
             Err(error) => self.lose_record(RecordLoss::System(error)),
@@ -306,7 +311,7 @@ where
         let until_ms = now_ms.saturating_add(READING_MS);
         for _share in 0..u64::MAX {
             let is_held_up = self.steps(now_ms)?;
-            if is_held_up || !self.feed.is_busy() || self.turns.now()? >= until_ms {
+            if is_held_up || !self.feed.is_busy() || self.poll_loop.now()? >= until_ms {
                 break;
             }
             self.feed.renew();
@@ -331,10 +336,12 @@ where
     // Returns the feed's next step. If the record is optional, a message that could not be recorded still counts as applied.
     fn step(&mut self, now_ms: u64) -> Result<Option<Step>, LiveFault> {
         let recording = &mut self.day.record.recording;
-        match self
-            .feed
-            .step(&mut self.log, self.desk.follower_mut(), now_ms, recording)
-        {
+        match self.feed.step(
+            &mut self.log,
+            self.live_server.follower_mut(),
+            now_ms,
+            recording,
+        ) {
             Ok(step) => Ok(step),
             Err(fault) => {
                 self.fail(fault)?;
@@ -389,22 +396,22 @@ where
             self.client_side.accept(
                 self.log.runtime(),
                 &mut self.spare,
-                self.turns.registry(),
+                self.poll_loop.registry(),
                 now_ms,
             );
         }
         self.client_side
-            .hear(self.turns.registry(), &mut self.desk, now_ms);
+            .hear(self.poll_loop.registry(), &mut self.live_server, now_ms);
         self.answer(now_ms)?;
         self.client_side
-            .tell(self.turns.registry(), &mut self.desk, now_ms);
+            .tell(self.poll_loop.registry(), &mut self.live_server, now_ms);
         Ok(())
     }
 
     // Returns whether clients may receive snapshots yet.
     fn is_ready(&self) -> bool {
         let may_be_early = matches!(self.serving.ready, Ready::First);
-        (may_be_early || self.day.has_caught_up) && self.desk.follower().market().is_some()
+        (may_be_early || self.day.has_caught_up) && self.live_server.follower().market().is_some()
     }
 
     // Answers all waiting clients, as often as the budget allows.
@@ -412,15 +419,17 @@ where
         if !self.is_ready()
             || !self
                 .client_side
-                .may_answer(&self.desk, self.feed.is_busy(), now_ms)
+                .may_answer(&self.live_server, self.feed.is_busy(), now_ms)
         {
             return Ok(());
         }
-        let begun_ms = self.turns.now()?;
-        self.client_side.clients.answer(&mut self.desk, now_ms);
-        let ended_ms = self.turns.now()?;
+        let begun_ms = self.poll_loop.now()?;
         self.client_side
-            .spend(&mut self.desk, begun_ms, ended_ms, now_ms);
+            .clients
+            .answer(&mut self.live_server, now_ms);
+        let ended_ms = self.poll_loop.now()?;
+        self.client_side
+            .spend(&mut self.live_server, begun_ms, ended_ms, now_ms);
         Ok(())
     }
 

@@ -5,7 +5,7 @@ use crate::start::Startup;
 use crate::status::StatusPort;
 use itch_book::OrderBook;
 use itch_codec::Alpha;
-use itch_day::Mark;
+use itch_day::DayCursor;
 use itch_join::Joiner;
 use itch_live::{Follower, Sessions};
 use itch_records::{
@@ -13,7 +13,7 @@ use itch_records::{
 };
 use itch_sessions::log::Log;
 use itch_sessions::sessions::{Listening, Login, current_session};
-use itch_sessions::{Callers, SessionFault, called};
+use itch_sessions::{ClientPort, SessionFault, called};
 use std::alloc::{AllocError, Global};
 use std::fs::File;
 use std::net::{Net, SocketAddr};
@@ -59,14 +59,14 @@ where
         Some(folder) => newest_of(log, folder.as_str(), &record)?,
         None => None,
     };
-    let (joiner, mark) = match resumed {
+    let (joiner, cursor) = match resumed {
         Some(resumed) => resumed,
-        None => (first_joiner(rt.alloc(), serving)?, Mark::new()),
+        None => (first_joiner(rt.alloc(), serving)?, DayCursor::new()),
     };
     if let Some(saver) = &saver {
-        saver.forget_after(rt, mark.count)?;
+        saver.forget_after(rt, cursor.count)?;
     }
-    let replay = record.replay(rt, mark)?;
+    let replay = record.replay(rt, cursor)?;
     let session = session.or(record.session());
     let files = OwnFiles {
         record,
@@ -117,7 +117,7 @@ fn newest_of<R, B>(
     log: &mut Log<'_, R>,
     folder: &str,
     record: &Record,
-) -> Result<Option<(Joiner<B>, Mark)>, LiveFault>
+) -> Result<Option<(Joiner<B>, DayCursor)>, LiveFault>
 where
     R: Files<File = File> + Clock + Eprint + AllocGlobal,
     B: OrderBook<Alloc = Global>,
@@ -172,10 +172,10 @@ pub(crate) fn listen<R: Net + Clock + Eprint>(
     start: &mut Startup<'_, '_, R>,
     address: SocketAddr,
     token: usize,
-) -> Result<Callers, SessionFault> {
-    let (callers, address) = called(Callers::open(rt, start.turns.registry(), address, token))?;
+) -> Result<ClientPort, SessionFault> {
+    let (port, address) = called(ClientPort::open(rt, start.poll_loop.registry(), address, token))?;
     start.log.say(&Listening(address));
-    Ok(callers)
+    Ok(port)
 }
 
 /// Opens the status port, if there is one. It shows no clients until the feed's session is known.
@@ -188,7 +188,7 @@ pub(crate) fn open_status<R: Net + Clock + Eprint + AllocGlobal>(
     start: &mut Startup<'_, '_, R>,
 ) -> Result<(), LiveFault> {
     if let Some(place) = serving.status {
-        start.status = Some(StatusPort::open(&mut start.log, start.turns.registry(), place)?);
+        start.status = Some(StatusPort::open(&mut start.log, start.poll_loop.registry(), place)?);
         start.figures.slots = serving.clients as u64;
     }
     Ok(())

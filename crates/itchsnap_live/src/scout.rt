@@ -10,7 +10,7 @@ use itch_live::Follower;
 use itch_records::Recording;
 use itch_sessions::log::Log;
 use itch_sessions::sessions::current_session;
-use itch_sessions::{Logins, Servers, Turns};
+use itch_sessions::{Logins, PollLoop, Servers};
 use mio::event::Event;
 use std::alloc::Global;
 use std::fs::File;
@@ -71,9 +71,9 @@ where
     }
 
     /// Does what is due, and returns the session if the feed names it. The connection is then closed, and made again some seconds later.
-    pub(crate) fn turn(&mut self, turns: &Turns<'_, R>, now_ms: u64) -> Option<Alpha<10>> {
+    pub(crate) fn turn(&mut self, poll_loop: &PollLoop<'_, R>, now_ms: u64) -> Option<Alpha<10>> {
         self.feed
-            .begin_turn(&mut self.log, turns, &mut self.follower, now_ms);
+            .begin_turn(&mut self.log, poll_loop, &mut self.follower, now_ms);
         self.read(now_ms);
         self.feed
             .end_turn(&mut self.log, &mut self.follower, now_ms);

@@ -8,7 +8,7 @@ use itch_frame::tally::Failures;
 use itch_live::Follower;
 use itch_records::{LiveFault, Record, Recording};
 use itch_sessions::log::Log;
-use itch_sessions::{Logins, SPARED, Servers, Spare, Turns};
+use itch_sessions::{Logins, PollLoop, SPARED, Servers, Spare};
 use itch_status::Figures;
 use mio::Token;
 use std::alloc::Global;
@@ -26,7 +26,7 @@ const EVENTS: usize = 1_024;
 #[derive(Drop)]
 pub(crate) struct Startup<'r, 'a, R: Clock> {
     pub log: Log<'r, R>,
-    pub turns: Turns<'r, R>,
+    pub poll_loop: PollLoop<'r, R>,
     pub feed: FeedSide<'a>,
     /// The number of the feed's socket.
     pub token: usize,
@@ -53,11 +53,11 @@ where
         glimpse_session: Option<Alpha<10>>,
         token: usize,
     ) -> Result<Startup<'r, 'a, R>, LiveFault> {
-        let turns = Turns::begin(rt, rt, EVENTS)?;
+        let poll_loop = PollLoop::begin(rt, rt, EVENTS)?;
         let feed = FeedSide::new(rt.alloc(), servers, account, glimpse_session, token)?;
         Ok(Startup {
             log,
-            turns,
+            poll_loop,
             feed,
             token,
             spare: Spare::new(rt.alloc(), SPARED)?,
@@ -100,7 +100,10 @@ where
         self.log.mute();
         self.feed.keep_to(address);
         for _turn in 0..u64::MAX {
-            if follower.session().is_some() || self.feed.is_down() || self.turns.is_past(most_ms) {
+            if follower.session().is_some()
+                || self.feed.is_down()
+                || self.poll_loop.is_past(most_ms)
+            {
                 break;
             }
             if self.turn(follower).is_err() {
@@ -119,11 +122,11 @@ where
         } else {
             MOMENT_MS
         };
-        let now_ms = self.turns.wait(most_ms)?;
+        let now_ms = self.poll_loop.wait(most_ms)?;
         self.log.look_at_clock();
         self.note();
         self.feed
-            .begin_turn(&mut self.log, &self.turns, follower, now_ms);
+            .begin_turn(&mut self.log, &self.poll_loop, follower, now_ms);
         let done = self.steps(follower, now_ms);
         self.feed.end_turn(&mut self.log, follower, now_ms);
         self.tell_status(follower, now_ms);
@@ -136,7 +139,7 @@ where
             return;
         };
         let rt = self.log.runtime();
-        status.hear(rt, self.turns.registry(), &mut self.spare, now_ms);
+        status.hear(rt, self.poll_loop.registry(), &mut self.spare, now_ms);
         let (state, cause) = self.feed.state();
         self.figures.state = state;
         self.figures.cause = cause;
@@ -162,7 +165,7 @@ where
 
     // Records which sockets are ready.
     fn note(&mut self) {
-        for event in self.turns.events().iter() {
+        for event in self.poll_loop.events().iter() {
             let Token(token) = event.token();
             if token == self.token {
                 self.feed.note(event);

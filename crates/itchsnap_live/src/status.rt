@@ -7,7 +7,7 @@ use itch_records::LiveFault;
 use itch_sessions::log::Log;
 use itch_sessions::log::lines::StatusOn;
 use itch_sessions::{
-    Caller, Callers, ServerAddress, Socket, SocketLink, Spare, VERSION, Who, date,
+    ClientPort, IncomingClient, ServerAddress, Socket, SocketLink, Spare, VERSION, Who, date,
 };
 use itch_status::{Figures, LONGEST, StatusAnswer, refuse, respond};
 use mio::Registry;
@@ -31,7 +31,7 @@ const SHARE: usize = 4;
 /// A listening port for requests, and its connections.
 #[derive(Drop)]
 pub(crate) struct StatusPort {
-    callers: Callers,
+    port: ClientPort,
     connections: Vec<Option<StatusConnection>>,
     buffer: Vec<u8>,
 }
@@ -48,23 +48,23 @@ impl StatusPort {
         place: ServerAddress<'_>,
     ) -> Result<StatusPort, LiveFault> {
         let rt = log.runtime();
-        let (callers, address) = match listen(rt, registry, place) {
+        let (port, address) = match listen(rt, registry, place) {
             Ok(listening) => listening,
             Err(error) => return Err(LiveFault::StatusPort(error)),
         };
         log.say(&StatusOn(address));
-        Ok(StatusPort::new(rt.alloc(), callers)?)
+        Ok(StatusPort::new(rt.alloc(), port)?)
     }
 
-    fn new(alloc: Global, callers: Callers) -> Result<StatusPort, AllocError> {
+    fn new(alloc: Global, port: ClientPort) -> Result<StatusPort, AllocError> {
         let mut connections = Vec::with_capacity(alloc, MOST)?;
         for _place in 0..MOST {
             connections.push(None)?;
         }
-        let mut callers = callers;
-        callers.note();
+        let mut port = port;
+        port.note();
         Ok(StatusPort {
-            callers,
+            port,
             connections,
             buffer: vec![in alloc; 0; LONGEST]?,
         })
@@ -73,7 +73,7 @@ impl StatusPort {
     /// Records that the socket with this number is ready.
     pub(crate) fn note(&mut self, token: usize, event: &Event) {
         if token == STATUS {
-            return self.callers.note();
+            return self.port.note();
         }
         let place = token.saturating_sub(STATUS + 1);
         if let Some(Some(connection)) = self.connections.get_mut(place) {
@@ -98,13 +98,13 @@ impl StatusPort {
         now_ms: u64,
     ) {
         for _ in 0..SHARE {
-            let (true, Some(place)) = (self.callers.are_waiting(), self.free_place()) else {
+            let (true, Some(place)) = (self.port.are_waiting(), self.free_place()) else {
                 break;
             };
             if !spare.hold(rt) {
                 break;
             }
-            let Caller::Stream(stream, address) = self.callers.next() else {
+            let IncomingClient::Stream(stream, address) = self.port.next() else {
                 break;
             };
             self.admit(rt.alloc(), place, stream, address, registry, now_ms);
@@ -206,8 +206,8 @@ fn listen<N: Net>(
     net: &N,
     registry: &Registry,
     place: ServerAddress<'_>,
-) -> io::Result<(Callers, SocketAddr)> {
-    Callers::open(net, registry, address_of(net, place)?, STATUS)
+) -> io::Result<(ClientPort, SocketAddr)> {
+    ClientPort::open(net, registry, address_of(net, place)?, STATUS)
 }
 
 fn address_of<N: Net>(net: &N, place: ServerAddress<'_>) -> io::Result<SocketAddr> {

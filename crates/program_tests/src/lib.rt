@@ -9,6 +9,8 @@
 #![tactic(auto)]
 
 #[cfg(test)]
+mod command_line;
+#[cfg(test)]
 mod commands;
 #[cfg(test)]
 mod equal;
@@ -16,5 +18,3 @@ mod equal;
 mod live;
 #[cfg(test)]
 mod sessions;
-#[cfg(test)]
-mod words;

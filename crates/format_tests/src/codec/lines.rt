@@ -74,8 +74,8 @@ fn filled(
     side: u8,
 ) -> Result<Vec<u8>, AllocError> {
     let mut payload = Vec::new(alloc);
-    for mark in layout.bytes() {
-        payload.push(match mark {
+    for cursor in layout.bytes() {
+        payload.push(match cursor {
             b'.' => number,
             b't' => text,
             b's' => side,

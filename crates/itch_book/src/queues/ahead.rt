@@ -2,8 +2,8 @@
 
 use super::Queues;
 use crate::ahead::{AHEAD, MANY};
+use crate::level_lines::Level;
 use crate::link::Link;
-use crate::near::Level;
 use std::alloc::Allocator;
 
 // The number of queues that a walk reads at once.

@@ -3,9 +3,9 @@
 use crate::opening::{FirstBytes, opening_of};
 use arrayvec::ArrayVec;
 use itch_codec::{Alpha, Seq};
-use itch_live::{Gone, PendingPacket};
+use itch_live::{DisconnectCause, PendingPacket};
 use itch_sessions::sessions::Login;
-use itch_sessions::{Departure, SocketLink, User, Verdict, Who, departure_of, verdict_of};
+use itch_sessions::{SessionOutcome, SocketLink, User, Verdict, Who, outcome_of, verdict_of};
 use itch_soup::{Origin, Packet, ServerConfig, ServerSession, parse_packet};
 use std::net::IpAddr;
 
@@ -25,7 +25,7 @@ pub(super) enum VisitorStage {
     // Its login was rejected, and the rejection is sent at this time.
     Rejected { code: u8, at_ms: u64 },
     // It receives nothing more, and has ended in this way.
-    Over(Departure),
+    Over(SessionOutcome),
 }
 
 // The data that logins are judged by.
@@ -87,7 +87,7 @@ impl Visitor {
                 let rejection = PendingPacket::of(&ServerSession::rejected(code));
                 self.link.write(rejection.bytes());
                 self.link.end_sending();
-                self.stage = VisitorStage::Over(Departure::Rejected(code));
+                self.stage = VisitorStage::Over(SessionOutcome::Rejected(code));
             }
             VisitorStage::Rejected { .. } => {}
             VisitorStage::Over(_) => {
@@ -128,7 +128,7 @@ impl Visitor {
                     return;
                 }
                 FirstBytes::Broken => {
-                    self.stage = VisitorStage::Over(Departure::Fault);
+                    self.stage = VisitorStage::Over(SessionOutcome::Fault);
                     return;
                 }
             }
@@ -140,7 +140,7 @@ impl Visitor {
         let end = length.saturating_add(2).min(self.words.len());
         let payload = &self.words[end.min(2)..end];
         let Ok(packet) = parse_packet(payload, Origin::Client) else {
-            self.stage = VisitorStage::Over(Departure::Fault);
+            self.stage = VisitorStage::Over(SessionOutcome::Fault);
             return true;
         };
         if let Packet::LoginRequest(login) = &packet {
@@ -154,8 +154,8 @@ impl Visitor {
                 code,
                 at_ms: now_ms,
             },
-            Verdict::Left => VisitorStage::Over(Departure::Left),
-            Verdict::Fault => VisitorStage::Over(Departure::Fault),
+            Verdict::Left => VisitorStage::Over(SessionOutcome::Left),
+            Verdict::Fault => VisitorStage::Over(SessionOutcome::Fault),
         };
         true
     }
@@ -177,7 +177,7 @@ impl Visitor {
 
     /// Returns how its connection ended, if it is to be closed. A connection whose login has arrived receives the answer, even if it has
     /// closed its sending half.
-    pub(super) fn departure(&self, now_ms: u64) -> Option<Departure> {
+    pub(super) fn outcome(&self, now_ms: u64) -> Option<SessionOutcome> {
         let waits = matches!(
             self.stage,
             VisitorStage::Ready(_) | VisitorStage::Rejected { .. }
@@ -185,15 +185,21 @@ impl Visitor {
         let gone = self.link.ending(None, waits);
         let is_late = now_ms.saturating_sub(self.since_ms) >= PATIENCE_MS;
         match self.stage {
-            VisitorStage::Over(departure @ (Departure::Left | Departure::Fault)) => Some(departure),
-            VisitorStage::Over(departure) if gone.is_some() || is_late => Some(departure),
+            VisitorStage::Over(outcome @ (SessionOutcome::Left | SessionOutcome::Fault)) => Some(
+                outcome,
+            ),
+            VisitorStage::Over(outcome) if gone.is_some() || is_late => Some(outcome),
             VisitorStage::Over(_) => None,
             VisitorStage::Rejected { code, .. } if gone.is_some() || is_late => {
-                Some(Departure::Rejected(code))
+                Some(SessionOutcome::Rejected(code))
             }
             VisitorStage::Rejected { .. } => None,
-            VisitorStage::Opening if is_late => Some(departure_of(None, None, Gone::Silent)),
-            VisitorStage::Opening | VisitorStage::Ready(_) => Some(departure_of(None, None, gone?)),
+            VisitorStage::Opening if is_late => Some(outcome_of(
+                None,
+                None,
+                DisconnectCause::Silent,
+            )),
+            VisitorStage::Opening | VisitorStage::Ready(_) => Some(outcome_of(None, None, gone?)),
         }
     }
 }

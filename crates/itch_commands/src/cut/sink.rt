@@ -2,7 +2,7 @@
 ghost use Rattle.std.specs.Prelude.{◌≡◌, ◌<◌};
 ghost use Rattle.itch_commands.specs.Choices.{Chosen};
 ghost use Rattle.itch_commands.specs.Cuts.{WritesBlock};
-ghost use Rattle.itch_commands.specs.Sought.{are_found};
+ghost use Rattle.itch_commands.specs.Lookup.{are_found};
 
 use crate::choice::Choice;
 use crate::fault::ToolFault;

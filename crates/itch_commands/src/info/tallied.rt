@@ -1,7 +1,7 @@
 //! A market, and the tally of the messages that it takes.
 ghost use Rattle.std.specs.Prelude.{◌≡◌, List, ℕ, [], true};
 ghost use Rattle.itch_market.specs.Content.{empty};
-ghost use Rattle.itch_day.specs.Marks.{first_mark};
+ghost use Rattle.itch_day.specs.DayCursors.{first_cursor};
 ghost use Rattle.itch_commands.specs.FirstDifferences.{over};
 ghost use Rattle.itch_commands.specs.declared.fault.Source.TheVariants.{Only};
 ghost use Rattle.itch_commands.specs.Infos.{ReadsBefore, fault_of};
@@ -13,7 +13,7 @@ use crate::info::tally::Tally;
 use crate::reading::stopped;
 use itch_book::OrderBook;
 use itch_codec::{CodecFault, Message};
-use itch_day::{Limit, Mark, Marked, Sink, pass_stop, read_part};
+use itch_day::{DayCursor, Limit, Sink, Tracked, pass_stop, read_part};
 use itch_frame::{BlockReader, CountedRead};
 use itch_market::{Market, Refused, Stop, reason_of};
 use std::alloc::Allocator;
@@ -71,36 +71,36 @@ impl<B: OrderBook> Sink for TalliedMarket<B> {
 }
 
 /// Creates the market before any message, with an empty tally, at the beginning of a day.
-pub fn new_tally<B: OrderBook>(alloc: B::Alloc) -> Marked<TalliedMarket<B>>
-    ensures mark { result.mark ≡ first_mark }
+pub fn new_tally<B: OrderBook>(alloc: B::Alloc) -> Tracked<TalliedMarket<B>>
+    ensures cursor { result.cursor ≡ first_cursor }
     ensures market { result.sink.market ≡ empty }
     ensures tally { IsNew result.sink.tally }
     ensures complete { result.sink.events.is_complete ≡ true }
     ensures events { result.sink.events.events.items ≡ [] }
 {
-    Marked {
+    Tracked {
         sink: TalliedMarket {
             market: Market::new(alloc),
             tally: Tally::new(),
             events: EventList::new(alloc),
         },
-        mark: Mark::new(),
+        cursor: DayCursor::new(),
     }
 }
 
 /// Counts the messages of the requested part of a day, or those before the fault that is returned.
 pub fn read_tally<R: CountedRead, A: Allocator, B: OrderBook>(
     reader: &mut BlockReader<R, A>,
-    tally: &mut Marked<TalliedMarket<B>>,
+    tally: &mut Tracked<TalliedMarket<B>>,
     limit: Limit,
 ) -> Result<(), ToolFault>
-    requires mark { tally.old.mark ≡ first_mark }
+    requires cursor { tally.old.cursor ≡ first_cursor }
     requires market { tally.old.sink.market ≡ empty }
     requires tally { IsNew tally.old.sink.tally }
     requires complete { tally.old.sink.events.is_complete ≡ true }
     requires events { tally.old.sink.events.events.items ≡ [] }
     ensures { (payloads : List (List ℕ)) × ReadsBefore R.remaining R.failures limit reader.old reader.new payloads (fault_of result)
-        × IsTally payloads tally.new.mark tally.new.sink.market tally.new.sink.tally tally.new.sink.events.is_complete tally.new.sink.events.events.items }
+        × IsTally payloads tally.new.cursor tally.new.sink.market tally.new.sink.tally tally.new.sink.events.is_complete tally.new.sink.events.events.items }
 {
     let mut count = 0;
     let stop = read_part(reader, &mut count, tally, limit);

@@ -19,18 +19,18 @@ use crate::info::summary::Summary;
 use crate::info::tallied::TalliedMarket;
 use crate::writing::write_text;
 use itch_book::OrderBook;
-use itch_day::Marked;
+use itch_day::Tracked;
 use itch_frame::CountedWrite;
 use itch_market::{Locates, Market};
 use std::alloc::Allocator;
 
 /// Writes the tally of a day.
 pub fn write_info<B: OrderBook, W: CountedWrite>(
-    tally: &Marked<TalliedMarket<B>>,
+    tally: &Tracked<TalliedMarket<B>>,
     form: ReportForm,
     out: &mut W,
 ) -> Result<(), ToolFault>
-    ensures { WritesText W.contents W.failures (info_text form (summary_by tally.now.mark tally.now.sink.market tally.now.sink.tally) (slice_index tally.now.sink.tally.counts.counts) tally.now.sink.events.events.items) out.old result out.new }
+    ensures { WritesText W.contents W.failures (info_text form (summary_by tally.now.cursor tally.now.sink.market tally.now.sink.tally) (slice_index tally.now.sink.tally.counts.counts) tally.now.sink.events.events.items) out.old result out.new }
 {
     write_head(&summary(tally), form, out)?;
     write_types(&tally.sink.tally.counts, form, out)?;
@@ -40,15 +40,15 @@ pub fn write_info<B: OrderBook, W: CountedWrite>(
 }
 
 // Returns the summary of the tally.
-fn summary<B: OrderBook>(tally: &Marked<TalliedMarket<B>>) -> Summary
-    ensures { result ≡ summary_by tally.now.mark tally.now.sink.market tally.now.sink.tally }
+fn summary<B: OrderBook>(tally: &Tracked<TalliedMarket<B>>) -> Summary
+    ensures { result ≡ summary_by tally.now.cursor tally.now.sink.market tally.now.sink.tally }
 {
     let market = &tally.sink.market;
     Summary {
-        count: tally.mark.count,
-        bytes: tally.mark.offset,
+        count: tally.cursor.count,
+        bytes: tally.cursor.offset,
         first: tally.sink.tally.first,
-        last: tally.mark.latest,
+        last: tally.cursor.latest,
         stocks: count_stocks(market),
         live: market.book().len() as u64,
         peak: tally.sink.tally.peak,

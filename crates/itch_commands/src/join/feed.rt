@@ -8,7 +8,7 @@ ghost use Rattle.itch_commands.specs.Joiners.{FeedsJoiner, IsStart, ended_feed, 
 ghost use Rattle.itch_commands.specs.Joining.{ReadsFeed};
 
 use crate::fault::{Source, ToolFault};
-use crate::feed_part::{FeedPart, Misfit};
+use crate::feed_part::{FeedMismatch, FeedPart};
 use crate::reading::stopped;
 use itch_book::OrderBook;
 use itch_day::{Limit, PartStop, pass_stop, read_part};
@@ -28,8 +28,8 @@ pub fn read_feed<R: CountedRead, A: Allocator, B: OrderBook>(
     ensures { FeedsJoiner part.before (ReadsFeed (as_read (has joiner.old.set)) R.remaining R.failures part reader.old reader.new) (position_of joiner.old.state) result joiner.new.state }
 {
     let next = joiner.next().unwrap();
-    if let Some(misfit) = part.misfit(next) {
-        return Err(ToolFault::Misfit(misfit));
+    if let Some(mismatch) = part.mismatch(next) {
+        return Err(ToolFault::FeedMismatch(mismatch));
     }
     let limit = of_day(part.before, part.wanted(next));
     let mut count = part.before;
@@ -54,10 +54,10 @@ fn of_day(before: u64, limit: Limit) -> Limit
 
 // Returns the result for a late message with this number: a fault, if the snapshot contains it, since it is below the joiner's next one.
 fn late_at(number: u64, next: u64) -> Result<(), ToolFault>
-    ensures { MatchResult result (λ _. next ≤ number) (λ fault. (fault ≡ ToolFault.Misfit (Misfit.Late number)) × (number < next)) }
+    ensures { MatchResult result (λ _. next ≤ number) (λ fault. (fault ≡ ToolFault.FeedMismatch (FeedMismatch.Late number)) × (number < next)) }
 {
     if number < next {
-        Err(ToolFault::Misfit(Misfit::Late { number }))
+        Err(ToolFault::FeedMismatch(FeedMismatch::Late { number }))
     } else {
         Ok(())
     }

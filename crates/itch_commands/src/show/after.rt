@@ -1,4 +1,4 @@
-//! `show` of a day file from a mark on.
+//! `show` of a day file from a cursor on.
 ghost use Rattle.std.specs.Prelude.{◌-◌, ◌^◌, ◌≤◌, ℕ, List};
 ghost use Rattle.std.specs.Option.{option_copied};
 ghost use Rattle.itch_commands.specs.Further.{AreListed, ShowsAfter, ShowsBelow, ShowsFound, ShowsOn};
@@ -19,7 +19,7 @@ use itch_market::LocateSet;
 use std::alloc::Allocator;
 
 /// Shows a part of a day file whose first messages are before the range, with a reader of the messages after them: the output and the result
-/// are those of a reading from the beginning. The messages of the mark must be in the part, and no filter may follow an order.
+/// are those of a reading from the beginning. The messages before the cursor must be in the part, and no filter may follow an order.
 pub fn show_after<R: CountedRead, B: Allocator, A: Allocator + Copy, W: CountedWrite>(
     alloc: A,
     begun: Begun<'_>,
@@ -31,7 +31,7 @@ pub fn show_after<R: CountedRead, B: Allocator, A: Allocator + Copy, W: CountedW
     out: &mut W,
 ) -> Result<bool, ToolFault>
     ensures { (payloads : List (List ℕ)) → AreListed payloads begun.entry.directory.now
-        → ShowsAfter R.remaining R.failures limit W.contents W.failures (option_copied only.entry) filters.entry begun.entry.mark payloads form reader.old reader.new out.old result out.new }
+        → ShowsAfter R.remaining R.failures limit W.contents W.failures (option_copied only.entry) filters.entry begun.entry.cursor payloads form reader.old reader.new out.old result out.new }
 {
     let choice = begun.choice(alloc, only, filters)?;
     show_below(reader, begun.count(), limit, form, choice, out)

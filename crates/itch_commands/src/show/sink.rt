@@ -2,7 +2,7 @@
 
 ghost use Rattle.std.specs.Prelude.{◌≡◌};
 ghost use Rattle.itch_commands.specs.Choices.{Chosen};
-ghost use Rattle.itch_commands.specs.Sought.{are_found};
+ghost use Rattle.itch_commands.specs.Lookup.{are_found};
 ghost use Rattle.itch_commands.specs.declared.fault.Source.TheVariants.{Only};
 ghost use Rattle.itch_commands.specs.declared.fault.ToolFault.TheVariants.{Stopped};
 

@@ -1,9 +1,9 @@
 //! The end of a served connection, and its line.
 ghost use Rattle.std.specs.Prelude.{◌≡◌};
 ghost use Rattle.itch_sessions.specs.Outputs.{WritesText};
-ghost use Rattle.itch_sessions.specs.Sessions.{connection_line, departure_after};
+ghost use Rattle.itch_sessions.specs.Sessions.{connection_line, outcome_after};
 
-use crate::departure::{Departure, write_departure};
+use crate::outcome::{SessionOutcome, write_outcome};
 use crate::session_fault::SessionFault;
 use itch_frame::CountedWrite;
 use itch_soup::Served;
@@ -23,20 +23,20 @@ pub fn write_ending<W: CountedWrite>(
 ) -> Result<(), SessionFault>
     ensures { WritesText W.contents W.failures (connection_line number ending.now) out.old result out.new }
 {
-    write_departure(out, number, departure_after(ending))
+    write_outcome(out, number, outcome_after(ending))
 }
 
 // Returns the same as the end of any client's connection.
-fn departure_after(ending: &Ending) -> Departure
-    ensures { result ≡ departure_after ending.now }
+fn outcome_after(ending: &Ending) -> SessionOutcome
+    ensures { result ≡ outcome_after ending.now }
 {
     match ending {
-        Some(Served::Accepted { from, packets }) => Departure::Played {
+        Some(Served::Accepted { from, packets }) => SessionOutcome::Played {
             from: from.value(),
             packets: *packets,
         },
-        Some(Served::Rejected(code)) => Departure::Rejected(*code),
-        Some(Served::Left) => Departure::Left,
-        None => Departure::Fault,
+        Some(Served::Rejected(code)) => SessionOutcome::Rejected(*code),
+        Some(Served::Left) => SessionOutcome::Left,
+        None => SessionOutcome::Fault,
     }
 }

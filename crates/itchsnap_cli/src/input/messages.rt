@@ -4,7 +4,7 @@ ghost use Rattle.itchsnap_cli.specs.Tallies.{IsWholeAfter, IsAt, Reaches, Counts
 
 /// The place where a stream of blocks is cut, which is enough to find the end of its last block.
 #[derive(Clone, Copy, Debug, PartialEq, Eq)]
-pub enum Place {
+pub enum BlockPosition {
     /// Between two blocks.
     Border,
     /// After the first of two length bytes, which is this one.
@@ -13,26 +13,28 @@ pub enum Place {
     Payload(u16),
 }
 
-impl Place {
+impl BlockPosition {
     // Returns the place after one more byte.
-    fn after(self, byte: u8) -> Place
+    fn after(self, byte: u8) -> BlockPosition
         ensures { (bytes : List ℕ) → IsAt self bytes → Reaches result (bytes ++ byte ∷ []) }
     {
         match self {
-            Place::Border => Place::Length(byte),
-            Place::Length(high) => Place::in_payload(u16::from_be_bytes([high, byte])),
-            Place::Payload(count) => Place::in_payload(count.saturating_sub(1)),
+            BlockPosition::Border => BlockPosition::Length(byte),
+            BlockPosition::Length(high) => BlockPosition::in_payload(u16::from_be_bytes([
+                high, byte,
+            ])),
+            BlockPosition::Payload(count) => BlockPosition::in_payload(count.saturating_sub(1)),
         }
     }
 
     // Returns the place in a payload with this many bytes still to come.
-    fn in_payload(count: u16) -> Place
+    fn in_payload(count: u16) -> BlockPosition
         ensures { (bytes : List ℕ) → IsWholeAfter count bytes → Reaches result bytes }
     {
         if count > 0 {
-            Place::Payload(count)
+            BlockPosition::Payload(count)
         } else {
-            Place::Border
+            BlockPosition::Border
         }
     }
 }
@@ -40,7 +42,7 @@ impl Place {
 /// Counts the complete blocks of a stream.
 #[derive(Clone, Copy, Debug, PartialEq, Eq)]
 pub struct BlockCounter {
-    place: Place,
+    place: BlockPosition,
     messages: u64,
 }
 
@@ -50,7 +52,7 @@ impl BlockCounter {
         ensures { Counts result [] }
     {
         BlockCounter {
-            place: Place::Border,
+            place: BlockPosition::Border,
             messages: 0,
         }
     }
@@ -75,7 +77,7 @@ impl BlockCounter {
         ensures { CountsOn self.old (byte ∷ []) self.new }
     {
         self.place = self.place.after(byte);
-        if matches!(self.place, Place::Border) {
+        if matches!(self.place, BlockPosition::Border) {
             self.messages = self.messages.saturating_add(1);
         }
     }

@@ -142,14 +142,14 @@ fn end_line(rt: &impl Eprint, is_open: &Cell<bool>) {
 
 /// A reader of one of a command's files. It reads as its inner reader does, and counts bytes if there is a progress line.
 #[derive(Drop)]
-pub struct Watched<'a, T, R: Eprint> {
+pub struct ProgressReader<'a, T, R: Eprint> {
     inner: T,
     watch: Option<Watch<'a, R>>,
 }
 
-impl<'a, T, R: Eprint> Watched<'a, T, R> {
+impl<'a, T, R: Eprint> ProgressReader<'a, T, R> {
     /// Creates a reader at the beginning of its file.
-    pub fn new(inner: T, progress: Option<&'a ProgressLine<'a, R>>) -> Watched<'a, T, R>
+    pub fn new(inner: T, progress: Option<&'a ProgressLine<'a, R>>) -> ProgressReader<'a, T, R>
         ensures inner { result.inner ≡ inner }
         ensures off { IsNone result.watch ↔ IsNone progress.entry }
         ensures nothing { IfSome result.watch (λ watch. Counts watch.tally []) }
@@ -158,11 +158,11 @@ impl<'a, T, R: Eprint> Watched<'a, T, R> {
             progress,
             tally: BlockCounter::new(),
         });
-        Watched { inner, watch }
+        ProgressReader { inner, watch }
     }
 }
 
-impl<T: Read, R: Eprint + Clock> Read for Watched<'_, T, R> {
+impl<T: Read, R: Eprint + Clock> Read for ProgressReader<'_, T, R> {
     ghost remaining = { λ w. T.remaining w.inner };
 
     fn read(&mut self, buf: &mut [u8]) -> io::Result<usize>
@@ -176,7 +176,7 @@ impl<T: Read, R: Eprint + Clock> Read for Watched<'_, T, R> {
     }
 }
 
-impl<T, R: Eprint + Clock> Watched<'_, T, R> {
+impl<T, R: Eprint + Clock> ProgressReader<'_, T, R> {
     // Passes the bytes read to the watch.
     fn note(&mut self, piece: &[u8])
         ensures inner { self.new.inner ≡ self.old.inner }

@@ -9,11 +9,11 @@ use crate::start::Startup;
 use itch_book::OrderBook;
 use itch_codec::Alpha;
 use itch_join::Joiner;
-use itch_live::{Desk, Follower};
+use itch_live::{Follower, LiveServer};
 use itch_records::{DayBegun, DayPaths, LiveFault, RecordPlace, stem_of};
 use itch_sessions::log::Log;
 use itch_sessions::sessions::{Login, current_session};
-use itch_sessions::{Callers, Logins, Servers, SessionFault};
+use itch_sessions::{ClientPort, Logins, Servers, SessionFault};
 use std::alloc::{AllocError, Global};
 use std::fs::File;
 use std::net::Net;
@@ -45,12 +45,12 @@ where
     };
     let mut start = Startup::new(rt, log, servers, own, serving.glimpse_session, FEED)?;
     open_status(serving, &mut start)?;
-    let callers = listen(rt, &mut start, serving.address, LISTENER)?;
+    let port = listen(rt, &mut start, serving.address, LISTENER)?;
     let begun = match known {
         Some(begun) => begun,
         None => open_found(&mut start, serving, &login, paths)?,
     };
-    begin(rt.alloc(), serving, users, &login, start, callers, begun)
+    begin(rt.alloc(), serving, users, &login, start, port, begun)
 }
 
 // Waits until the session of the feed is known, with everything else opened.
@@ -60,7 +60,7 @@ fn begin<'r, 'a, R, B: OrderBook<Alloc = Global>>(
     users: Logins<'a>,
     login: &Login,
     start: Startup<'r, 'a, R>,
-    callers: Callers,
+    port: ClientPort,
     begun: OpenedDay<B>,
 ) -> Result<Server<'r, 'a, R, B>, LiveFault>
 where
@@ -76,10 +76,10 @@ where
     let mut follower = follower_of(alloc, serving, login, session, joiner)?;
     session_of(&mut start, &mut follower)?;
     let session = follower.session().unwrap_or(current_session());
-    let client_side = ServingSide::new(alloc, serving, users, callers, session)?;
+    let client_side = ServingSide::new(alloc, serving, users, port, session)?;
     let day = Day::new(files, follower.next());
-    let desk = Desk::new(alloc, follower, serving.clients)?;
-    Ok(server_of(serving, start, desk, client_side, day))
+    let live_server = LiveServer::new(alloc, follower, serving.clients)?;
+    Ok(server_of(serving, start, live_server, client_side, day))
 }
 
 /// Opens the files of a day, and reports them if each session has its own.
@@ -157,13 +157,13 @@ where
 fn server_of<'r, 'a, R: Clock, B: OrderBook>(
     serving: &'a Serving<'a>,
     start: Startup<'r, 'a, R>,
-    desk: Desk<B>,
+    live_server: LiveServer<B>,
     client_side: ServingSide<'a>,
     day: Day,
 ) -> Server<'r, 'a, R, B> {
     let Startup {
         log,
-        turns,
+        poll_loop,
         feed,
         token: _,
         spare,
@@ -173,11 +173,11 @@ fn server_of<'r, 'a, R: Clock, B: OrderBook>(
     Server {
         serving,
         log,
-        turns,
+        poll_loop,
         spare,
         status,
         feed,
-        desk,
+        live_server,
         client_side,
         paths: DayPaths::none(),
         day,

@@ -4,8 +4,8 @@ use super::{FIRST_CLIENT, Serving};
 use itch_book::OrderBook;
 use itch_clients::{Budget, Clients, Reception, SnapshotRoom};
 use itch_codec::{Alpha, Seq};
-use itch_live::Desk;
-use itch_sessions::{Callers, Logins, Spare};
+use itch_live::LiveServer;
+use itch_sessions::{ClientPort, Logins, Spare};
 use mio::Registry;
 use mio::event::Event;
 use std::alloc::{AllocError, Global};
@@ -16,7 +16,7 @@ use std::rt::Files;
 #[derive(Drop)]
 pub(super) struct ServingSide<'a> {
     pub users: Logins<'a>,
-    pub callers: Callers,
+    pub port: ClientPort,
     pub reception: Reception,
     pub clients: Clients,
     pub budget: Budget,
@@ -28,14 +28,14 @@ impl<'a> ServingSide<'a> {
         alloc: Global,
         serving: &Serving<'_>,
         users: Logins<'a>,
-        callers: Callers,
+        port: ClientPort,
         session: Alpha<10>,
     ) -> Result<ServingSide<'a>, AllocError> {
         let first_token = FIRST_CLIENT.saturating_add(serving.clients);
         let reception = Reception::new(alloc, session, Seq::new(1).unwrap(), first_token)?;
         Ok(ServingSide {
             users,
-            callers,
+            port,
             reception,
             clients: free_places(alloc, serving)?,
             budget: Budget::new(),
@@ -54,8 +54,8 @@ impl<'a> ServingSide<'a> {
     }
 
     /// Returns whether there may be bytes to read, or room to write pending ones, without waiting for another event.
-    pub(super) fn is_busy<B: OrderBook>(&self, desk: &Desk<B>) -> bool {
-        self.clients.is_busy(desk) || self.reception.is_busy()
+    pub(super) fn is_busy<B: OrderBook>(&self, live_server: &LiveServer<B>) -> bool {
+        self.clients.is_busy(live_server) || self.reception.is_busy()
     }
 
     /// Records that the socket with this number is ready. It belongs to a client if the number is below those of the reception.
@@ -76,64 +76,65 @@ impl<'a> ServingSide<'a> {
         now_ms: u64,
     ) {
         self.reception
-            .accept(rt, &mut self.callers, spare, registry, now_ms);
+            .accept(rt, &mut self.port, spare, registry, now_ms);
     }
 
     /// Passes on the bytes that have arrived, and gives places to clients that have logged in.
     pub(super) fn hear<B: OrderBook>(
         &mut self,
         registry: &Registry,
-        desk: &mut Desk<B>,
+        live_server: &mut LiveServer<B>,
         now_ms: u64,
     ) {
         self.reception
             .turn(self.users.list(), now_ms, self.clients.buffer());
         self.clients
-            .seat(&mut self.reception, registry, desk, now_ms);
-        self.clients.hear(desk, now_ms);
+            .slot(&mut self.reception, registry, live_server, now_ms);
+        self.clients.hear(live_server, now_ms);
     }
 
     /// Returns whether a snapshot may be encoded now for a waiting client. `reads` means that the feed has more bytes to read.
     pub(super) fn may_answer<B: OrderBook>(
         &mut self,
-        desk: &Desk<B>,
+        live_server: &LiveServer<B>,
         reads: bool,
         now_ms: u64,
     ) -> bool {
-        if !self.clients.somebody_waits(desk) {
+        if !self.clients.somebody_waits(live_server) {
             return false;
         }
-        let idle = !reads && !self.clients.is_telling(desk);
+        let idle = !reads && !self.clients.is_telling(live_server);
         self.budget.allows(now_ms, idle)
     }
 
     /// Records how long the snapshot took, and makes room for clients that still wait.
     pub(super) fn spend<B: OrderBook>(
         &mut self,
-        desk: &mut Desk<B>,
+        live_server: &mut LiveServer<B>,
         begun_ms: u64,
         ended_ms: u64,
         now_ms: u64,
     ) {
         self.budget.spend(begun_ms, ended_ms);
-        self.clients.make_room(&mut self.reception, desk, now_ms);
+        self.clients
+            .make_room(&mut self.reception, live_server, now_ms);
     }
 
     /// Writes pending bytes, and closes connections that have ended.
     pub(super) fn tell<B: OrderBook>(
         &mut self,
         registry: &Registry,
-        desk: &mut Desk<B>,
+        live_server: &mut LiveServer<B>,
         now_ms: u64,
     ) {
-        self.clients.tell(&mut self.reception, desk, now_ms);
+        self.clients.tell(&mut self.reception, live_server, now_ms);
         self.clients
-            .close(&mut self.reception, registry, desk, now_ms);
+            .close(&mut self.reception, registry, live_server, now_ms);
     }
 
     /// Disconnects all clients with a valid login, because their session is over.
-    pub(super) fn cut_off<B: OrderBook>(&mut self, desk: &mut Desk<B>) {
-        self.clients.cut_off(&mut self.reception, desk);
+    pub(super) fn cut_off<B: OrderBook>(&mut self, live_server: &mut LiveServer<B>) {
+        self.clients.cut_off(&mut self.reception, live_server);
         self.reception.cut_off_ready();
     }
 

@@ -7,7 +7,7 @@ use crate::opened::{OpenedDay, follower_of};
 use crate::scout::Scout;
 use itch_book::OrderBook;
 use itch_codec::Alpha;
-use itch_live::Desk;
+use itch_live::LiveServer;
 use itch_records::LiveFault;
 use itch_sessions::is_another;
 use std::alloc::Global;
@@ -66,8 +66,8 @@ where
         if scout.is_due(now_ms) {
             self.spare.release();
         }
-        let found = scout.turn(&self.turns, now_ms);
-        let present = self.desk.follower().session();
+        let found = scout.turn(&self.poll_loop, now_ms);
+        let present = self.live_server.follower().session();
         match another(found, present) {
             Some(session) => {
                 self.day.has_caught_up = true;
@@ -85,9 +85,9 @@ where
         let Some(Tomorrow { session, found_ms }) = self.day.tomorrow else {
             return Ok(());
         };
-        let now_ms = self.turns.now()?;
+        let now_ms = self.poll_loop.now()?;
         if self.client_side.has_no_client() || now_ms.saturating_sub(found_ms) >= EVENING_MS {
-            self.client_side.cut_off(&mut self.desk);
+            self.client_side.cut_off(&mut self.live_server);
             self.begin_day(session, now_ms)?;
         }
         Ok(())
@@ -111,7 +111,7 @@ where
         let login = self.feed.login();
         let follower = follower_of(alloc, self.serving, &login, Some(session), joiner)?;
         self.day = Day::new(files, follower.next());
-        self.desk = Desk::new(alloc, follower, self.serving.clients)?;
+        self.live_server = LiveServer::new(alloc, follower, self.serving.clients)?;
         self.client_side.begin_day(alloc, self.serving, session)?;
         self.feed.begin_day(now_ms);
         Ok(())

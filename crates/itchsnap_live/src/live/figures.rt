@@ -27,7 +27,7 @@ where
             return;
         };
         let rt = self.log.runtime();
-        status.hear(rt, self.turns.registry(), &mut self.spare, now_ms);
+        status.hear(rt, self.poll_loop.registry(), &mut self.spare, now_ms);
         if status.is_asked() {
             status.answer(rt, &self.figures(now_ms));
         }
@@ -43,16 +43,16 @@ where
             ..
         } = &self.client_side;
         let (opening, ready) = reception.counts();
-        let (waiting, served) = clients.counts(&self.desk);
+        let (waiting, served) = clients.counts(&self.live_server);
         let (encoded, sent) = clients.totals();
         let (saved, missed) = self.day.saved();
         Figures {
             state,
             cause,
-            session: self.desk.follower().session(),
+            session: self.live_server.follower().session(),
             server: self.feed.server_number(),
             losses: self.feed.losses(),
-            next: self.desk.follower().next(),
+            next: self.live_server.follower().next(),
             messages: self.day.tally.messages,
             minute: self.day.tally.minute_at(now_ms),
             market_ns: self.feed.market_ns(),
@@ -63,7 +63,7 @@ where
             served,
             slots: self.serving.clients as u64,
             encoded,
-            kept: self.desk.snapshot_bytes(),
+            kept: self.live_server.snapshot_bytes(),
             sent,
             recorded: self.day.record.figures(),
             saved,

@@ -23,7 +23,7 @@ where
 
     // Writes the feed's session to the record before it contains a message.
     pub(super) fn begin_record(&mut self) -> Result<(), LiveFault> {
-        let Some(session) = self.desk.follower().session() else {
+        let Some(session) = self.live_server.follower().session() else {
             return Ok(());
         };
         match self.day.record.begin(self.log.runtime(), session) {
@@ -39,7 +39,7 @@ where
     pub(super) fn replay(&mut self, now_ms: u64) -> Result<(), LiveFault> {
         let until_ms = now_ms.saturating_add(READING_MS);
         for _part in 0..u64::MAX {
-            if !self.replay_part(now_ms)? || self.turns.now()? >= until_ms {
+            if !self.replay_part(now_ms)? || self.poll_loop.now()? >= until_ms {
                 break;
             }
         }
@@ -51,16 +51,16 @@ where
         let Some(mut replay) = self.day.replay.take() else {
             return Ok(false);
         };
-        let most = next_stop(self.day.every(), replay.mark().count);
-        let is_more = replay.read_to(self.desk.follower_mut(), most)?;
-        let mark = replay.mark();
-        self.day.latest = mark.latest;
+        let most = next_stop(self.day.every(), replay.cursor().count);
+        let is_more = replay.read_to(self.live_server.follower_mut(), most)?;
+        let cursor = replay.cursor();
+        self.day.latest = cursor.latest;
         if is_more {
             self.day.replay = Some(replay);
-            self.save(mark.count.saturating_add(1), mark.offset, now_ms)?;
+            self.save(cursor.count.saturating_add(1), cursor.offset, now_ms)?;
         } else {
-            self.day.record.cut(&mut self.log, mark)?;
-            self.day.tally = FeedTally::new(self.desk.follower().next());
+            self.day.record.cut(&mut self.log, cursor)?;
+            self.day.tally = FeedTally::new(self.live_server.follower().next());
         }
         Ok(is_more)
     }
@@ -76,7 +76,7 @@ where
         }
         self.spare.release();
         let latest = self.day.latest;
-        let saved = match (&mut self.day.saver, self.desk.follower().market()) {
+        let saved = match (&mut self.day.saver, self.live_server.follower().market()) {
             (Some(saver), Some(market)) => {
                 let is_recorded = self.day.record.path().is_some();
                 let part = part_of(&self.paths, is_recorded, offset, latest);
@@ -98,12 +98,12 @@ where
             self.day.record.give_up();
             return Ok(());
         }
-        Err(loss.fault(self.desk.follower().next()))
+        Err(loss.fault(self.live_server.follower().next()))
     }
 
     // Adds details to the fault of a feed: its session, or that of the record or the snapshot, which it is not in.
     pub(super) fn explained(&self, fault: LiveFault) -> LiveFault {
-        let fault = fault.of_message(self.desk.follower().session(), self.feed.server());
+        let fault = fault.of_message(self.live_server.follower().session(), self.feed.server());
         if self.day.record.session().is_some() {
             return fault.of_record();
         }

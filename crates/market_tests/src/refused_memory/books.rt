@@ -184,7 +184,7 @@ fn a_settled_book_stays_as_it_was(rt: HostRuntime) -> TestResult {
     Ok(())
 }
 
-// Orders are sorted in place.
+// Orders are sorted in place. A book that is refused memory for its hints does without them.
 #[test]
 fn a_book_is_settled_without_memory(rt: HostRuntime) -> TestResult {
     let refusing = Refusing::new(rt.alloc(), 0);
@@ -193,7 +193,7 @@ fn a_book_is_settled_without_memory(rt: HostRuntime) -> TestResult {
     let orders = listed(&rt, &book)?;
     refusing.arm(0);
     book.settle();
-    assert!(rt; !refusing.has_refused());
+    assert!(rt; refusing.has_refused());
     assert!(rt; book.is_settled());
     has_orders(&rt, &book, &orders)?;
     Ok(())

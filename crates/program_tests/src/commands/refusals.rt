@@ -3,9 +3,10 @@
 use crate::equal::{Host, TestResult, same, same_in};
 use itch_checkpoints::Latest;
 use itch_codec::CodecFault;
-use itch_commands::snap::Mark;
+use itch_commands::snap::DayCursor;
 use itch_commands::{
-    Expected, FeedPart, Limit, Misfit, Source, ToolFault, Unmet, status, system_fault,
+    Expectations, FeedMismatch, FeedPart, Limit, Source, ToolFault, UnmetExpectation, status,
+    system_fault,
 };
 use itch_frame::FrameFault;
 use itch_market::{Refusal, ReplayEnd, Stop};
@@ -28,19 +29,19 @@ fn every_fault_has_its_line_and_status(rt: HostRuntime) -> TestResult {
     };
     let most = 9_999_999_999_999_999_999;
     let short = |file, count| ToolFault::Short { file, count };
-    let gap = |next, before| ToolFault::Misfit(Misfit::Gap { next, before });
-    let beyond = Misfit::Beyond { held: 4, wanted: 3 };
+    let gap = |next, before| ToolFault::FeedMismatch(FeedMismatch::Gap { next, before });
+    let beyond = FeedMismatch::Beyond { held: 4, wanted: 3 };
     let (file, number) = (Source::Second, 2);
     let faults = [
         stopped(Source::Only, 1, Stop::Rule(Refusal::OutOfMemory)),
         stopped(Source::First, most, Stop::TooManyMessages),
         short(Source::Only, 3),
         short(Source::Second, 0),
-        ToolFault::Unmet(Unmet::More { expected: 2 }),
-        ToolFault::Unmet(Unmet::NoEnd),
+        ToolFault::UnmetExpectation(UnmetExpectation::More { expected: 2 }),
+        ToolFault::UnmetExpectation(UnmetExpectation::NoEnd),
         gap(5, u64::MAX),
-        ToolFault::Misfit(beyond),
-        ToolFault::Misfit(Misfit::Late { number }),
+        ToolFault::FeedMismatch(beyond),
+        ToolFault::FeedMismatch(FeedMismatch::Late { number }),
         ToolFault::Write(error),
         ToolFault::OutOfMemory,
         ToolFault::Open { file, error },
@@ -76,7 +77,7 @@ fn differs(
     event: Option<u8>,
     wanted: &str,
 ) -> TestResult {
-    match (Expected { count, end }).check(found, event) {
+    match (Expectations { count, end }).check(found, event) {
         Ok(()) => same(rt, "none", wanted),
         Err(fault) => is_told(rt, &fault, wanted)?,
     }
@@ -148,24 +149,24 @@ fn a_feed_fits_to_a_snapshot_or_not(rt: HostRuntime) {
         limit: Limit::counted(Some(6)),
     };
     let cases = [
-        (1, Some(Misfit::Gap { next: 1, before: 4 })),
-        (4, Some(Misfit::Gap { next: 4, before: 4 })),
+        (1, Some(FeedMismatch::Gap { next: 1, before: 4 })),
+        (4, Some(FeedMismatch::Gap { next: 4, before: 4 })),
         (5, None),
         (7, None),
-        (8, Some(Misfit::Beyond { held: 7, wanted: 6 })),
+        (8, Some(FeedMismatch::Beyond { held: 7, wanted: 6 })),
     ];
     for (next, wanted) in cases {
-        same_in(&rt, next, part.misfit(next), wanted);
+        same_in(&rt, next, part.mismatch(next), wanted);
     }
     same(&rt, part.wanted(5).after, Some(2));
     same(&rt, part.wanted(7).after, Some(0));
-    same(&rt, FeedPart::whole().misfit(u64::MAX), None);
+    same(&rt, FeedPart::whole().mismatch(u64::MAX), None);
     same(&rt, FeedPart::whole().wanted(1), Limit::whole());
 }
 
 #[test]
 fn the_nearest_checkpoint_is_not_beyond(rt: HostRuntime) {
-    let at = |count, latest| Mark {
+    let at = |count, latest| DayCursor {
         count,
         offset: 100 * count,
         latest,
@@ -184,14 +185,14 @@ fn the_nearest_checkpoint_is_not_beyond(rt: HostRuntime) {
         (at(2, Some(6)), before(6), false),
         (at(2, None), before(0), true),
     ];
-    for (mark, limit, wanted) in cases {
-        same_in(&rt, mark, mark.is_nearer(&at(1, None), limit), wanted);
+    for (cursor, limit, wanted) in cases {
+        same_in(&rt, cursor, cursor.is_nearer(&at(1, None), limit), wanted);
     }
-    let read = |latest: Latest, limit| latest.mark(2, 200, limit);
+    let read = |latest: Latest, limit| latest.cursor(2, 200, limit);
     let known = read(Latest::Known(Some(5)), before(6));
     same(&rt, known, Some(at(2, Some(5))));
     same(&rt, read(Latest::Known(None), before(6)), Some(at(2, None)));
     same(&rt, read(Latest::Unknown, before(6)), None);
     same(&rt, read(Latest::Unknown, after(3)), Some(at(2, None)));
-    same(&rt, Mark::new().count, 0);
+    same(&rt, DayCursor::new().count, 0);
 }

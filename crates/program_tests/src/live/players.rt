@@ -2,7 +2,7 @@
 use super::messages::{CLIENT_HEARTBEAT, LOGIN, LOGIN_2, LOGIN_OTHER, LOGIN_WRONG, LOGOUT};
 use super::steps::{Standing, config, how_it_stands};
 use crate::equal::{Host, TestResult, holds_in, same_in};
-use itch_live::{Gone, Player, laws};
+use itch_live::{DisconnectCause, Player, laws};
 use std::alloc::{Allocator, Global};
 use test_doubles::Refusing;
 
@@ -153,7 +153,7 @@ const ALL: &[Turn<'static>] = &[
     Turn::TickAt(18_000),
     Turn::Stands(Standing::Closing),
     Turn::TickAt(18_001),
-    Turn::Stands(Standing::Gone(Gone::Silent)),
+    Turn::Stands(Standing::DisconnectCause(DisconnectCause::Silent)),
 ];
 
 #[test]
@@ -175,7 +175,7 @@ const FROM_3: &[Turn<'static>] = &[
     Turn::Play(b"three"),
     Turn::Pending(b"\0\x06Sthree"),
     Turn::Hear(LOGOUT),
-    Turn::Stands(Standing::Gone(Gone::Left)),
+    Turn::Stands(Standing::DisconnectCause(DisconnectCause::Left)),
     Turn::From(Some(3)),
     Turn::Pending(b""),
     Turn::End,
@@ -197,7 +197,7 @@ const FROM_4: &[Turn<'static>] = &[
     Turn::TickAt(2_002),
     Turn::Pending(b"\0\x01H"),
     Turn::Hear(LOGIN),
-    Turn::Stands(Standing::Gone(Gone::Fault)),
+    Turn::Stands(Standing::DisconnectCause(DisconnectCause::Fault)),
 ];
 
 #[test]
@@ -234,7 +234,7 @@ const OTHER: &[Turn<'static>] = &[Turn::Hear(LOGIN_OTHER), Turn::Pending(b"\0\x0
 
 const NONSENSE: &[Turn<'static>] = &[
     Turn::Hear(b"\0\x01Q"),
-    Turn::Stands(Standing::Gone(Gone::Fault)),
+    Turn::Stands(Standing::DisconnectCause(DisconnectCause::Fault)),
     Turn::Hear(LOGIN),
     Turn::Pending(b""),
     Turn::Wanted(None),
@@ -261,23 +261,23 @@ const SILENT: &[Turn<'static>] = &[
     Turn::TickAt(59_996),
     Turn::Stands(Standing::There),
     Turn::TickAt(59_997),
-    Turn::Stands(Standing::Gone(Gone::Silent)),
+    Turn::Stands(Standing::DisconnectCause(DisconnectCause::Silent)),
     Turn::Leave,
-    Turn::Stands(Standing::Gone(Gone::Silent)),
+    Turn::Stands(Standing::DisconnectCause(DisconnectCause::Silent)),
     Turn::Wanted(None),
 ];
 
 const NO_LOGIN: &[Turn<'static>] = &[
     Turn::TickAt(15_000),
-    Turn::Stands(Standing::Gone(Gone::Silent)),
+    Turn::Stands(Standing::DisconnectCause(DisconnectCause::Silent)),
 ];
 
 const LEFT: &[Turn<'static>] = &[
     Turn::Hear(LOGIN),
     Turn::Leave,
-    Turn::Stands(Standing::Gone(Gone::Left)),
+    Turn::Stands(Standing::DisconnectCause(DisconnectCause::Left)),
     Turn::TickAt(15_000),
-    Turn::Stands(Standing::Gone(Gone::Left)),
+    Turn::Stands(Standing::DisconnectCause(DisconnectCause::Left)),
     Turn::Wanted(None),
     Turn::Pending(b""),
 ];

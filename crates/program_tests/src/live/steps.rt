@@ -1,10 +1,10 @@
-//! Takes a desk through steps, each at its time.
+//! Takes a server through steps, each at its time.
 use super::messages::{ACCEPTED_1, ACCEPTED_3, FEED_FROM_1, FEED_FROM_3, LOGIN, WELCOME};
 use crate::equal::{Host, TestResult, holds_in, same_in};
 use itch_book::OrderBook;
 use itch_codec::Alpha;
 use itch_join::{JoinFault, Joiner};
-use itch_live::{Desk, Follower, Gone, News, Sessions};
+use itch_live::{DisconnectCause, Follower, LiveServer, News, Sessions};
 use itch_soup::{Credentials, ServerConfig, Tick};
 use std::alloc::AllocError;
 use std::test::Fail;
@@ -12,7 +12,7 @@ use test_doubles::FuseWriter;
 
 /// An action, or an expected result.
 #[derive(Clone, Copy)]
-pub(crate) enum DeskStep<'a> {
+pub(crate) enum LiveServerStep<'a> {
     /// Sets the time.
     At(u64),
     /// A connection to the feed begins with this login.
@@ -85,7 +85,7 @@ pub(crate) enum Standing {
     Free,
     There,
     Closing,
-    Gone(Gone),
+    DisconnectCause(DisconnectCause),
 }
 
 /// Returns the kind of a piece of news.
@@ -140,25 +140,25 @@ pub(crate) fn known(rt: &impl Host, feed: Option<&str>, glimpse: Option<&str>) -
     }
 }
 
-/// Creates a desk with two places, whose market is that of no messages, or which has none yet if it begins with a GLIMPSE server.
-pub(crate) fn desk<B: OrderBook>(
+/// Creates a server with two places, whose market is that of no messages, or which has none yet if it begins with a GLIMPSE server.
+pub(crate) fn live_server<B: OrderBook>(
     rt: &impl Host,
     memory: B::Alloc,
     glimpse: bool,
-) -> Result<Desk<B>, AllocError> {
-    desk_of(rt, memory, UNKNOWN, glimpse, 2)
+) -> Result<LiveServer<B>, AllocError> {
+    live_server_of(rt, memory, UNKNOWN, glimpse, 2)
 }
 
-/// Creates a desk with that many places, and with these sessions.
-pub(crate) fn desk_of<B: OrderBook>(
+/// Creates a server with that many places, and with these sessions.
+pub(crate) fn live_server_of<B: OrderBook>(
     rt: &impl Host,
     memory: B::Alloc,
     sessions: Sessions,
     glimpse: bool,
     places: usize,
-) -> Result<Desk<B>, AllocError> {
+) -> Result<LiveServer<B>, AllocError> {
     let follower = follower_of(rt, memory, sessions, glimpse)?;
-    Desk::new(memory, follower, places)
+    LiveServer::new(memory, follower, places)
 }
 
 /// Creates a follower of a feed with these sessions, whose market is that of no messages, or which has none yet.
@@ -177,36 +177,42 @@ pub(crate) fn follower_of<B: OrderBook>(
 }
 
 /// Returns the state of a client that has its place.
-pub(crate) fn how_it_stands(is_gone: bool, why: Option<Gone>, is_closing: bool) -> Standing {
+pub(crate) fn how_it_stands(
+    is_gone: bool,
+    why: Option<DisconnectCause>,
+    is_closing: bool,
+) -> Standing {
     match why {
-        Some(reason) if is_gone => Standing::Gone(reason),
+        Some(reason) if is_gone => Standing::DisconnectCause(reason),
         None if is_closing => Standing::Closing,
         _ => Standing::There,
     }
 }
 
-fn stands_at<B: OrderBook>(desk: &Desk<B>, place: usize) -> Standing {
-    match desk.guest(place) {
+fn stands_at<B: OrderBook>(live_server: &LiveServer<B>, place: usize) -> Standing {
+    match live_server.client(place) {
         None => Standing::Free,
-        Some(guest) => how_it_stands(guest.is_gone(), guest.why_gone(), guest.is_closing()),
+        Some(client) => how_it_stands(client.is_gone(), client.why_gone(), client.is_closing()),
     }
 }
 
-fn is_accepted_at<B: OrderBook>(desk: &Desk<B>, place: usize) -> bool {
-    desk.guest(place).is_some_and(|guest| guest.is_accepted())
+fn is_accepted_at<B: OrderBook>(live_server: &LiveServer<B>, place: usize) -> bool {
+    live_server
+        .client(place)
+        .is_some_and(|client| client.is_accepted())
 }
 
 // Returns whether the feed's session is this one.
-fn is_session<B: OrderBook>(desk: &Desk<B>, want: Option<&[u8]>) -> bool {
-    match (desk.follower().session(), want) {
+fn is_session<B: OrderBook>(live_server: &LiveServer<B>, want: Option<&[u8]>) -> bool {
+    match (live_server.follower().session(), want) {
         (Some(session), Some(want)) => &session.bytes()[..] == want,
         (None, None) => true,
         _ => false,
     }
 }
 
-fn rejection_at<B: OrderBook>(desk: &Desk<B>, place: usize) -> Option<u8> {
-    desk.guest(place)?.rejection_code()
+fn rejection_at<B: OrderBook>(live_server: &LiveServer<B>, place: usize) -> Option<u8> {
+    live_server.client(place)?.rejection_code()
 }
 
 /// The feed sends this in pieces of that many bytes. Returns the last news.
@@ -231,28 +237,38 @@ pub(crate) fn feed<B: OrderBook>(
 }
 
 // A client sends this. Returns how many bytes were taken.
-fn hear<B: OrderBook>(desk: &mut Desk<B>, place: usize, bytes: &[u8], now: u64) -> usize {
+fn hear<B: OrderBook>(
+    live_server: &mut LiveServer<B>,
+    place: usize,
+    bytes: &[u8],
+    now: u64,
+) -> usize {
     let mut from = 0usize;
     for _call in 0..bytes.len() {
         if from < bytes.len() {
-            from = from.saturating_add(desk.hear(place, &bytes[from..], now));
+            from = from.saturating_add(live_server.hear(place, &bytes[from..], now));
         }
     }
     from
 }
 
-fn take<B: OrderBook>(desk: &mut Desk<B>, place: usize, count: usize, now: u64) -> bool {
-    let fits = count <= desk.pending(place).len();
+fn take<B: OrderBook>(
+    live_server: &mut LiveServer<B>,
+    place: usize,
+    count: usize,
+    now: u64,
+) -> bool {
+    let fits = count <= live_server.pending(place).len();
     if fits {
-        desk.took(place, count, now);
+        live_server.took(place, count, now);
     }
     fits
 }
 
-// A desk sends this login to the feed, which accepts it from this message on.
+// A server sends this login to the feed, which accepts it from this message on.
 fn begin<B: OrderBook>(
     rt: &impl Host,
-    desk: &mut Desk<B>,
+    live_server: &mut LiveServer<B>,
     record: &mut FuseWriter,
     (at, now): (usize, u64),
     (login, accepted, next): (&[u8], &[u8], u64),
@@ -260,48 +276,65 @@ fn begin<B: OrderBook>(
     same_in(
         rt,
         at,
-        &desk.follower_mut().connect(credentials(rt), now)[..],
+        &live_server.follower_mut().connect(credentials(rt), now)[..],
         login,
     );
-    let news = feed(desk.follower_mut(), accepted, 7, now, record);
+    let news = feed(live_server.follower_mut(), accepted, 7, now, record);
     same_in(rt, at, news, Brought::Accepted(next));
 }
 
-/// Takes a step of a desk at this time. Returns the time afterwards.
+/// Takes a step of a server at this time. Returns the time afterwards.
 pub(crate) fn take_step<B: OrderBook>(
     rt: &impl Host,
-    desk: &mut Desk<B>,
+    live_server: &mut LiveServer<B>,
     record: &mut FuseWriter,
     (at, now): (usize, u64),
-    step: DeskStep<'_>,
+    step: LiveServerStep<'_>,
 ) -> Result<u64, Fail> {
     match step {
-        DeskStep::At(now) => return Ok(now),
-        DeskStep::Connect(login) => same_in(
+        LiveServerStep::At(now) => return Ok(now),
+        LiveServerStep::Connect(login) => same_in(
             rt,
             at,
-            &desk.follower_mut().connect(credentials(rt), now)[..],
+            &live_server.follower_mut().connect(credentials(rt), now)[..],
             login,
         ),
-        DeskStep::Begin => begin(rt, desk, record, (at, now), (FEED_FROM_1, ACCEPTED_1, 1)),
-        DeskStep::GoOn => begin(rt, desk, record, (at, now), (FEED_FROM_3, ACCEPTED_3, 3)),
-        DeskStep::Feed(bytes, want) => {
-            let brought = feed(desk.follower_mut(), bytes, 7, now, record);
+        LiveServerStep::Begin => begin(
+            rt,
+            live_server,
+            record,
+            (at, now),
+            (FEED_FROM_1, ACCEPTED_1, 1),
+        ),
+        LiveServerStep::GoOn => begin(
+            rt,
+            live_server,
+            record,
+            (at, now),
+            (FEED_FROM_3, ACCEPTED_3, 3),
+        ),
+        LiveServerStep::Feed(bytes, want) => {
+            let brought = feed(live_server.follower_mut(), bytes, 7, now, record);
             same_in(rt, at, brought, want);
         }
-        DeskStep::FeedTick(want) => same_in(rt, at, desk.follower_mut().tick(now), want),
-        DeskStep::FeedTickAt(now, want) => {
-            same_in(rt, at, desk.follower_mut().tick(now), want);
+        LiveServerStep::FeedTick(want) => same_in(
+            rt,
+            at,
+            live_server.follower_mut().tick(now),
+            want,
+        ),
+        LiveServerStep::FeedTickAt(now, want) => {
+            same_in(rt, at, live_server.follower_mut().tick(now), want);
             return Ok(now);
         }
-        DeskStep::Next(want) => same_in(rt, at, desk.follower().next(), want),
-        DeskStep::Session(want) => holds_in(rt, at, is_session(desk, want)),
-        DeskStep::Recorded(want) => same_in(rt, at, record.written(), want),
-        DeskStep::TickAt(now) => {
-            desk.tick(now);
+        LiveServerStep::Next(want) => same_in(rt, at, live_server.follower().next(), want),
+        LiveServerStep::Session(want) => holds_in(rt, at, is_session(live_server, want)),
+        LiveServerStep::Recorded(want) => same_in(rt, at, record.written(), want),
+        LiveServerStep::TickAt(now) => {
+            live_server.tick(now);
             return Ok(now);
         }
-        step => take_client_step(rt, desk, (at, now), step)?,
+        step => take_client_step(rt, live_server, (at, now), step)?,
     }
     Ok(now)
 }
@@ -309,54 +342,73 @@ pub(crate) fn take_step<B: OrderBook>(
 // Takes a step of the clients.
 fn take_client_step<B: OrderBook>(
     rt: &impl Host,
-    desk: &mut Desk<B>,
+    live_server: &mut LiveServer<B>,
     (at, now): (usize, u64),
-    step: DeskStep<'_>,
+    step: LiveServerStep<'_>,
 ) -> TestResult {
     match step {
-        DeskStep::Admit(want) => same_in(rt, at, desk.admit(config(rt), now)?, want),
-        DeskStep::Hear(place, bytes) => same_in(rt, at, hear(desk, place, bytes, now), bytes.len()),
-        DeskStep::Login(place) => {
-            same_in(rt, at, hear(desk, place, LOGIN, now), LOGIN.len());
-            holds_in(rt, at, take(desk, place, WELCOME.len(), now));
+        LiveServerStep::Admit(want) => same_in(rt, at, live_server.admit(config(rt), now)?, want),
+        LiveServerStep::Hear(place, bytes) => same_in(
+            rt,
+            at,
+            hear(live_server, place, bytes, now),
+            bytes.len(),
+        ),
+        LiveServerStep::Login(place) => {
+            same_in(rt, at, hear(live_server, place, LOGIN, now), LOGIN.len());
+            holds_in(rt, at, take(live_server, place, WELCOME.len(), now));
         }
-        DeskStep::Answer => desk.answer(u64::MAX, now)?,
-        DeskStep::AnswerWithin(limit) => desk.answer(limit, now)?,
-        DeskStep::Kept(want) => same_in(rt, at, desk.snapshot_bytes(), want),
-        DeskStep::Pending(place, want) => same_in(rt, at, desk.pending(place), want),
-        DeskStep::Take(place, count) => holds_in(rt, at, take(desk, place, count, now)),
-        DeskStep::Tick => desk.tick(now),
-        DeskStep::Stands(place, want) => same_in(rt, at, stands_at(desk, place), want),
-        DeskStep::Accepted(place, want) => same_in(rt, at, is_accepted_at(desk, place), want),
-        DeskStep::Rejected(place, want) => same_in(rt, at, rejection_at(desk, place), want),
-        DeskStep::Leave(place) => desk.leave(place),
+        LiveServerStep::Answer => live_server.answer(u64::MAX, now)?,
+        LiveServerStep::AnswerWithin(limit) => live_server.answer(limit, now)?,
+        LiveServerStep::Kept(want) => same_in(rt, at, live_server.snapshot_bytes(), want),
+        LiveServerStep::Pending(place, want) => same_in(rt, at, live_server.pending(place), want),
+        LiveServerStep::Take(place, count) => holds_in(
+            rt,
+            at,
+            take(live_server, place, count, now),
+        ),
+        LiveServerStep::Tick => live_server.tick(now),
+        LiveServerStep::Stands(place, want) => same_in(rt, at, stands_at(live_server, place), want),
+        LiveServerStep::Accepted(place, want) => same_in(
+            rt,
+            at,
+            is_accepted_at(live_server, place),
+            want,
+        ),
+        LiveServerStep::Rejected(place, want) => same_in(
+            rt,
+            at,
+            rejection_at(live_server, place),
+            want,
+        ),
+        LiveServerStep::Leave(place) => live_server.leave(place),
         _ => panic!(rt; "step {at} is not of a client"),
     }
     Ok(())
 }
 
-/// Takes a desk through these steps, from time 0 on.
+/// Takes a server through these steps, from time 0 on.
 pub(crate) fn take_steps<B: OrderBook>(
     rt: &impl Host,
-    desk: &mut Desk<B>,
+    live_server: &mut LiveServer<B>,
     record: &mut FuseWriter,
-    steps: &[DeskStep<'_>],
+    steps: &[LiveServerStep<'_>],
 ) -> TestResult {
     let mut now = 0;
     for at in 0..steps.len() {
-        now = take_step(rt, desk, record, (at, now), steps[at])?;
+        now = take_step(rt, live_server, record, (at, now), steps[at])?;
     }
     Ok(())
 }
 
-/// Takes a new desk through these steps.
+/// Takes a new server through these steps.
 pub(crate) fn check<B: OrderBook>(
     rt: &impl Host,
     memory: B::Alloc,
     glimpse: bool,
-    steps: &[DeskStep<'_>],
+    steps: &[LiveServerStep<'_>],
 ) -> TestResult {
-    let mut desk: Desk<B> = desk(rt, memory, glimpse)?;
+    let mut live_server: LiveServer<B> = live_server(rt, memory, glimpse)?;
     let mut record = FuseWriter::new(rt.alloc(), 5, None);
-    take_steps(rt, &mut desk, &mut record, steps)
+    take_steps(rt, &mut live_server, &mut record, steps)
 }

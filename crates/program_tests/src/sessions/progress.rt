@@ -1,7 +1,7 @@
 //! The bytes that pass through a reader with progress reports.
 
 use crate::equal::{TestResult, same, same_in};
-use itchsnap_cli::input::{Amount, BlockCounter, ProgressLine, Watched};
+use itchsnap_cli::input::{Amount, BlockCounter, ProgressLine, ProgressReader};
 use std::io::Read;
 use std::time::Duration;
 
@@ -19,10 +19,10 @@ fn messages_are_counted_in_pieces(rt: HostRuntime) -> TestResult {
 }
 
 #[test]
-fn a_watched_reader_reads_what_is_inside(rt: HostRuntime) -> TestResult {
+fn a_progress_reader_reads_what_is_inside(rt: HostRuntime) -> TestResult {
     let stream = [0, 1, 9, 0];
     let progress = ProgressLine::begin(&rt);
-    let mut reader = Watched::new(&stream[..], progress.as_ref());
+    let mut reader = ProgressReader::new(&stream[..], progress.as_ref());
     let mut bytes = [0; 3];
     assert!(rt; matches!(reader.read(&mut bytes), Ok(3)));
     assert!(rt; bytes == [0, 1, 9]);

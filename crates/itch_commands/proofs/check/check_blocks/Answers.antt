@@ -6,7 +6,7 @@ use Rattle.itch_commands.specs.Expectations.{Meets}
 use Rattle.itch_commands.specs.Forms.{count_line, count_line_of}
 use Rattle.itch_commands.specs.Readings.{ReadsDay}
 use Rattle.itch_commands.proofs.DayReadings.{read_done, day_done, day_fails}
-use Rattle.itch_commands.proofs.Expectations.{same_unmet}
+use Rattle.itch_commands.proofs.MetExpectations.{same_unmet}
 use Rattle.itch_commands.proofs.Outputs.{read_writes}
 use Rattle.itch_commands.proofs.check.check_blocks.Goals as goal
 

@@ -12,8 +12,8 @@ returns-in_err-write_info g c =
     let p = err_from_is_err_and c.from_residual.result c.from_residual.ensures.1 in
     let (payloads, read, tally) = c.read_tally-read.ensures in
     let now = c.read_tally-read.new.tally in
-    let whole = subst (λ b. IsTally payloads now.mark now.sink.market now.sink.tally b now.sink.events.events.items) c.if-not-tally.false tally in
-    let text = told_text c.args.form payloads now.mark now.sink.market now.sink.tally now.sink.events.events.items whole in
+    let whole = subst (λ b. IsTally payloads now.cursor now.sink.market now.sink.tally b now.sink.events.events.items) c.if-not-tally.false tally in
+    let text = told_text c.args.form payloads now.cursor now.sink.market now.sink.tally now.sink.events.events.items whole in
     rw (p.1, p.2) (inr (
       payloads,
       fault_of c.read_tally-read.result,
@@ -27,8 +27,8 @@ pub returns-in-Ok : goal.returns-in-Ok
 returns-in-Ok g c =
     let (payloads, read, tally) = c.read_tally-read.ensures in
     let now = c.read_tally-read.new.tally in
-    let whole = subst (λ b. IsTally payloads now.mark now.sink.market now.sink.tally b now.sink.events.events.items) c.if-not-tally.false tally in
-    let text = told_text c.args.form payloads now.mark now.sink.market now.sink.tally now.sink.events.events.items whole in
+    let whole = subst (λ b. IsTally payloads now.cursor now.sink.market now.sink.tally b now.sink.events.events.items) c.if-not-tally.false tally in
+    let text = told_text c.args.form payloads now.cursor now.sink.market now.sink.tally now.sink.events.events.items whole in
     inr (
       payloads,
       None,
@@ -42,8 +42,8 @@ pub returns : goal.returns
 returns g c =
     let (payloads, read, tally) = c.read_tally-read.ensures in
     let now = c.read_tally-read.new.tally in
-    let whole = subst (λ b. IsTally payloads now.mark now.sink.market now.sink.tally b now.sink.events.events.items) c.if-not-tally.false tally in
-    let text = told_text c.args.form payloads now.mark now.sink.market now.sink.tally now.sink.events.events.items whole in
+    let whole = subst (λ b. IsTally payloads now.cursor now.sink.market now.sink.tally b now.sink.events.events.items) c.if-not-tally.false tally in
+    let text = told_text c.args.form payloads now.cursor now.sink.market now.sink.tally now.sink.events.events.items whole in
     inr (
       payloads,
       Some c.in-Err.fault,

@@ -1,6 +1,6 @@
 use Rattle.std.proofs.Common.{refl, sym}
 use Rattle.itch_market.specs.Content.{Content}
-use Rattle.itch_commands.specs.Sought.{Names}
+use Rattle.itch_commands.specs.Lookup.{Names}
 use Rattle.itch_commands.proofs.StockNames.{names_are, one_of_none, others_of_none}
 use Rattle.itch_commands.proofs.stocks.pass_locate.Goals as goal
 

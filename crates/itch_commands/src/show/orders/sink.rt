@@ -3,7 +3,7 @@ ghost use Rattle.std.specs.Prelude.{◌≡◌};
 ghost use Rattle.itch_commands.specs.Choices.{Chosen};
 ghost use Rattle.itch_commands.specs.OrdersBehind.{chosen_behind, line_behind};
 ghost use Rattle.itch_commands.specs.ListedOrders.{WritesLine};
-ghost use Rattle.itch_commands.specs.Sought.{are_found};
+ghost use Rattle.itch_commands.specs.Lookup.{are_found};
 
 use super::behind::Behind;
 use super::lines::write_order;

@@ -9,8 +9,8 @@ use Rattle.itch_depth.proofs.at.list_at.Goals as goal
 pub returns-in_err-read_until-clause-lists : goal.returns-in_err-read_until-clause-lists
 returns-in_err-read_until-clause-lists g c =
     let p = err_from_is_err_and c.from_residual.result c.from_residual.ensures.1 in
-    rw (p.1, p.2) (λ first before stop marked stands at to.
-    let read = c.in_err-read_until.ensures.reads first before stop marked stands at to in (
+    rw (p.1, p.2) (λ first before stop tracked stands at to.
+    let read = c.in_err-read_until.ensures.reads first before stop tracked stands at to in (
       read.0,
       refused_on g.R.CountedRead.remaining g.R.CountedRead.failures g.W.CountedWrite.contents g.W.CountedWrite.failures c.args.request (option_copied c.args.only) first c.args.time
           c.read_until.new.self.reader read.0 c.args.out.now _ read.1,
@@ -18,8 +18,8 @@ returns-in_err-read_until-clause-lists g c =
     ))
 
 pub returns-clause-lists : goal.returns-clause-lists
-returns-clause-lists g c = λ first before stop marked stands at to.
-    let read = c.in_ok-read_until.ensures.reads first before stop marked stands at to in (
+returns-clause-lists g c = λ first before stop tracked stands at to.
+    let read = c.in_ok-read_until.ensures.reads first before stop tracked stands at to in (
       read.0,
       listed_on g.R.CountedRead.remaining g.R.CountedRead.failures g.W.CountedWrite.contents g.W.CountedWrite.failures c.args.request (option_copied c.args.only) first c.args.time
           c.read_until.new.self.reader read.0 c.args.out.now c.list.new.out c.list.result _ read.1

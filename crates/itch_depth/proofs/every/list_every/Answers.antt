@@ -1,7 +1,7 @@
 use Rattle.std.proofs.Common.{◌≡◌, ◌<◌, ◌+◌, ◌-◌, ◌*◌, ◌/◌, ℕ, Ok, true, arith, refl, inr, sym, subst, ◌∙◌}
 use Rattle.std.proofs.lemmas.Result.{err_from_is_err_and}
 use Rattle.std.specs.Option.{option_copied}
-use Rattle.itch_day.specs.declared.marked.Marked.{Marked}
+use Rattle.itch_day.specs.declared.tracked.Tracked.{Tracked}
 use Rattle.itch_market.specs.Content.{Content}
 use Rattle.itch_commands.specs.Points.{up_to}
 use Rattle.itch_depth.specs.Series.{IsAt, ReadsTime, latest}
@@ -130,8 +130,8 @@ returns g c = λ first began stands at.
     let last = latest / c.args.step in
     let here = now.invariant.every.turn first began stands at in
     let end = c.loop-multiple-test in
-    let ended : (multiple : ℕ) × (marked : Marked Content) × InMultiples remaining failed contents failed_writes c.args.request (option_copied c.args.only) first c.args.step
-    multiple 0 c.args.out.now end.out end.pass.reader marked × IsAt marked end.pass.markets.market end.pass.count = elim c.loop-multiple-test.branch [
+    let ended : (multiple : ℕ) × (tracked : Tracked Content) × InMultiples remaining failed contents failed_writes c.args.request (option_copied c.args.only) first c.args.step
+    multiple 0 c.args.out.now end.out end.pass.reader tracked × IsAt tracked end.pass.markets.market end.pass.count = elim c.loop-multiple-test.branch [
       | else-loop-multiple-test w ↦ rw (w.pass-is, w.out-is) (
         now.multiple,
         here.0,

@@ -9,5 +9,5 @@ capped limit used more within some = grind arith
 pub returns : goal.returns
 returns g c =
     c.fits.ensures ∙ ap (λ n. fits c.args.limit n c.longest_snapshot.result) c.snapshot_bytes.ensures
-    ∙ ap (λ n. fits c.args.limit (min (snapshot_bytes c.args.seats.now) (2 ^ 64 - 1)) n) c.longest_snapshot.ensures
-    ∙ capped c.args.limit (snapshot_bytes c.args.seats.now) (most_bytes_of c.args.market.now) (omega arith) (omega arith)
+    ∙ ap (λ n. fits c.args.limit (min (snapshot_bytes c.args.slots.now) (2 ^ 64 - 1)) n) c.longest_snapshot.ensures
+    ∙ capped c.args.limit (snapshot_bytes c.args.slots.now) (most_bytes_of c.args.market.now) (omega arith) (omega arith)

@@ -3,46 +3,46 @@ use Rattle.std.specs.List.{sum_by}
 use Rattle.std.proofs.lemmas.List.{drop_all}
 use Rattle.std.proofs.lemmas.List.Sums.{sum_by-cons}
 use Rattle.std.proofs.Math.Seq.{drop-cons}
-use Rattle.itch_live.specs.Guests.{Guest}
-use Rattle.itch_live.specs.Seats.{Seats}
+use Rattle.itch_live.specs.SnapshotClients.{SnapshotClient}
+use Rattle.itch_live.specs.Slots.{Slots}
 use Rattle.itch_live.specs.Kept.{number_of, keeps_alone, number_alone, with_number, kept, kept_bytes, length_or, bytes_under, snapshot_bytes}
 use Rattle.itch_live.proofs.kept.snapshot_bytes.Goals as goal
 
-all_rest : (seats : Seats) (i : ℕ) → take (length seats - i) (drop i seats) ≡ drop i seats
-all_rest seats i = take_all (length seats - i) (drop i seats) (omega (arith, length-drop i seats))
+all_rest : (slots : Slots) (i : ℕ) → take (length slots - i) (drop i slots) ≡ drop i slots
+all_rest slots i = take_all (length slots - i) (drop i slots) (omega (arith, length-drop i slots))
 
-abbrev bytes_in : Seats → List ℕ → ℕ
-bytes_in seats numbers = sum_by (λ number. length_or (kept_bytes seats number)) numbers
+abbrev bytes_in : Slots → List ℕ → ℕ
+bytes_in slots numbers = sum_by (λ number. length_or (kept_bytes slots number)) numbers
 
-with_bytes : (seats : Seats) (o : Option ℕ) (b : Bool) (numbers : List ℕ)
-    → bytes_in seats (if b then with_number o numbers else numbers) ≡ bytes_under seats (if b then o else None) + bytes_in seats numbers
-with_bytes seats None true numbers = omega arith
-with_bytes seats (Some n) true numbers = sum_by-cons (λ number. length_or (kept_bytes seats number)) n numbers
-with_bytes seats o false numbers = omega arith
+with_bytes : (slots : Slots) (o : Option ℕ) (b : Bool) (numbers : List ℕ)
+    → bytes_in slots (if b then with_number o numbers else numbers) ≡ bytes_under slots (if b then o else None) + bytes_in slots numbers
+with_bytes slots None true numbers = omega arith
+with_bytes slots (Some n) true numbers = sum_by-cons (λ number. length_or (kept_bytes slots number)) n numbers
+with_bytes slots o false numbers = omega arith
 
 -- capping a part of the sum does not change the capped sum
 capped : (a b rest most : ℕ) → min (min (a + b) most + rest) most ≡ min (a + (b + rest)) most
 capped a b rest most = omega arith
 
-summed : (seats : Seats) (place total now : ℕ) (seat : Option Guest) → place < length seats → seat ≡ get_or seats place seat
-    → now ≡ min (total + bytes_under seats (number_alone (number_of seat) (drop (place + 1) seats))) (2 ^ 64 - 1)
-    → min (total + bytes_in seats (kept (drop place seats))) (2 ^ 64 - 1) ≡ min (snapshot_bytes seats) (2 ^ 64 - 1)
-    → min (now + bytes_in seats (kept (drop (place + 1) seats))) (2 ^ 64 - 1) ≡ min (snapshot_bytes seats) (2 ^ 64 - 1)
-summed seats place total now seat inside is next sum =
-    let rest = drop (place + 1) seats in
-    let split : drop place seats ≡ seat ∷ rest =
-    drop-cons seats place seat inside ∙ ap (λ x. x ∷ drop (suc place) seats) (sym is) ∙ ap (λ n. seat ∷ drop n seats) (sym (add-one place)) in
-    let own = bytes_under seats (number_alone (number_of seat) rest) in
-    let more : bytes_in seats (kept (drop place seats)) ≡ own + bytes_in seats (kept rest) =
-    ap (λ s. bytes_in seats (kept s)) split ∙ with_bytes seats (number_of seat) (keeps_alone (number_of seat) rest) (kept rest) in
-    ap (λ n. min (n + bytes_in seats (kept rest)) (2 ^ 64 - 1)) next ∙ capped total own (bytes_in seats (kept rest)) (2 ^ 64 - 1)
+summed : (slots : Slots) (place total now : ℕ) (slot : Option SnapshotClient) → place < length slots → slot ≡ get_or slots place slot
+    → now ≡ min (total + bytes_under slots (number_alone (number_of slot) (drop (place + 1) slots))) (2 ^ 64 - 1)
+    → min (total + bytes_in slots (kept (drop place slots))) (2 ^ 64 - 1) ≡ min (snapshot_bytes slots) (2 ^ 64 - 1)
+    → min (now + bytes_in slots (kept (drop (place + 1) slots))) (2 ^ 64 - 1) ≡ min (snapshot_bytes slots) (2 ^ 64 - 1)
+summed slots place total now slot inside is next sum =
+    let rest = drop (place + 1) slots in
+    let split : drop place slots ≡ slot ∷ rest =
+    drop-cons slots place slot inside ∙ ap (λ x. x ∷ drop (suc place) slots) (sym is) ∙ ap (λ n. slot ∷ drop n slots) (sym (add-one place)) in
+    let own = bytes_under slots (number_alone (number_of slot) rest) in
+    let more : bytes_in slots (kept (drop place slots)) ≡ own + bytes_in slots (kept rest) =
+    ap (λ s. bytes_in slots (kept s)) split ∙ with_bytes slots (number_of slot) (keeps_alone (number_of slot) rest) (kept rest) in
+    ap (λ n. min (n + bytes_in slots (kept rest)) (2 ^ 64 - 1)) next ∙ capped total own (bytes_in slots (kept rest)) (2 ^ 64 - 1)
     ∙ ap (λ n. min (total + n) (2 ^ 64 - 1)) (sym more) ∙ sum
 
-whole : (seats : Seats) (place total : ℕ) → length seats ≤ place → total ≤ 2 ^ 64 - 1
-    → min (total + bytes_in seats (kept (drop place seats))) (2 ^ 64 - 1) ≡ min (snapshot_bytes seats) (2 ^ 64 - 1) → total ≡ min (snapshot_bytes seats) (2 ^ 64 - 1)
-whole seats place total all fits sum =
-    let none : bytes_in seats (kept (drop place seats)) ≡ 0 = ap (λ s. bytes_in seats (kept s)) (drop_all place seats all) in
-    let alone : min (total + bytes_in seats (kept (drop place seats))) (2 ^ 64 - 1) ≡ total = omega (arith, none, fits) in
+whole : (slots : Slots) (place total : ℕ) → length slots ≤ place → total ≤ 2 ^ 64 - 1
+    → min (total + bytes_in slots (kept (drop place slots))) (2 ^ 64 - 1) ≡ min (snapshot_bytes slots) (2 ^ 64 - 1) → total ≡ min (snapshot_bytes slots) (2 ^ 64 - 1)
+whole slots place total all fits sum =
+    let none : bytes_in slots (kept (drop place slots)) ≡ 0 = ap (λ s. bytes_in slots (kept s)) (drop_all place slots all) in
+    let alone : min (total + bytes_in slots (kept (drop place slots))) (2 ^ 64 - 1) ≡ total = omega (arith, none, fits) in
     sym alone ∙ sum
 
 capped_low : (now n : ℕ) → now ≡ min n (2 ^ 64 - 1) → now ≤ 2 ^ 64 - 1
@@ -50,17 +50,17 @@ capped_low now n is = omega (arith, is)
 
 pub loop-place-preserved : goal.loop-place-preserved
 loop-place-preserved g c =
-    let more : c.saturating_add-total.result ≡ min (c.loop-place.total + bytes_under c.args.seats.now (number_alone (number_of c.index-seats-place.result) (drop (c.loop-place.place + 1) c.args.seats.now))) (2 ^ 64 - 1) =
+    let more : c.saturating_add-total.result ≡ min (c.loop-place.total + bytes_under c.args.slots.now (number_alone (number_of c.index-slots-place.result) (drop (c.loop-place.place + 1) c.args.slots.now))) (2 ^ 64 - 1) =
     c.saturating_add-total.ensures
     ∙ ap (λ n. min (c.loop-place.total + n) (2 ^ 64 - 1))
     (c.bytes_under.ensures
-    ∙ ap (bytes_under c.args.seats.now) (c.number_alone-number.ensures ∙ ap (number_alone (number_of c.index-seats-place.result)) (all_rest c.args.seats.now (c.loop-place.place + 1)))) in (
-      summed c.args.seats.now c.loop-place.place c.loop-place.total c.saturating_add-total.result c.index-seats-place.result c.loop-place-test.true c.index-seats-place.is more
+    ∙ ap (bytes_under c.args.slots.now) (c.number_alone-number.ensures ∙ ap (number_alone (number_of c.index-slots-place.result)) (all_rest c.args.slots.now (c.loop-place.place + 1)))) in (
+      summed c.args.slots.now c.loop-place.place c.loop-place.total c.saturating_add-total.result c.index-slots-place.result c.loop-place-test.true c.index-slots-place.is more
           c.loop-place.invariant.0,
       capped_low c.saturating_add-total.result
-          (c.loop-place.total + bytes_under c.args.seats.now (number_alone (number_of c.index-seats-place.result) (drop (c.loop-place.place + 1) c.args.seats.now))) more,
+          (c.loop-place.total + bytes_under c.args.slots.now (number_alone (number_of c.index-slots-place.result) (drop (c.loop-place.place + 1) c.args.slots.now))) more,
     )
 
 pub returns : goal.returns
 returns g c =
-    whole c.args.seats.now c.loop-place.place c.loop-place.total (omega (arith, c.loop-place-test.false)) c.loop-place.invariant.1 c.loop-place.invariant.0
+    whole c.args.slots.now c.loop-place.place c.loop-place.total (omega (arith, c.loop-place-test.false)) c.loop-place.invariant.1 c.loop-place.invariant.0

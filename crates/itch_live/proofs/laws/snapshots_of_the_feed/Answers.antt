@@ -2,9 +2,9 @@ use Rattle.std.proofs.Common.{subst}
 use Rattle.itch_market.specs.Wanted.{has}
 use Rattle.itch_join.specs.Rules.{Rules}
 use Rattle.itch_join.proofs.SkippedMessages.{all_rules}
-use Rattle.itch_live.specs.Desks.{sent_at}
-use Rattle.itch_live.specs.FeedDesks.{AreHonest, IsSentOfFeed}
-use Rattle.itch_live.proofs.FeedDesks.{sent_of_feed}
+use Rattle.itch_live.specs.LiveServers.{sent_at}
+use Rattle.itch_live.specs.FeedServers.{AreHonest, IsSentOfFeed}
+use Rattle.itch_live.proofs.FeedServers.{sent_of_feed}
 use Rattle.itch_live.proofs.laws.snapshots_of_the_feed.Goals as goal
 
 pub returns-clause-only : goal.returns-clause-only

@@ -1,6 +1,6 @@
 use Rattle.std.proofs.Common.{None}
-use Rattle.itch_day.proofs.Marks.{in_part}
-use Rattle.itch_day.specs.Marks.{is_before, is_in, is_within}
+use Rattle.itch_day.proofs.DayCursors.{in_part}
+use Rattle.itch_day.specs.DayCursors.{is_before, is_in, is_within}
 use Rattle.itch_commands.specs.Starts.{is_beyond}
 use Rattle.itch_offsets.proofs.Beginnings.{and_first, and_second, begins, most}
 use Rattle.itch_offsets.proofs.laws.chosen_rows.Goals as goal
@@ -12,7 +12,7 @@ pub returns-clause-most : goal.returns-clause-most
 returns-clause-most c = λ range rows. most range None rows
 
 pub returns-clause-early : goal.returns-clause-early
-returns-clause-early c = λ range mark payloads is may.
-    let both = and_second (is_beyond range.start mark) (is_in range.limit mark) may in
-    in_part range.limit mark payloads is (and_first (is_within range.limit.after mark.count) (is_before range.limit.until mark.latest) both)
-    (and_second (is_within range.limit.after mark.count) (is_before range.limit.until mark.latest) both)
+returns-clause-early c = λ range cursor payloads is may.
+    let both = and_second (is_beyond range.start cursor) (is_in range.limit cursor) may in
+    in_part range.limit cursor payloads is (and_first (is_within range.limit.after cursor.count) (is_before range.limit.until cursor.latest) both)
+    (and_second (is_within range.limit.after cursor.count) (is_before range.limit.until cursor.latest) both)

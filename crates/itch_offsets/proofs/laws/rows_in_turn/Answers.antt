@@ -1,13 +1,13 @@
-use Rattle.itch_day.proofs.Marks.{is_mark}
-use Rattle.itch_day.specs.Marks.{first_mark}
-use Rattle.itch_offsets.proofs.Entries.{are_listed, entries_append, entries_messages, mark_append}
+use Rattle.itch_day.proofs.DayCursors.{is_cursor}
+use Rattle.itch_day.specs.DayCursors.{first_cursor}
+use Rattle.itch_offsets.proofs.Entries.{are_listed, entries_append, entries_messages, cursor_append}
 use Rattle.itch_offsets.proofs.laws.rows_in_turn.Goals as goal
 
 pub returns-clause-first : goal.returns-clause-first
-returns-clause-first c = is_mark
+returns-clause-first c = is_cursor
 
-pub returns-clause-mark : goal.returns-clause-mark
-returns-clause-mark c = mark_append first_mark
+pub returns-clause-cursor : goal.returns-clause-cursor
+returns-clause-cursor c = cursor_append first_cursor
 
 pub returns-clause-kept : goal.returns-clause-kept
 returns-clause-kept c = entries_append

@@ -26,6 +26,11 @@ write_places-requires-clause-known g c =
     sorted_known c.self.inside.places c.self.inside.orders.items c.deref.result.now c.self.invariant
     (subst (IsPermutation c.self.inside.orders.items) (sym c.deref.ensures.value) c.sort.ensures.moved)
 
+pub write-requires : goal.write-requires
+write-requires g c =
+    sorted_few c.self.inside.places c.self.inside.orders.items c.deref-2.result.now c.self.invariant
+    (subst (IsPermutation c.self.inside.orders.items) (sym c.deref-2.ensures.value) c.sort.ensures.moved)
+
 pub invariant_of-self : goal.invariant_of-self
 invariant_of-self g c = record {
   placed = subst (λ (ys : List Arrived). IsPlaced (at c.write_places.new.places) (references_of ys)) c.deref.ensures.value c.write_places.ensures;

@@ -1,5 +1,5 @@
 use Rattle.std.proofs.Common.{◌≡◌, Bool, List, ap, ◌∙◌}
-use Rattle.itch_day.specs.Marks.{RefusesMarked}
+use Rattle.itch_day.specs.DayCursors.{RefusesTracked}
 use Rattle.itch_day.proofs.PassedBlocks.{stop_held}
 use Rattle.itch_market.specs.Content.{Content}
 use Rattle.itch_commands.specs.FirstDifferences.{over}
@@ -18,7 +18,7 @@ pass_stop-requires g c =
     let complete : T → Bool = λ s. s.events.is_complete in
     let events : T → List Event = λ s. s.events.events.items in
     let reads = c.read_part-stop.ensures.reads in
-    stop_held g.R.CountedRead.remaining (RefusesMarked (RefusesTallied market tally complete events)) c.args.limit c.read_part-stop.new.reader c.read_part-stop.new.count reads.last c.read_part-stop.new.sink
+    stop_held g.R.CountedRead.remaining (RefusesTracked (RefusesTallied market tally complete events)) c.args.limit c.read_part-stop.new.reader c.read_part-stop.new.count reads.last c.read_part-stop.new.sink
     c.read_part-stop.result reads.stops
 
 pub returns : goal.returns
@@ -35,7 +35,7 @@ returns g c =
       reads.payloads,
       rw c.pass_stop.ensures
           (read_before market tally complete events remaining failures c.args.limit c.args.reader.now c.read_part-stop.new.reader c.read_part-stop.new.count c.read_part-stop.ensures.few c.args.tally.now c.read_part-stop.new.sink
-          c.read_part-stop.result reads given.mark given.market c.ended.result (c.ended.ensures ∙ ap (λ stop. over stop c.args.limit Only c.read_part-stop.new.count) c.reason_of.ensures)),
+          c.read_part-stop.result reads given.cursor given.market c.ended.result (c.ended.ensures ∙ ap (λ stop. over stop c.args.limit Only c.read_part-stop.new.count) c.reason_of.ensures)),
       is_tally market tally complete events remaining failures c.args.limit c.args.reader.now c.read_part-stop.new.reader c.read_part-stop.new.count c.read_part-stop.ensures.few c.args.tally.now c.read_part-stop.new.sink
-          c.read_part-stop.result reads given.mark given.market given.tally given.complete given.events,
+          c.read_part-stop.result reads given.cursor given.market given.tally given.complete given.events,
     )

@@ -5,7 +5,7 @@ use Rattle.itch_day.specs.Parts.{ReadsPart}
 use Rattle.itch_day.proofs.PassedBlocks.{stop_held}
 use Rattle.itch_join.specs.Positions.{Position}
 use Rattle.itch_join.specs.Takings.{MayTake, RefusesNumbered, TakesNumbered, position_of}
-use Rattle.itch_commands.specs.FeedParts.{misfit_of, of_day, part_of}
+use Rattle.itch_commands.specs.FeedParts.{mismatch_of, of_day, part_of}
 use Rattle.itch_commands.proofs.FeedReadings.{feed_ends, feed_late}
 use Rattle.itch_commands.proofs.JoinedStocks.{number_there}
 use Rattle.itch_commands.proofs.join.feed.read_feed.Goals as goal
@@ -21,7 +21,7 @@ returns-in-Late g c =
     let first = c.args.joiner.now in
     let start = Position.next (position_of first.state) in
     let next = number_there first.state c.next.result c.unwrap-next.result c.requires.joined c.next.ensures c.unwrap-next.ensures in
-    let fits : misfit_of part start ≡ None = ap (misfit_of part) (sym next) ∙ sym c.misfit.ensures ∙ c.in_default.is in
+    let fits : mismatch_of part start ≡ None = ap (mismatch_of part) (sym next) ∙ sym c.mismatch.ensures ∙ c.in_default.is in
     let limit : c.of_day-limit.result ≡ of_day part.before (part_of part start) = c.of_day-limit.ensures ∙ ap (of_day part.before) (c.wanted.ensures ∙ ap (part_of part) next) in
     let reads =
     subst (λ (l : DayLimit). ReadsPart g.R.CountedRead.remaining g.R.CountedRead.failures TakesNumbered RefusesNumbered l c.args.reader.now c.read_part-stop.new.reader part.before c.read_part-stop.new.count first Late c.read_part-stop.new.sink)
@@ -39,7 +39,7 @@ returns-in_default-stop g c =
     let start = Position.next (position_of first.state) in
     let why = c.read_part-stop.result in
     let next = number_there first.state c.next.result c.unwrap-next.result c.requires.joined c.next.ensures c.unwrap-next.ensures in
-    let fits : misfit_of part start ≡ None = ap (misfit_of part) (sym next) ∙ sym c.misfit.ensures ∙ c.in_default.is in
+    let fits : mismatch_of part start ≡ None = ap (mismatch_of part) (sym next) ∙ sym c.mismatch.ensures ∙ c.in_default.is in
     let limit : c.of_day-limit.result ≡ of_day part.before (part_of part start) = c.of_day-limit.ensures ∙ ap (of_day part.before) (c.wanted.ensures ∙ ap (part_of part) next) in
     let reads =
     subst (λ (l : DayLimit). ReadsPart g.R.CountedRead.remaining g.R.CountedRead.failures TakesNumbered RefusesNumbered l c.args.reader.now c.read_part-stop.new.reader part.before c.read_part-stop.new.count first why c.read_part-stop.new.sink)

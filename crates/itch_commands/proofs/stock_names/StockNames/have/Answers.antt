@@ -1,5 +1,5 @@
 use Rattle.std.proofs.Common.{ap, ◌∙◌}
-use Rattle.itch_commands.specs.Sought.{Names, is_one_of}
+use Rattle.itch_commands.specs.Lookup.{Names, is_one_of}
 use Rattle.itch_commands.proofs.StockNames.{one_of_names}
 use Rattle.itch_commands.proofs.stock_names.StockNames.have.Goals as goal
 

@@ -1,7 +1,7 @@
 use Rattle.std.proofs.Common.{ℕ, List, ap, map, length, bytes_eq, ◌∙◌, ◌==◌, sym}
 use Rattle.std.specs.List.{list_all}
 use Rattle.std.specs.HashMap.{get_by}
-use Rattle.itch_commands.specs.Sought.{Names, has_come}
+use Rattle.itch_commands.specs.Lookup.{Names, has_come}
 use Rattle.itch_commands.proofs.StockNames.{all_in, none_left}
 use Rattle.itch_commands.proofs.stock_names.StockNames.have_all_come.Goals as goal
 

@@ -2,7 +2,7 @@ use Rattle.std.proofs.Common.{◌≡◌, true, false, Some, is_some, refl, ap, m
 use Rattle.std.specs.List.{list_any}
 use Rattle.std.specs.HashMap.{get_by}
 use Rattle.std.proofs.lemmas.Map.Text.{hash_map_updates_str}
-use Rattle.itch_commands.specs.Sought.{Names, has_come, is_one_of}
+use Rattle.itch_commands.specs.Lookup.{Names, has_come, is_one_of}
 use Rattle.itch_commands.proofs.StockNames.{names_are, marked_on, missing_on_mark, missing_same, one_of_names}
 use Rattle.itch_commands.proofs.stock_names.StockNames.pass.Goals as goal
 

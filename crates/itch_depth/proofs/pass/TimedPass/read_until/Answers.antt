@@ -6,14 +6,14 @@ use Rattle.itch_depth.proofs.TimedParts.{apart_ended, refused_ends}
 use Rattle.itch_depth.proofs.pass.TimedPass.read_until.Goals as goal
 
 pub returns-in-None-clause-reads : goal.returns-in-None-clause-reads
-returns-in-None-clause-reads g c = λ first before stop marked stands at to.
-    let (why, reason, (now, there, same)) = c.read_on.ensures.reads first before stop marked stands at to in
+returns-in-None-clause-reads g c = λ first before stop tracked stands at to.
+    let (why, reason, (now, there, same)) = c.read_on.ensures.reads first before stop tracked stands at to in
     let new = c.read_on.new.self in
     (now, late_there g.R.CountedRead.remaining g.R.CountedRead.failures c.args.time first new.reader now (omega (arith, new.few, same.counted)) why there (reason ∙ c.in-None.is), same)
 
 pub returns-in-Ok-clause-reads : goal.returns-in-Ok-clause-reads
-returns-in-Ok-clause-reads g c = λ first before stop marked stands at to.
-    let (why, reason, (now, there, same)) = c.read_on.ensures.reads first before stop marked stands at to in
+returns-in-Ok-clause-reads g c = λ first before stop tracked stands at to.
+    let (why, reason, (now, there, same)) = c.read_on.ensures.reads first before stop tracked stands at to in
     let new = c.read_on.new.self in (
       now,
       ended_there g.R.CountedRead.remaining g.R.CountedRead.failures c.args.time first new.reader now (omega (arith, new.few, same.counted)) why there c.in-Some.stop (reason ∙ c.in-Some.is) new.count (sym same.counted)
@@ -28,8 +28,8 @@ returns-in-Ok-clause-apart g c =
     apart_ended _ c.in-Some.stop new.count (Ok c.in-Ok._count) (sym c.in-Ok.is ∙ c.ended.ensures) apart
 
 pub returns-in-Err-clause-reads : goal.returns-in-Err-clause-reads
-returns-in-Err-clause-reads g c = λ first before stop marked stands at to.
-    let (why, reason, (now, there, same)) = c.read_on.ensures.reads first before stop marked stands at to in
+returns-in-Err-clause-reads g c = λ first before stop tracked stands at to.
+    let (why, reason, (now, there, same)) = c.read_on.ensures.reads first before stop tracked stands at to in
     let new = c.read_on.new.self in (
       now,
       refused_there g.R.CountedRead.remaining g.R.CountedRead.failures c.args.time first new.reader now (omega (arith, new.few, same.counted)) why there c.in-Some.stop (reason ∙ c.in-Some.is) new.count (sym same.counted)

@@ -4,7 +4,7 @@ use Rattle.itch_frame.specs.Cuts.{IsTake}
 use Rattle.itch_soup.specs.declared.packet.LoginRequest.{LoginRequest}
 use Rattle.itch_soup.specs.declared.server.ServerAct.{ServerAct}
 use Rattle.itch_soup.specs.Servers.{Server}
-use Rattle.itch_live.specs.Guests.{Judges}
+use Rattle.itch_live.specs.SnapshotClients.{Judges}
 use Rattle.itch_live.specs.Players.{Player, is_deaf, after_act, Hears}
 use Rattle.itch_live.proofs.player.Player.hear.Goals as goal
 

@@ -7,7 +7,7 @@ invariant_of-self g c =
     let old = c.args.self.now in
     let new = c.read_part-stop.new in
     let reads = rw (c.clear.ensures, c.row_part-part.ensures) at c.read_part-stop.ensures.reads in
-    let counted = row_counted g.R.CountedRead.remaining g.R.CountedRead.failures c.args.limit old.reader new.reader old.marked.mark new.count c.read_part-stop.result new.sink reads in
+    let counted = row_counted g.R.CountedRead.remaining g.R.CountedRead.failures c.args.limit old.reader new.reader old.tracked.cursor new.count c.read_part-stop.result new.sink reads in
     record { few = omega (arith, c.read_part-stop.ensures.few, counted) }
 
 pub returns : goal.returns
@@ -15,4 +15,4 @@ returns g c =
     let old = c.args.self.now in
     let new = c.read_part-stop.new in
     let reads = rw (c.clear.ensures, c.row_part-part.ensures) at c.read_part-stop.ensures.reads in
-    row_read g.R.CountedRead.remaining g.R.CountedRead.failures c.args.limit old.reader new.reader old.marked.mark new.count c.read_part-stop.result new.sink reads c.answer.result c.answer.ensures
+    row_read g.R.CountedRead.remaining g.R.CountedRead.failures c.args.limit old.reader new.reader old.tracked.cursor new.count c.read_part-stop.result new.sink reads c.answer.result c.answer.ensures

@@ -1,5 +1,5 @@
 use Rattle.std.proofs.Common.{◌≡◌, refl}
-use Rattle.itchsnap_cli.specs.declared.input.messages.Place.TheVariants.{Border}
+use Rattle.itchsnap_cli.specs.declared.input.messages.BlockPosition.TheVariants.{Border}
 use Rattle.itchsnap_cli.proofs.Tallying.{one_on}
 use Rattle.itchsnap_cli.proofs.input.messages.BlockCounter.step.Goals as goal
 use Rattle.itchsnap_cli.proofs.input.messages.BlockCounter.step.Goals.{in-Border, in_default}

@@ -1,0 +1,10 @@
+use Rattle.itch_commands.proofs.dispatch.join_selected.Goals as goal
+
+pub returns-in-Stocks : goal.returns-in-Stocks
+returns-in-Stocks g c = rw c.in-Stocks.is c.join_stocks.ensures
+
+pub returns-in-All : goal.returns-in-All
+returns-in-All g c = rw c.in-All.is c.join_blocks.ensures
+
+pub returns-in-Locates : goal.returns-in-Locates
+returns-in-Locates g c = rw c.in-Locates.is c.join_blocks-in-Locates.ensures

@@ -1,6 +1,0 @@
-use Rattle.std.proofs.Common.{◌≡◌, drop}
-use Rattle.itch_live.specs.Kept.{kept_bytes}
-use Rattle.itch_live.proofs.kept.kept_shot.Given as goal
-
-abbrev pub invariant-loop-place : goal.invariant-loop-place
-invariant-loop-place g l = kept_bytes l.seats l.number ≡ kept_bytes (drop l.place l.seats) l.number
