@@ -95,15 +95,46 @@ def a_source_outside_crates_fails_both():
             yield from differs(f"test {words}", (status, lines.count(refused), lines[-1]), (1, 1, f"{passed} passed, 1 failed"))
 
 
-def a_program_that_was_not_built_is_not_run():
-    with stubs(lambda _: PASSED, *GATE) as top, tempfile.TemporaryDirectory() as folder:
-        rt = Path(folder) / "rt"
-        rt.write_text("#!/bin/sh\necho '0 passed, 1 failed'\nexit 1\n")
-        rt.chmod(0o755)
-        status, said = ran(top / "test", PATH=f"{folder}:{os.environ['PATH']}")
-        wanted = ["test: the program was not built, so nothing runs it", "0 skipped", "7 passed, 1 failed"]
-        yield from differs("the gate", (status, said.splitlines()[-3:], "program/run" in said), (1, wanted, False))
+def gate_over(rt, said=lambda _: PASSED):
+    """Runs the gate of stubs over a stand-in for `rt`. Returns its status and its output."""
+    with stubs(said, *GATE) as top, tempfile.TemporaryDirectory() as folder:
+        command = Path(folder) / "rt"
+        command.write_text(f"#!/bin/sh\n{rt}\n")
+        command.chmod(0o755)
+        return ran(top / "test", PATH=f"{folder}:{os.environ['PATH']}")
+
+
+NOT_BUILT = "test: the program was not built, so the released one is compared with nothing"
+# Stand-ins for `rt ci`: one that builds the program when the last part has run beside it, and one that proves a crate but builds nothing.
+BUILDS = """echo '== itch_frame'
+for _ in $(seq 300); do [ -e ended ] || sleep 0.1; done
+[ -e ended ] || exit 1
+mkdir -p crates/itch_tool/out
+cp test crates/itch_tool/out/itch_tool
+echo '1 passed, 0 failed'"""
+PROVES_ONE = "echo '== itch_frame'\necho '1 passed, 1 failed'\nexit 1"
+
+
+def a_program_that_was_not_built_is_not_compared():
+    status, said = gate_over("echo '0 passed, 1 failed'\nexit 1")
+    wanted = (1, [NOT_BUILT, "0 skipped", "7 passed, 1 failed"], False)
+    yield from differs("nothing is proved", (status, said.splitlines()[-3:], "program/run" in said), wanted)
+    status, said = gate_over(PROVES_ONE)
+    yield from differs("a crate is proved", (status, said.splitlines()[-3:]), (1, [NOT_BUILT, "0 skipped", "18 passed, 1 failed"]))
+
+
+def the_released_program_runs_beside_the_proofs():
+    """What the runs leave out, and their failures, are counted once."""
+    says = {"scale/run": f"echo 'skipped: a run: no dog here'\n{PASSED}", "packages/run": f"touch ended\n{PASSED}",
+            "python/run": "echo '1 passed, 1 failed'\nexit 1"}
+    status, said = gate_over(BUILDS, lambda part: says.get(part, PASSED))
+    wanted = ["1 skipped", "  tests/scale/run: a run: no dog here", "19 passed, 1 failed"]
+    yield from differs("the gate", (status, said.splitlines()[-3:]), (1, wanted))
+    says["python/run"] = PASSED
+    status, said = gate_over(BUILDS, lambda part: says.get(part, PASSED))
+    yield from differs("without a failure", (status, said.splitlines()[-1]), (0, "20 passed, 0 failed"))
 
 
 RUNS = [a_missing_tool_is_named_in_one_line, a_bare_debian_is_told_what_to_do, a_large_package_that_cannot_be_had_is_no_failure,
-        what_is_left_out_is_counted, a_source_outside_crates_fails_both, a_program_that_was_not_built_is_not_run]
+        what_is_left_out_is_counted, a_source_outside_crates_fails_both, a_program_that_was_not_built_is_not_compared,
+        the_released_program_runs_beside_the_proofs]
