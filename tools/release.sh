@@ -9,29 +9,35 @@ built=$top/crates/itch_tool/out/itch_tool
 # length.
 unreleased="not a released build"
 
-# Sets `crates` to a crate and its dependencies in this repository, lowest first, in the order of crates.txt.
+# Sets `crates` to a crate and its dependencies in this repository, lowest first, in the order of crates.txt, and `crate_lines` to their
+# lines there.
 find_crates() {
     local lines at line name it
     local -A needed=(["$1"]=yes)
     mapfile -t lines <"$top/crates.txt"
     crates=()
+    crate_lines=()
     for ((at = ${#lines[@]} - 1; at >= 0; at--)); do
         line=${lines[at]%%#*}
         name=${line%%[: ]*}
         if [ -n "$name" ] && [ -n "${needed[$name]}" ]; then
             crates=("$name" "${crates[@]}")
+            crate_lines=("$line" "${crate_lines[@]}")
             for it in ${line#*:}; do needed[$it]=yes; done
         fi
     done
 }
 
-# Prints the hash of everything that a crate is built from, by name and content: crates.txt, the .rt and .antt files of its crates,
-# and any further files given.
+# Prints the hash of everything that a crate is built from, by name and content: the lines of its crates in crates.txt, their .rt and
+# .antt files, and any further files given.
 source_hash() {
-    local crates hash
+    local crates crate_lines hash
     find_crates "$1"
-    hash=$(cd "$top" && { printf '%s\0' crates.txt "${@:2}"; find "${crates[@]/#/crates/}" -name out -prune -o -type f \
-        \( -name '*.rt' -o -name '*.antt' \) -print0; } | LC_ALL=C sort -z | xargs -0 sha256sum | sha256sum)
+    hash=$(cd "$top" && {
+        printf '%s\n' "${crate_lines[@]}"
+        printf '%s\0' "${crates[@]/#/crates/}" "${@:2}" | xargs -0 -I {} find {} -name out -prune -o -type f \
+            \( -name '*.rt' -o -name '*.antt' -o -path 'c/*' \) -print0 | LC_ALL=C sort -z | xargs -0 sha256sum
+    } | sha256sum)
     echo "${hash%% *}"
 }
 
@@ -74,7 +80,7 @@ runs_here() {
 
 # Whether a file is missing, or older than a source of a crate or of its dependencies.
 is_stale() {
-    local crates
+    local crates crate_lines
     find_crates "$2"
     [ ! -e "$1" ] || [ -n "$(cd "$top" && find crates.txt "${crates[@]/#/crates/}" -name out -prune -o -type f \
         \( -name '*.rt' -o -name '*.antt' -o -name crates.txt \) -newer "$1" -print -quit)" ]

@@ -148,6 +148,18 @@ def a_changed_source_needs_the_toolchain(_program):
         copy.change()
         yield from differs("no toolchain", copy.start("check"), (1, "", needed))
         yield from differs("install", copy.start(copy.folder / "prefix", script="install"), (1, "", needed))
+    with checkout() as copy:
+        crates = (copy.top / "crates.txt").read_text()
+        (copy.top / "crates.txt").write_text(crates.replace("itch_frame:", "itch_frame: hex", 1))
+        yield from differs("a dependency", copy.start("check"), (1, "", needed))
+
+
+def a_change_that_the_program_is_not_built_from_needs_nothing(_program):
+    with checkout() as copy:
+        for changed, more in ("crates.txt", "# the last tests\nlast_tests: itch_frame\n"), ("crates/format_tests/src/lib.rt", "\n"):
+            with open(copy.top / changed, "a") as file:
+                file.write(more)
+            yield from differs(changed, copy.start("check", copy.top / "examples/opening.itch"), (0, "ok 5 messages\n", ""))
 
 
 def a_changed_source_is_proved_and_built(_program):
@@ -305,6 +317,7 @@ RUNS = [
     a_checkout_may_be_read_only,
     the_released_version_has_the_records_hash,
     a_changed_source_needs_the_toolchain,
+    a_change_that_the_program_is_not_built_from_needs_nothing,
     a_changed_source_is_proved_and_built,
     a_changed_definition_is_proved_and_built,
     a_release_that_is_not_proved_is_not_made,

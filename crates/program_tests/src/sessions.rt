@@ -2,7 +2,6 @@
 
 mod examples;
 mod failing_devices;
-mod progress;
 
 use crate::equal::{Host, TestResult, holds_in, same, same_in};
 use itch_frame::FrameFault;

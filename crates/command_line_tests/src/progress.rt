@@ -6,6 +6,15 @@ use std::io::Read;
 use std::time::Duration;
 
 #[test]
+fn whole_messages_are_counted(rt: HostRuntime) -> TestResult {
+    let mut tally = BlockCounter::new();
+    tally.pass(b"\0\x02hi\0\x02");
+    tally.pass(b"ho");
+    assert_eq!(rt; tally.messages(), 2);
+    Ok(())
+}
+
+#[test]
 fn messages_are_counted_in_pieces(rt: HostRuntime) -> TestResult {
     let stream = [0, 2, 7, 7, 0, 0, 0, 1, 9, 1, 0];
     for length in 1..stream.len() {
