@@ -106,13 +106,14 @@ def gate_over(rt, said=lambda _: PASSED):
 
 NOT_BUILT = "test: the program was not built, so the released one is compared with nothing"
 # Stand-ins for `rt ci`: one that builds the program when the last part has run beside it, and one that proves a crate but builds nothing.
-BUILDS = """echo '== itch_frame'
+BUILDS = """echo 'rt: itch_frame {}'
 for _ in $(seq 300); do [ -e ended ] || sleep 0.1; done
 [ -e ended ] || exit 1
 mkdir -p crates/itch_tool/out
 cp test crates/itch_tool/out/itch_tool
 echo '1 passed, 0 failed'"""
-PROVES_ONE = "echo '== itch_frame'\necho '1 passed, 1 failed'\nexit 1"
+IS_KEPT = "is kept: an earlier run on this machine proved the same files over the same libraries"
+PROVES_ONE = "echo 'rt: itch_frame proved'\necho '1 passed, 1 failed'\nexit 1"
 
 
 def a_program_that_was_not_built_is_not_compared():
@@ -127,11 +128,11 @@ def the_released_program_runs_beside_the_proofs():
     """What the runs leave out, and their failures, are counted once."""
     says = {"scale/run": f"echo 'skipped: a run: no dog here'\n{PASSED}", "packages/run": f"touch ended\n{PASSED}",
             "python/run": "echo '1 passed, 1 failed'\nexit 1"}
-    status, said = gate_over(BUILDS, lambda part: says.get(part, PASSED))
+    status, said = gate_over(BUILDS.format("proved"), lambda part: says.get(part, PASSED))
     wanted = ["1 skipped", "  tests/scale/run: a run: no dog here", "19 passed, 1 failed"]
     yield from differs("the gate", (status, said.splitlines()[-3:]), (1, wanted))
     says["python/run"] = PASSED
-    status, said = gate_over(BUILDS, lambda part: says.get(part, PASSED))
+    status, said = gate_over(BUILDS.format(IS_KEPT), lambda part: says.get(part, PASSED))
     yield from differs("without a failure", (status, said.splitlines()[-1]), (0, "20 passed, 0 failed"))
 
 
