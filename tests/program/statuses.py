@@ -106,6 +106,8 @@ def causes_of_a_lost_feed(program):
             waits_for(lambda: figures(server)["feed_losses_total"] > losses)
             with Feed(plays(day, wait=threading.Event()), port=feed.port):
                 waits_for(lambda: figures(server)["feed_state"] == "following")
+                # (the figures may come before the line)
+                waits_for(lambda: any("accepted" in it for it in server.lines[4:]))
                 lines = server.lines[2:]
         if form == "plain":
             yield from differs(form, lines, plain)
