@@ -395,11 +395,10 @@ def a_client_that_resets_its_connection_is_a_fault(program):
         yield from differs("feed", server.ended()[:2], (0, lines.encode()))
 
 
-def a_server_that_was_stopped_keeps_its_feed(program):
-    """Data that the feed sent meanwhile is read first."""
-    day, _ = day_of(10)
+def lines_of_a_stopped_server(program):
+    """Returns the status and the lines of a server that was stopped for longer than the silence that loses a feed."""
     end = threading.Event()
-    with Feed(plays(day, wait=end, held=ENDED)) as feed, live(program, feed.port) as server:
+    with Feed(plays(day_of(10)[0], wait=end, held=ENDED)) as feed, live(program, feed.port) as server:
         server.said("feed: accepted")
         time.sleep(1)
         server.process.send_signal(signal.SIGSTOP)
@@ -408,7 +407,17 @@ def a_server_that_was_stopped_keeps_its_feed(program):
         time.sleep(1)
         end.set()
         status, _, lines = server.ended()
-    yield from differs("ended", (status, lines), (0, ["feed: accepted from 1\n", f"feed: ended at {len(split(day)) + 1}\n"]))
+    return status, lines
+
+
+def a_server_that_was_stopped_keeps_its_feed(program):
+    """Data that the feed sent meanwhile is read first. Only a server that was stopped between its wait and its look at the clock, which is rare,
+    connects again."""
+    wanted = (0, ["feed: accepted from 1\n", f"feed: ended at {len(split(day_of(10)[0])) + 1}\n"])
+    got = lines_of_a_stopped_server(program)
+    if got != wanted:
+        got = lines_of_a_stopped_server(program)
+    yield from differs("ended", got, wanted)
 
 
 def one_place_is_given_to_one_client_at_a_time(program):
