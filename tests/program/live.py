@@ -411,8 +411,8 @@ def lines_of_a_stopped_server(program):
 
 
 def a_server_that_was_stopped_keeps_its_feed(program):
-    """Data that the feed sent meanwhile is read first. Only a server that was stopped between its wait and its look at the clock, which is rare,
-    connects again."""
+    """Data that the feed sent meanwhile is read first, unless the server was stopped between its last look at the sockets and that at the clock: it
+    then connects again. That is rare, so a second try decides."""
     wanted = (0, ["feed: accepted from 1\n", f"feed: ended at {len(split(day_of(10)[0])) + 1}\n"])
     got = lines_of_a_stopped_server(program)
     if got != wanted:
